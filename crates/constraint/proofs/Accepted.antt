@@ -1,19 +1,8 @@
 -- The rows' questions are put row by row, so their answer goes by the first row's answer and that of the others.
-use Prim.Native.Nat.{ℕ, zero, suc, _+_, _≤_, _<_}
-use mathlib.Core.Path.{_≡_, refl, ap, subst}
-use mathlib.Core.List.{List, [], _∷_, _++_}
-use native.Mathlib.Omega.{arith}
-use mathlib.Core.Option.{some}
-use lib.ListN.{length, drop, getElem?}
-use lib.Seq.{drop-cons}
-use Rattle.constraint.specs.Limits.{rowLimit}
-use Rattle.constraint.specs.Questions.{Question, Judged}
-use Rattle.constraint.specs.Accepted.{rowQuestionsIn, rowsQuestions, AcceptedIn}
-use Rattle.constraint.specs.Records.{filler}
-use Rattle.constraint.specs.declared.Answer.{Answer}
-use Rattle.constraint.specs.declared.Answer.the-variants.{Taken, Refused}
-use Rattle.constraint.specs.declared.Constraint.{Constraint}
-use Rattle.constraint.proofs.Judged.{never, judged-none, judged-yes, judged-no, judged-all, judged-parts, judged-later, judged-first}
+use Rattle.constraint.proofs.Names.{AcceptedIn, Answer, Constraint, Judged, List, Question, Refused, Taken, [], _++_, _+_, _<_, _∷_, _≡_, _≤_}
+use Rattle.constraint.proofs.Names.{ap, arith, drop, drop-cons, filler, getElem?, length, refl, rowLimit, rowQuestionsIn, rowsQuestions, some}
+use Rattle.constraint.proofs.Names.{subst, suc, zero, ℕ}
+use Rattle.constraint.proofs.Judged.{judged-all, judged-first, judged-later, judged-no, judged-none, judged-parts, judged-yes, never}
 
 module _ (edition : ℕ) where
   -- the row's questions, and then those of the rows after it
@@ -42,8 +31,7 @@ module _ (edition : ℕ) where
       → rowsQuestions edition i rows after ≡ rowsQuestions edition i rows [] ++ after
   unfolding rowsQuestions
   rows-then i [] after = refl
-  rows-then i (c ∷ rows) after =
-      ap (λ (later : List Question). (3, i < rowLimit) ∷ rowQuestionsIn edition c ++ later) (rows-then (i + 1) rows after)
+  rows-then i (c ∷ rows) after = ap (λ (later : List Question). (3, i < rowLimit) ∷ rowQuestionsIn edition c ++ later) (rows-then (i + 1) rows after)
 
   -- accepted rows are at most 32
   pub rows-room : (i : ℕ) (rows : List Constraint) → i ≤ rowLimit → Judged (rowsQuestions edition i rows []) Taken → i + length rows ≤ rowLimit

@@ -1,29 +1,14 @@
 -- What colours leave as it was, for tables and events of plain kinds: their questions have the answers that they had, and a row of any type but 9
 -- is open just where it was over continuations of kinds 0 to 63, since of any continuation the row's own events alone will do.
-use Prim.Native.Nat.{ℕ, _≤_, _<_}
-use native.Mathlib.Omega.{arith}
-use mathlib.Core.Path.{_≡_, refl, sym, ap, _∙_}
-use mathlib.Core.Bool.{true, false, cond}
-use mathlib.Core.List.{List, [], _∷_, _++_}
-use mathlib.Core.Logic.{_↔_}
-use lib.ListN.{length}
-use Rattle.constraint.specs.Limits.{lastKind, firstColoured, lastTime, lastCount}
-use Rattle.constraint.specs.Steps.{Step, event, tick, close, at, times, among, own, clockFrom, clock, closed}
-use Rattle.constraint.specs.Meets.{Meets}
-use Rattle.constraint.specs.Continuation.{EventInOrder, Continues, stop, more, Open}
-use Rattle.constraint.specs.Questions.{Question, Judged}
-use Rattle.constraint.specs.Types.{kind, coloured, count, span, Field, byte, time, typeOf, fieldsOf}
-use Rattle.constraint.specs.Accepted.{kinds, KindsFit, SortsFit, KindsSuit, InRange, LowerFirst, rowQuestions}
-use Rattle.constraint.proofs.Streams.{streamsIn, streams, among-where}
-use Rattle.constraint.specs.Run.{Room, questions}
-use Rattle.constraint.specs.declared.Answer.{Answer}
-use Rattle.constraint.specs.declared.Call.{Call}
-use Rattle.constraint.specs.declared.Constraint.{Constraint}
-use Rattle.constraint.proofs.Lists.{split, both, Each, each-none, each-cons}
-use Rattle.constraint.proofs.Types.{Uncoloured, regular}
-use Rattle.constraint.proofs.Judged.{skipped, put-in}
-use Rattle.constraint.proofs.History.{times-append, times-other, own-append, clock-append, clock-event, closed-event}
-use Rattle.constraint.proofs.Continuations.{meets-same}
+use Rattle.constraint.proofs.Names.{Answer, Call, Constraint, Continues, EventInOrder, Field, InRange, Judged, KindsFit, KindsSuit, List}
+use Rattle.constraint.proofs.Names.{LowerFirst, Meets, Open, Question, Room, SortsFit, Step, [], _++_, _<_, _↔_, _∙_, _∷_, _≡_, _≤_, among, ap}
+use Rattle.constraint.proofs.Names.{arith, at, byte, clock, clockFrom, close, closed, coloured, cond, count, event, false, fieldsOf}
+use Rattle.constraint.proofs.Names.{firstColoured, kind, kinds, lastCount, lastKind, lastTime, length, more, own, questions, refl}
+use Rattle.constraint.proofs.Names.{rowQuestions, span, stop, sym, tick, time, times, true, typeOf, ℕ}
+use Rattle.constraint.proofs.History.{clock-append, clock-event, closed-event, own-append, times-append, times-other}
+use Rattle.constraint.proofs.Lists.{Each, both, each-cons, each-none, split}
+use Rattle.constraint.proofs.Streams.{among-where, streams, streamsIn}
+use Rattle.constraint.proofs.{Continuations.meets-same, Judged.put-in, Judged.skipped, Types.Uncoloured, Types.regular}
 
 -- ---- questions
 

@@ -1,22 +1,12 @@
 -- What is true of continuations for every row type: a row's definition looks only at its own events and the clock, what is met at a clock is met at
 -- every earlier one, and what may still follow after a step might have followed before it, so a row that is open after a step was open before it.
-use Prim.Native.Nat.{ℕ, _≤_, _<_}
-use native.Mathlib.Omega.{arith}
-use mathlib.Core.Path.{_≡_, refl, sym, ap, _∙_, subst}
-use mathlib.Core.Bool.{true, false, cond}
-use mathlib.Core.List.{List, [], _∷_, _++_, map, append-nil, append-assoc}
-use lib.Dec.{eqb}
-use borrow.Author.Tests.{eq-eqb, ne-eqb}
-use Rattle.constraint.specs.Limits.{streamCount}
-use Rattle.constraint.proofs.Streams.{streams}
-use Rattle.constraint.specs.Steps.{Step, event, tick, close, times, own, clockFrom, clock, closed}
-use Rattle.constraint.specs.Meets.{Meets}
-use Rattle.constraint.specs.Continuation.{EventInOrder, Continues, stop, more, Open}
-use Rattle.constraint.specs.declared.Constraint.{Constraint}
-use Rattle.constraint.proofs.Lists.{split, Each, each-none, each-cons, Rising, rising-right, rising-across}
-use Rattle.constraint.proofs.History.{times-append, times-own, times-tick, own-append, own-tick, own-close, clock-append, clock-later}
-use Rattle.constraint.proofs.History.{clock-event, clock-tick, clock-close, closed-event, closed-tick, closed-close, Accepts}
-use Rattle.constraint.proofs.Types.{lawful}
+use Rattle.constraint.proofs.Names.{Constraint, Continues, EventInOrder, List, Meets, Open, Step, [], _++_, _<_, _∙_, _∷_, _≡_, _≤_, ap}
+use Rattle.constraint.proofs.Names.{append-assoc, append-nil, arith, clock, clockFrom, close, closed, cond, eq-eqb, eqb, event, false, map}
+use Rattle.constraint.proofs.Names.{more, ne-eqb, own, refl, stop, streamCount, subst, sym, tick, times, true, ℕ}
+use Rattle.constraint.proofs.History.{Accepts, clock-append, clock-close, clock-event, clock-later, clock-tick, closed-close, closed-event}
+use Rattle.constraint.proofs.History.{closed-tick, own-append, own-close, own-tick, times-append, times-own, times-tick}
+use Rattle.constraint.proofs.Lists.{Each, Rising, each-cons, each-none, rising-across, rising-right, split}
+use Rattle.constraint.proofs.{Streams.streams, Types.lawful}
 unfoldable pub use Rattle.constraint.proofs.Lawful.{timesIn}
 pub use Rattle.constraint.proofs.Lawful.{own-times, SameTimes, same-times, of-colour, not-later-earlier}
 

@@ -1,9 +1,6 @@
 -- The first time still free of a stream is one more than its last: every earlier one is below it, as its times rise.
-use Prim.Native.Nat.{ℕ, suc, _≤_, _<_, max}
-use native.Mathlib.Omega.{arith}
-use mathlib.Core.Path.{_≡_}
-use mathlib.Core.List.{List, [], _∷_, _++_}
-use Rattle.constraint.proofs.Lists.{Each, each-none, each-cons, each-tail}
+use Rattle.constraint.proofs.Names.{List, [], _++_, _<_, _∷_, _≡_, _≤_, arith, max, suc, ℕ}
+use Rattle.constraint.proofs.Lists.{Each, each-cons, each-none, each-tail}
 
 -- one more than the last of a rising list of times
 unfoldable pub nextFree : List ℕ → ℕ
@@ -13,8 +10,7 @@ nextFree (t ∷ ts) = max (suc t) (nextFree ts)
 pub next-above : (ts : List ℕ) → Each (λ s. s < nextFree ts) ts
 unfolding nextFree
 next-above [] = each-none (λ s. s < 0)
-next-above (t ∷ ts) =
-    each-cons (λ s. s < max (suc t) (nextFree ts)) t ts (omega arith) (λ i h. omega (arith, next-above ts i h))
+next-above (t ∷ ts) = each-cons (λ s. s < max (suc t) (nextFree ts)) t ts (omega arith) (λ i h. omega (arith, next-above ts i h))
 
 pub next-least : (ts : List ℕ) (x : ℕ) → Each (λ s. s < x) ts → nextFree ts ≤ x
 unfolding nextFree

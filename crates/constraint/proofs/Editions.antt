@@ -1,20 +1,9 @@
 -- What the second edition leaves as it was: a table of the first is read as before by a call that takes both, and its rows are accepted in the
 -- second too, since that has all types of the first.
-use Prim.Native.Nat.{ℕ, _+_, _≤_, _<_}
-use native.Mathlib.Omega.{arith}
-use mathlib.Core.Path.{_≡_}
-use mathlib.Core.List.{List, [], _∷_}
-use mathlib.Core.Logic.{_↔_}
-use Rattle.constraint.specs.Limits.{rowLimit}
-use Rattle.constraint.specs.Steps.{at}
-use Rattle.constraint.specs.Questions.{Judged}
-use Rattle.constraint.specs.Types.{typeOf, lastType}
-use Rattle.constraint.specs.Accepted.{rowQuestions, rowsQuestions, AcceptedIn}
-use Rattle.constraint.specs.Table.{TableRead, VersionUpTo, ReadsTableUpTo, version-refused, version-taken, ReadsTable}
-use Rattle.constraint.specs.declared.Answer.the-variants.{Taken}
-use Rattle.constraint.specs.declared.Constraint.{Constraint}
-use Rattle.constraint.proofs.Judged.{judged-yes, judged-all, judged-parts}
-use Rattle.constraint.proofs.Accepted.{rows-taken}
+use Rattle.constraint.proofs.Names.{AcceptedIn, Constraint, Judged, List, ReadsTable, ReadsTableUpTo, TableRead, Taken, VersionUpTo, [], _+_}
+use Rattle.constraint.proofs.Names.{_<_, _↔_, _∷_, _≡_, _≤_, arith, at, lastType, rowLimit, rowQuestions, rowsQuestions, typeOf}
+use Rattle.constraint.proofs.Names.{version-refused, version-taken, ℕ}
+use Rattle.constraint.proofs.{Accepted.rows-taken, Judged.judged-all, Judged.judged-parts, Judged.judged-yes}
 
 -- ---- bytes
 

@@ -1,27 +1,11 @@
 -- A row's fields are asked one by one: what is asked of those from a place on is asked of the one at that place and of those behind it.
-use Prim.Native.Nat.{ℕ, _+_, _≤_, _<_}
-use native.Mathlib.Numerals.{add-one}
-use native.Mathlib.Omega.{arith}
-use mathlib.Core.Path.{_≡_, refl, sym, ap, subst, subst⁻¹, _∙_}
-use mathlib.Core.Bool.{Bool, true, false, cond}
-use mathlib.Core.List.{List, [], _∷_, _++_, append-nil}
-use mathlib.Core.Logic.{_≢_, ⊎-elim}
-use borrow.Author.Tests.{eqb-true, ne-eqb}
-use lib.Dec.{leb, eqb}
-use lib.ListN.{length, drop, drop-of-length-le}
-use lib.Seq.{drop-cons}
-use Rattle.constraint.specs.Limits.{lastTime}
-use Rattle.constraint.specs.Steps.{at}
-use Rattle.constraint.specs.Questions.{Judged}
-use Rattle.constraint.specs.Records.{Decides, isKind, plainRole, byteField, timeField, fieldAt, fieldsAs, bytesFrom, timesFrom, HoldsRow}
-use Rattle.constraint.specs.Types.{kind, coloured, count, span, TimeRole, plain, lower, upper, upper-or-none, Field, byte, time}
-use Rattle.constraint.specs.Accepted.{kindsIn, kinds, KindsFit, SortsFit, KindsSuit, FieldsInRange, InRange, NotBelow, LowerFirst, rowQuestions}
-use Rattle.constraint.specs.declared.Answer.{Answer}
-use Rattle.constraint.specs.declared.Answer.the-variants.{Refused}
-use Rattle.constraint.specs.declared.Constraint.{Constraint}
-use Rattle.constraint.specs.declared.fields.Fields.{Fields}
-use Rattle.constraint.proofs.Lists.{split, both, or-true}
-use Rattle.constraint.proofs.Judged.{same-test, test-le, judged-yes, judged-no}
+use Rattle.constraint.proofs.Names.{Answer, Bool, Constraint, Decides, Field, Fields, FieldsInRange, HoldsRow, InRange, Judged, KindsFit}
+use Rattle.constraint.proofs.Names.{KindsSuit, List, LowerFirst, NotBelow, Refused, SortsFit, TimeRole, [], _++_, _+_, _<_, _∙_, _∷_, _≡_, _≢_}
+use Rattle.constraint.proofs.Names.{_≤_, add-one, ap, append-nil, arith, at, byte, byteField, bytesFrom, coloured, cond, count, drop}
+use Rattle.constraint.proofs.Names.{drop-cons, drop-of-length-le, eqb, eqb-true, false, fieldAt, fieldsAs, isKind, kind, kinds, kindsIn}
+use Rattle.constraint.proofs.Names.{lastTime, leb, length, lower, ne-eqb, plain, plainRole, refl, rowQuestions, span, subst, subst⁻¹, sym}
+use Rattle.constraint.proofs.Names.{time, timeField, timesFrom, true, upper, upper-or-none, ℕ, ⊎-elim}
+use Rattle.constraint.proofs.{Judged.judged-no, Judged.judged-yes, Judged.same-test, Judged.test-le, Lists.both, Lists.or-true, Lists.split}
 
 -- Places
 
@@ -66,8 +50,7 @@ module _ (roles values : List ℕ) (i : ℕ) (h : i < length roles) (k : i < len
   pub kind-here : isKind (at roles i) ≡ true → kindsIn (bytesFrom roles values i) ≡ at values i ∷ kindsIn (bytesFrom roles values (i + 1))
   kind-here is =
       ⊎-elim (λ e. rw (fields-next byteField roles values i h k, eqb-true (at roles i) 255 e))
-      (λ e. rw (fields-next byteField roles values i h k, eqb-true (at roles i) 253 e))
-      (or-true (eqb (at roles i) 255) (eqb (at roles i) 253) is)
+      (λ e. rw (fields-next byteField roles values i h k, eqb-true (at roles i) 253 e)) (or-true (eqb (at roles i) 255) (eqb (at roles i) 253) is)
 
   pub kind-elsewhere : isKind (at roles i) ≡ false → kindsIn (bytesFrom roles values i) ≡ kindsIn (bytesFrom roles values (i + 1))
   kind-elsewhere is =

@@ -1,13 +1,5 @@
 -- Kinds fit one by one: a list's kinds fit if its first is at most 63 and differs from the others, and the others fit.
-use Prim.Native.Nat.{ℕ, zero, suc, _≤_, _<_}
-use mathlib.Core.Logic.{_≢_}
-use mathlib.Core.List.{List, [], _∷_}
-use native.Mathlib.Omega.{arith}
-use lib.ListN.{length}
-use Rattle.constraint.specs.Limits.{lastKind}
-use Rattle.constraint.specs.Steps.{at}
-use Rattle.constraint.specs.Accepted.{KindsFit}
-use Rattle.constraint.specs.Records.{Absent}
+use Rattle.constraint.proofs.Names.{Absent, KindsFit, List, [], _<_, _∷_, _≢_, _≤_, arith, at, lastKind, length, suc, zero, ℕ}
 
 -- the first may stand before the others
 abbrev pub FirstFits : ℕ → List ℕ → Type 0

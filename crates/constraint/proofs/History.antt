@@ -1,17 +1,9 @@
 -- What is true of every list of accepted steps: the times of a stream rise strictly and none is after the clock, since each step was accepted in
 -- order.
-use Prim.Native.Nat.{ℕ, _≤_, _<_}
-use native.Mathlib.Omega.{arith}
-use mathlib.Core.Path.{_≡_, refl, sym, ap, _∙_, subst}
-use mathlib.Core.Bool.{true, false, cond}
-use mathlib.Core.List.{List, [], _∷_, _++_, append-nil}
-use lib.ListN.{length, length-append}
-use lib.Dec.{eqb}
-use borrow.Author.Tests.{eqb-true, eq-eqb, ne-eqb}
-use Rattle.constraint.specs.Limits.{streamCount, lastTime, lastCount}
-use Rattle.constraint.specs.Steps.{Step, event, tick, close, times, among, own, clockFrom, clock, closed}
-use Rattle.constraint.specs.Continuation.{EventInOrder}
-use Rattle.constraint.proofs.Lists.{split, Each, each-none, each-append, each-cons, Rising, rising-snoc}
+use Rattle.constraint.proofs.Names.{EventInOrder, List, Step, [], _++_, _<_, _∙_, _∷_, _≡_, _≤_, among, ap, append-nil, arith, clock}
+use Rattle.constraint.proofs.Names.{clockFrom, close, closed, cond, eq-eqb, eqb, eqb-true, event, false, lastCount, lastTime, length}
+use Rattle.constraint.proofs.Names.{length-append, ne-eqb, own, refl, streamCount, subst, sym, tick, times, true, ℕ}
+use Rattle.constraint.proofs.Lists.{Each, Rising, each-append, each-cons, each-none, rising-snoc, split}
 
 -- ---- what joined steps have recorded
 
@@ -157,8 +149,7 @@ with-time k j t steps P own other =
     split (eqb j k) (λ x. eqb j k ≡ x → P (times k (steps ++ (event j t ∷ []))))
     (λ e f. let same : j ≡ k = eqb-true j k e in
     subst (λ (i : ℕ). P (times k (steps ++ (event i t ∷ [])))) (sym same) (subst P (sym (times-own k t steps)) (own same)))
-    (λ e f. subst P (sym (times-other k j t steps (λ same. never (sym (eq-eqb j k same) ∙ e)))) other)
-    refl
+    (λ e f. subst P (sym (times-other k j t steps (λ same. never (sym (eq-eqb j k same) ∙ e)))) other) refl
   where
     never : true ≡ false → ⊥
     never e = let z : _≡_ {A = ℕ} 0 1 = cc in omega arith

@@ -1,16 +1,7 @@
 -- Questions have one answer, since each is answered "yes" or "no"; and the answer to a list of questions goes by the answers to its parts.
-use Prim.Native.Nat.{ℕ, _≤_, _<_}
-use mathlib.Core.Path.{_≡_, refl, sym, subst⁻¹, _∙_}
-use mathlib.Core.Bool.{Bool, true, false, not}
-use mathlib.Core.List.{List, [], _∷_, _++_}
-use mathlib.Core.Logic.{inl, inr}
-use native.Mathlib.Omega.{arith}
-use borrow.Author.Tests.{leb-true, leb-false, ltb-true, ltb-false, eqb-true, eqb-false, not-false}
-use lib.Dec.{leb, ltb, eqb}
-use Rattle.constraint.specs.Questions.{Question, Judged}
-use Rattle.constraint.specs.Records.{Decides}
-use Rattle.constraint.specs.declared.Answer.{Answer}
-use Rattle.constraint.specs.declared.Answer.the-variants.{Taken, Refused}
+use Rattle.constraint.proofs.Names.{Answer, Bool, Decides, Judged, List, Question, Refused, Taken, [], _++_, _<_, _∙_, _∷_, _≡_, _≤_, arith}
+use Rattle.constraint.proofs.Names.{eqb, eqb-false, eqb-true, false, inl, inr, leb, leb-false, leb-true, ltb, ltb-false, ltb-true, not}
+use Rattle.constraint.proofs.Names.{not-false, refl, subst⁻¹, sym, true, ℕ}
 
 -- anything follows where two different constructors are said to be equal: from that, `cc` proves 0 ≡ 1
 pub never : {A : Type 0} → _≡_ {A = ℕ} 0 1 → A

@@ -1,13 +1,7 @@
 -- Of a list of questions the last stands apart: an answer that it does not give is the answer to those before it, so lists
 -- that differ in it alone have one answer.
-use Prim.Native.Nat.{ℕ}
-use mathlib.Core.Path.{_≡_, subst}
-use mathlib.Core.List.{List, [], _∷_}
-use mathlib.Core.Logic.{inl, inr}
-use Rattle.constraint.specs.Questions.{Question, Judged}
-use Rattle.constraint.specs.declared.Answer.{Answer}
-use Rattle.constraint.specs.declared.Answer.the-variants.{Taken, Refused}
-use Rattle.constraint.proofs.Judged.{never, judged-once}
+use Rattle.constraint.proofs.Names.{Answer, Judged, List, Question, Refused, Taken, [], _∷_, _≡_, inl, inr, subst, ℕ}
+use Rattle.constraint.proofs.Judged.{judged-once, never}
 
 -- the number of the last question, what it asks, and the questions before it
 abbrev pub lastNumber : List Question → ℕ

@@ -1,22 +1,8 @@
 -- What each type shows of its definition: it looks only at the row's own events and the clock, and what is met at a clock is met at every earlier
 -- one; and what its examples show: it can be met, and can be missed.
-use Prim.Native.Nat.{ℕ, _≤_}
-use native.Mathlib.Omega.{arith}
-use mathlib.Core.Path.{_≡_, refl, sym, ap, _∙_, subst}
-use mathlib.Core.Bool.{true, cond}
-use mathlib.Core.List.{List, [], _∷_}
-use mathlib.Core.Logic.{inl, inr}
-use lib.Dec.{eqb}
-use borrow.Author.Tests.{ne-eqb}
-use Rattle.constraint.specs.Limits.{lastColour}
-use Rattle.constraint.specs.Streams.{stream}
-use Rattle.constraint.proofs.Streams.{colours, streams}
-use Rattle.constraint.specs.Steps.{Step, event, tick, close, at, times, among, own, clock}
-use Rattle.constraint.specs.Meets.{NotLater, Meets}
-use Rattle.constraint.specs.Waiting.{waiting}
-use Rattle.constraint.specs.declared.Constraint.{Constraint}
-use Rattle.constraint.proofs.Lists.{split, both, Each}
-use Rattle.constraint.proofs.Streams.{colour-at, among-at}
+use Rattle.constraint.proofs.Names.{Constraint, List, Meets, NotLater, Step, [], _∙_, _∷_, _≡_, _≤_, among, ap, arith, at, clock, close, cond}
+use Rattle.constraint.proofs.Names.{eqb, event, inl, inr, lastColour, ne-eqb, own, refl, stream, subst, sym, tick, times, true, waiting, ℕ}
+use Rattle.constraint.proofs.{Lists.Each, Lists.both, Lists.split, Streams.among-at, Streams.colour-at, Streams.colours, Streams.streams}
 
 -- ---- a row looks only at its own events and the clock
 
@@ -32,8 +18,7 @@ own-times ks k is (event j t ∷ steps) =
     split (among j ks) (λ x. among j ks ≡ x → cond (eqb j k) (t ∷ times k steps) (times k steps)
     ≡ timesIn k (cond x ((j, t) ∷ own ks steps) (own ks steps)))
     (λ e f. ap (λ (l : List ℕ). cond (eqb j k) (t ∷ l) l) (own-times ks k is steps))
-    (λ e f. rw (ne-eqb j k (λ same. both (sym is ∙ ap (λ (i : ℕ). among i ks) (sym same) ∙ f))) (own-times ks k is steps))
-    refl
+    (λ e f. rw (ne-eqb j k (λ same. both (sym is ∙ ap (λ (i : ℕ). among i ks) (sym same) ∙ f))) (own-times ks k is steps)) refl
 own-times ks k is (tick t ∷ steps) = own-times ks k is steps
 own-times ks k is (close ∷ steps) = own-times ks k is steps
 

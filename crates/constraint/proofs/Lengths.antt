@@ -1,18 +1,8 @@
 -- The lengths of rows, and which editions have their types: each is read off a list, and what is so of every number in a list is so at each place.
-use Prim.Native.Nat.{ℕ, zero, suc, _+_, _-_, _≤_, _<_}
-use mathlib.Core.Path.{_≡_, refl, ap}
-use mathlib.Core.Bool.{Bool, true, false, cond}
-use mathlib.Core.List.{List, [], _∷_}
-use native.Mathlib.Nat.{add-zero}
-use native.Mathlib.Omega.{arith}
-use borrow.Author.Tests.{ne-eqb}
-use lib.ListN.{length, List·getD-eq-default}
-use Rattle.constraint.specs.Steps.{at}
-use Rattle.constraint.specs.Types.{typeOf, lengths, lastTypes, lastType, takesCount, lengthOf}
-use Rattle.constraint.specs.Table.{rowBody, ShapeFits}
-use Rattle.constraint.specs.declared.Constraint.{Constraint}
-use Rattle.constraint.proofs.Lists.{split}
-use Rattle.constraint.proofs.Types.{regular}
+use Rattle.constraint.proofs.Names.{Bool, Constraint, List, List·getD-eq-default, ShapeFits, [], _+_, _-_, _<_, _∷_, _≡_, _≤_, add-zero, ap}
+use Rattle.constraint.proofs.Names.{arith, at, cond, false, lastType, lastTypes, length, lengthOf, lengths, ne-eqb, refl, rowBody, suc}
+use Rattle.constraint.proofs.Names.{takesCount, true, typeOf, zero, ℕ}
+use Rattle.constraint.proofs.{Lists.split, Types.regular}
 
 -- a list of numbers, each at most some number: so is what stands at a place of it
 abbrev pub AtMost : ℕ → List ℕ → Type 0

@@ -1,4 +1,5 @@
 -- What is true of the definitions: laws that every crate above cites.
+mod Names
 pub mod Library
 pub mod Lists
 pub mod Streams

@@ -1,14 +1,6 @@
 -- Laws of tests and of lists of times: what holds of each, and lists that rise strictly. They go by cases on the test and by recursion on the list.
-use Prim.Native.Nat.{ℕ, zero, suc, _+_, _≤_, _<_}
-use native.Mathlib.Nat.{add-zero}
-use native.Mathlib.Omega.{arith}
-use mathlib.Core.Path.{_≡_, refl, sym, subst, _∙_}
-use mathlib.Core.Bool.{Bool, true, false, _||_}
-use mathlib.Core.List.{List, [], _∷_, _++_}
-use mathlib.Core.Logic.{_⊎_, inl, inr}
-use lib.ListN.{length, getD, List·getD-append}
-use lib.Seq.{getD-append-add}
-use Rattle.constraint.specs.Steps.{at}
+use Rattle.constraint.proofs.Names.{Bool, List, List·getD-append, [], _++_, _+_, _<_, _||_, _∙_, _∷_, _≡_, _≤_, _⊎_, add-zero, arith, at}
+use Rattle.constraint.proofs.Names.{false, getD, getD-append-add, inl, inr, length, refl, subst, suc, sym, true, zero, ℕ}
 
 -- by cases on a test, with the equation
 pub split {ℓ} : (b : Bool) (P : Bool → Type ℓ) → (b ≡ true → P true) → (b ≡ false → P false) → P b
@@ -96,8 +88,7 @@ rising-right (x ∷ xs) ys r = rising-right xs ys (r .1)
 
 pub rising-across : (xs ys : List ℕ) → Rising (xs ++ ys) → Each (λ x. Each (λ y. x < y) ys) xs
 rising-across [] ys r = each-none (λ x. Each (λ y. x < y) ys)
-rising-across (x ∷ xs) ys r =
-    each-cons (λ x. Each (λ y. x < y) ys) x xs (each-right (λ y. x < y) xs ys (r .0)) (rising-across xs ys (r .1))
+rising-across (x ∷ xs) ys r = each-cons (λ x. Each (λ y. x < y) ys) x xs (each-right (λ y. x < y) xs ys (r .0)) (rising-across xs ys (r .1))
 
 -- one more at the end
 pub rising-snoc : (xs : List ℕ) (y : ℕ) → Rising xs → Each (λ x. x < y) xs → Rising (xs ++ y ∷ [])

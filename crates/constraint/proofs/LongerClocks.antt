@@ -1,33 +1,17 @@
 -- What longer clocks leave as they found it. The rows' fields have a wider range, so a table that was accepted is. With `nextFree` of a stream
 -- one more than its last time, each event raises the sum of all 176 by one at least, each tick raises the clock, and the close comes once: so up
 -- to the earlier last time the count fits by itself, and calls none of which was answered 10 have the answers that they had, over the same steps.
-use Prim.Native.Nat.{ℕ, zero, suc, _+_, _*_, _^_, _-_, _≤_, _<_}
-use native.Mathlib.Decide.{ℕ-discrete}
-use native.Mathlib.Omega.{arith}
-use mathlib.Core.Path.{_≡_, refl, ap, ap₂, _∙_, subst}
-use mathlib.Core.Bool.{Bool, true, false, cond}
-use mathlib.Core.List.{List, [], _∷_, _++_, map}
-use mathlib.Core.Logic.{_⊎_, inl, inr, ⊎-elim, by-cases}
-use lib.ListN.{length, length-append}
-use Rattle.constraint.specs.Limits.{lastKind, firstColoured, lastColour, lastTime, lastCount, noLimit, rowLimit}
-use Rattle.constraint.specs.Streams.{stream}
-use Rattle.constraint.specs.Steps.{Step, event, tick, close, times, clockFrom, clock, closed}
-use Rattle.constraint.specs.Continuation.{EventInOrder}
-use Rattle.constraint.specs.Types.{kind, coloured, count, span, plain, lower, upper, upper-or-none, Field, byte, time, typeOf, fieldsOf}
-use Rattle.constraint.specs.Types.{lastType}
-use Rattle.constraint.specs.Accepted.{kinds, KindsFit, KindsSuit, FieldsInRange, InRange, LowerFirst, rowsQuestions, Accepted}
-use Rattle.constraint.specs.Questions.{Question, Judged}
-use Rattle.constraint.specs.Run.{stepFor, Room, questions, asks, Left, noneLeft, leftBy, Run, done, request}
-use Rattle.constraint.specs.declared.Answer.{Answer}
-use Rattle.constraint.specs.declared.Answer.the-variants.{Taken, Refused}
-use Rattle.constraint.specs.declared.Call.{Call}
-use Rattle.constraint.specs.declared.Constraint.{Constraint}
-use Rattle.constraint.proofs.Lists.{Each}
-use Rattle.constraint.proofs.Judged.{judged-yes, judged-all, put-in, widened}
-use Rattle.constraint.proofs.Counting.{nextFree, next-least, next-snoc}
-use Rattle.constraint.proofs.History.{times-own, times-other, times-tick, times-close, clock-event, clock-tick, clock-close, closed-event}
-use Rattle.constraint.proofs.History.{closed-tick, closed-close, Accepts, Valid, valid-none, valid-more, Past, past-of}
-use Rattle.constraint.proofs.Runs.{accepts-taken}
+use Rattle.constraint.proofs.Names.{Accepted, Answer, Bool, Call, Constraint, EventInOrder, Field, FieldsInRange, InRange, Judged, KindsFit}
+use Rattle.constraint.proofs.Names.{KindsSuit, Left, List, LowerFirst, Question, Refused, Room, Run, Step, Taken, [], _*_, _++_, _+_, _-_, _<_}
+use Rattle.constraint.proofs.Names.{_^_, _∙_, _∷_, _≡_, _≤_, _⊎_, ap, ap₂, arith, asks, by-cases, byte, clock, clockFrom, close, closed}
+use Rattle.constraint.proofs.Names.{coloured, cond, count, done, event, false, fieldsOf, firstColoured, inl, inr, kind, kinds, lastColour}
+use Rattle.constraint.proofs.Names.{lastCount, lastKind, lastTime, lastType, leftBy, length, length-append, lower, map, noLimit, noneLeft}
+use Rattle.constraint.proofs.Names.{plain, questions, refl, request, rowLimit, rowsQuestions, span, stepFor, stream, subst, suc, tick, time}
+use Rattle.constraint.proofs.Names.{times, true, typeOf, upper, upper-or-none, zero, ℕ, ℕ-discrete, ⊎-elim}
+use Rattle.constraint.proofs.History.{Accepts, Past, Valid, clock-close, clock-event, clock-tick, closed-close, closed-event, closed-tick}
+use Rattle.constraint.proofs.History.{past-of, times-close, times-other, times-own, times-tick, valid-more, valid-none}
+use Rattle.constraint.proofs.Judged.{judged-all, judged-yes, put-in, widened}
+use Rattle.constraint.proofs.{Counting.next-least, Counting.next-snoc, Counting.nextFree, Lists.Each, Runs.accepts-taken}
 
 -- the last time before clocks were longer
 abbrev pub lastTimeBefore : ℕ

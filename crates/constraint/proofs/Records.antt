@@ -1,17 +1,8 @@
 -- The record of some rows holds those rows, a row put in its next entry makes the record of one row more, and a row for which there is no entry
 -- makes a record that is refused.
-use Prim.Native.Nat.{ℕ, zero, suc, _+_, _-_, _<_}
-use mathlib.Core.Path.{_≡_, refl, sym, ap, _∙_}
-use mathlib.Core.List.{List, [], _∷_, _++_, map, map-append, append-assoc}
-use mathlib.Core.Option.{some}
-use native.Mathlib.Omega.{arith}
-use lib.ListN.{length, getD, getElem?, set, take, replicate, length-append, length-map}
-use lib.Seq.{set-at, take-append-seam}
-use Rattle.constraint.specs.Limits.{rowLimit}
-use Rattle.constraint.specs.Records.{filler, rowsOf, tableOf, entryOf, withOneMore}
-use Rattle.constraint.specs.declared.Constraint.{Constraint}
-use Rattle.constraint.specs.declared.Entry.{Entry}
-use Rattle.constraint.specs.declared.Table.{Table}
+use Rattle.constraint.proofs.Names.{Constraint, Entry, List, Table, [], _++_, _+_, _-_, _<_, _∙_, _∷_, _≡_, ap, append-assoc, arith, entryOf}
+use Rattle.constraint.proofs.Names.{filler, getD, getElem?, length, length-append, length-map, map, map-append, refl, replicate, rowLimit}
+use Rattle.constraint.proofs.Names.{rowsOf, set, set-at, some, suc, sym, tableOf, take, take-append-seam, withOneMore, zero, ℕ}
 
 -- the rows of the entries that no row was put in
 unused : ℕ → List Constraint

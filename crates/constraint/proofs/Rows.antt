@@ -1,15 +1,7 @@
 -- A table record has as many rows as its count says, and each of the first 32 is the row of its entry.
-use Prim.Native.Nat.{ℕ, suc, _+_, _<_}
-use mathlib.Core.Path.{_≡_, ap, _∙_}
-use mathlib.Core.List.{List, _∷_, _++_, map}
-use native.Mathlib.Numerals.{add-one}
-use native.Mathlib.Omega.{arith}
-use lib.ListN.{length, getD, drop, replicate, length-append, length-take, length-replicate, length-map, List·getD-append, List·getD-map}
-use lib.Seq.{drop-cons, getD-take}
-use Rattle.constraint.specs.Records.{filler, rowsOf}
-use Rattle.constraint.specs.declared.Constraint.{Constraint}
-use Rattle.constraint.specs.declared.Entry.{Entry}
-use Rattle.constraint.specs.declared.Table.{Table}
+use Rattle.constraint.proofs.Names.{Constraint, Entry, List, List·getD-append, List·getD-map, Table, _++_, _+_, _<_, _∙_, _∷_, _≡_, add-one}
+use Rattle.constraint.proofs.Names.{ap, arith, drop, drop-cons, filler, getD, getD-take, length, length-append, length-map, length-replicate}
+use Rattle.constraint.proofs.Names.{length-take, map, replicate, rowsOf, suc, ℕ}
 
 pub rows-length : (table : Table) → length (rowsOf table) ≡ table .count
 unfolding rowsOf

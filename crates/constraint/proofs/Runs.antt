@@ -1,31 +1,12 @@
 -- What is true of every list of calls: the steps that it accepts are in order, so each row reads one verdict, broken exactly when it is not open,
 -- and at the close kept exactly when the recorded events meet its definition.
-use Prim.Native.Nat.{ℕ, _<_}
-use native.Mathlib.Omega.{arith}
-use mathlib.Core.Path.{_≡_, refl, sym, ap, _∙_, subst}
-use mathlib.Core.Bool.{true, false}
-use mathlib.Core.List.{List, _++_, append-nil}
-use mathlib.Core.Logic.{_↔_}
-use lib.ListN.{length}
-use Rattle.constraint.specs.Limits.{streamCount, lastCount}
-use Rattle.constraint.specs.Streams.{stream}
-use Rattle.constraint.specs.Steps.{Step, event, closed}
-use Rattle.constraint.specs.Meets.{Meets}
-use Rattle.constraint.specs.Continuation.{Open, Reads, reads-open, reads-kept, reads-broken}
-use Rattle.constraint.specs.Questions.{Judged}
-use Rattle.constraint.specs.Run.{stepFor, eventQuestions, questions, Request, asks, withdraws, Left, Run, done, request}
-use Rattle.constraint.specs.declared.Call.{Call}
-use Rattle.constraint.specs.declared.Answer.{Answer}
-use Rattle.constraint.specs.declared.Answer.the-variants.{Taken, Refused}
-use Rattle.constraint.specs.declared.Constraint.{Constraint}
-use Rattle.constraint.specs.declared.Verdict.{Verdict}
-use Rattle.constraint.proofs.Lists.{both}
-use Rattle.constraint.proofs.Streams.{stream-below}
-use Rattle.constraint.proofs.History.{Accepts, Valid, valid-none, valid-more}
-use Rattle.constraint.proofs.Withdrawals.{butLast, but-last}
-use Rattle.constraint.proofs.Continuations.{continues-closed}
-use Rattle.constraint.proofs.Verdicts.{broken-shut, broken-once, open-of-meets}
-use Rattle.constraint.proofs.Judged.{never, judged-all}
+use Rattle.constraint.proofs.Names.{Answer, Call, Constraint, Judged, Left, List, Meets, Open, Reads, Refused, Request, Run, Step, Taken}
+use Rattle.constraint.proofs.Names.{Verdict, _++_, _<_, _↔_, _∙_, _≡_, ap, append-nil, arith, asks, closed, done, event, eventQuestions, false}
+use Rattle.constraint.proofs.Names.{lastCount, length, questions, reads-broken, reads-kept, reads-open, refl, request, stepFor, stream}
+use Rattle.constraint.proofs.Names.{streamCount, subst, sym, true, withdraws, ℕ}
+use Rattle.constraint.proofs.History.{Accepts, Valid, valid-more, valid-none}
+use Rattle.constraint.proofs.{Continuations.continues-closed, Judged.judged-all, Judged.never, Lists.both, Streams.stream-below}
+use Rattle.constraint.proofs.{Verdicts.broken-once, Verdicts.broken-shut, Verdicts.open-of-meets, Withdrawals.but-last, Withdrawals.butLast}
 
 -- ---- the steps that a list of calls accepts
 

@@ -1,27 +1,11 @@
 -- What a reader would check first: a list of requests has one list of answers and leaves one list of steps, and what the mark for no limit says it
 -- says only where it stands. That each definition can be met and can be missed is shown in the type's file of Types.
-use Prim.Native.Nat.{ℕ, _+_, _<_}
-use native.Mathlib.Omega.{arith}
-use mathlib.Core.Path.{_≡_, refl, sym, ap₂, subst}
-use mathlib.Core.List.{List, [], _∷_}
-use mathlib.Core.Logic.{inl, inr, _↔_, ⊎-elim}
-use mathlib.Core.Bool.{false, _&&_, _||_}
-use lib.ListN.{length}
-use lib.Dec.{leb}
-use borrow.Author.Tests.{ne-eqb}
-use Rattle.constraint.specs.Limits.{lastCount, noLimit}
-use Rattle.constraint.specs.Steps.{Step, at, times, closed}
-use Rattle.constraint.specs.Meets.{Between, Apart, SpansApart, AtLeastApart, HiddenPoints}
-use Rattle.constraint.specs.Meets.{Meets, MeetsDelay, MeetsRepeat, MeetsSporadic, MeetsBurst}
-use Rattle.constraint.specs.Waiting.{answered}
-use Rattle.constraint.specs.Questions.{Question, Judged}
-use Rattle.constraint.specs.Run.{questions, Request, Left, requestQuestions, leftBy, Run, done, request}
-use Rattle.constraint.specs.declared.Call.{Call}
-use Rattle.constraint.specs.declared.Answer.{Answer}
-use Rattle.constraint.specs.declared.Answer.the-variants.{Taken, Refused}
-use Rattle.constraint.specs.declared.Constraint.{Constraint}
-use Rattle.constraint.specs.declared.Constraint.the-variants.{Burst}
-use Rattle.constraint.proofs.Judged.{judged-yes, judged-no, judged-once}
+use Rattle.constraint.proofs.Names.{Answer, Apart, AtLeastApart, Between, Burst, Call, Constraint, HiddenPoints, Judged, Left, List, Meets}
+use Rattle.constraint.proofs.Names.{MeetsBurst, MeetsDelay, MeetsRepeat, MeetsSporadic, Question, Refused, Request, Run, SpansApart, Step}
+use Rattle.constraint.proofs.Names.{Taken, [], _&&_, _+_, _<_, _||_, _↔_, _∷_, _≡_, answered, ap₂, arith, at, closed, done, false, inl, inr}
+use Rattle.constraint.proofs.Names.{lastCount, leb, leftBy, length, ne-eqb, noLimit, questions, refl, request, requestQuestions, subst, sym}
+use Rattle.constraint.proofs.Names.{times, ℕ, ⊎-elim}
+use Rattle.constraint.proofs.Judged.{judged-no, judged-once, judged-yes}
 
 -- ---- lists of requests
 

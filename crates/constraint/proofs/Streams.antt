@@ -1,21 +1,9 @@
 -- Streams and their kinds: the numbering is one to one, and a stream is one of a row's just where its kind is one of the row's.
-use Prim.Native.Nat.{ℕ, zero, suc, _+_, _-_, _/_, _≤_, _<_}
-use native.Mathlib.Omega.{arith}
-use native.Mathlib.Decide.{decLt}
-use mathlib.Core.Path.{_≡_, refl, sym, ap, ap₂, _∙_, subst}
-use mathlib.Core.Bool.{true, false, _||_, or-true as either-true}
-use mathlib.Core.List.{List, [], _∷_, _++_}
-use mathlib.Core.Logic.{by-cases, ⊎-elim}
-use lib.ListN.{length}
-use lib.Dec.{eqb}
-use borrow.Author.Tests.{eqb-true, eqb-false, eq-eqb, ne-eqb, lt-ltb, le-ltb}
-use Rattle.constraint.specs.Limits.{lastKind, firstColoured, lastColour, streamCount}
-use Rattle.constraint.specs.Streams.{stream, kindOf}
-use Rattle.constraint.specs.Steps.{at, among}
-use Rattle.constraint.specs.Types.{kind, coloured, count, span, Field, byte, time, fieldsOf}
-use Rattle.constraint.specs.Accepted.{kindsIn, SortsFit}
-use Rattle.constraint.specs.declared.Constraint.{Constraint}
-use Rattle.constraint.proofs.Lists.{split, both, or-true}
+use Rattle.constraint.proofs.Names.{Constraint, Field, List, SortsFit, [], _++_, _+_, _-_, _/_, _<_, _||_, _∙_, _∷_, _≡_, _≤_, among, ap, ap₂}
+use Rattle.constraint.proofs.Names.{arith, at, by-cases, byte, coloured, count, decLt, either-true, eq-eqb, eqb, eqb-false, eqb-true, false}
+use Rattle.constraint.proofs.Names.{fieldsOf, firstColoured, kind, kindOf, kindsIn, lastColour, lastKind, le-ltb, length, lt-ltb, ne-eqb, refl}
+use Rattle.constraint.proofs.Names.{span, stream, streamCount, subst, suc, sym, time, true, zero, ℕ, ⊎-elim}
+use Rattle.constraint.proofs.Lists.{both, or-true, split}
 
 -- ---- a row's streams
 

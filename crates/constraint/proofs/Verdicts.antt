@@ -1,19 +1,8 @@
 -- What is true of verdicts for every row type: a row that is open was open after every earlier step, so the step that broke it is the first after
 -- which no continuation is left, and stays it.
-use Prim.Native.Nat.{ℕ, zero, suc, _+_, _≤_, _<_}
-use native.Mathlib.Decide.{decLt}
-use native.Mathlib.Omega.{arith}
-use mathlib.Core.Path.{_≡_, sym, subst}
-use mathlib.Core.List.{List, [], _∷_, _++_, append-nil}
-use mathlib.Core.Logic.{by-cases}
-use lib.ListN.{length, take, length-append}
-use lib.Seq.{take-all, take-append-le}
-use Rattle.constraint.specs.Steps.{Step}
-use Rattle.constraint.specs.Meets.{Meets}
-use Rattle.constraint.specs.Continuation.{stop, Open, BrokenAt}
-use Rattle.constraint.specs.declared.Constraint.{Constraint}
-use Rattle.constraint.proofs.History.{Valid, valid-none, valid-more}
-use Rattle.constraint.proofs.Continuations.{open-before}
+use Rattle.constraint.proofs.Names.{BrokenAt, Constraint, List, Meets, Open, Step, [], _++_, _+_, _<_, _∷_, _≡_, _≤_, append-nil, arith}
+use Rattle.constraint.proofs.Names.{by-cases, decLt, length, length-append, stop, subst, suc, sym, take, take-all, take-append-le, zero, ℕ}
+use Rattle.constraint.proofs.{Continuations.open-before, History.Valid, History.valid-more, History.valid-none}
 
 length-snoc : (steps : List Step) (s : Step) → length (steps ++ (s ∷ [])) ≡ length steps + 1
 length-snoc steps s = length-append steps (s ∷ [])

@@ -1,17 +1,7 @@
 -- Where a list of requests withdraws none of the first steps, what is left begins with them, and a row that they broke stays broken at the same step.
-use Prim.Native.Nat.{ℕ, zero, suc, _-_, _≤_}
-use native.Mathlib.Omega.{arith}
-use mathlib.Core.Path.{_≡_, refl, sym, ap, _∙_, subst}
-use mathlib.Core.List.{List, [], _∷_, _++_, map, append-assoc, append-nil}
-use lib.ListN.{length, take, length-append, length-take}
-use lib.Seq.{take-append-seam}
-use Rattle.constraint.specs.Steps.{Step}
-use Rattle.constraint.specs.Continuation.{BrokenAt}
-use Rattle.constraint.specs.Run.{stepFor, Request, asks, withdraws, Left, Run, done, request, Keeps}
-use Rattle.constraint.specs.declared.Answer.{Answer}
-use Rattle.constraint.specs.declared.Answer.the-variants.{Taken, Refused}
-use Rattle.constraint.specs.declared.Call.{Call}
-use Rattle.constraint.specs.declared.Constraint.{Constraint}
+use Rattle.constraint.proofs.Names.{Answer, BrokenAt, Call, Constraint, Keeps, Left, List, Refused, Request, Run, Step, Taken, [], _++_, _-_}
+use Rattle.constraint.proofs.Names.{_∙_, _∷_, _≡_, _≤_, ap, append-assoc, append-nil, arith, asks, done, length, length-append, length-take}
+use Rattle.constraint.proofs.Names.{map, refl, request, stepFor, subst, suc, sym, take, take-append-seam, withdraws, zero, ℕ}
 use Rattle.constraint.proofs.Verdicts.{broken-later}
 
 -- ---- a list without its last

@@ -1,16 +1,9 @@
 -- §16.6: of a table of the first edition the calls for both editions promise just what those for the first do, since they read it alike.
-use Rattle.constraint.proofs.Library.{ℕ, _≤_, _≡_, arith, List, _↔_}
-use Rattle.constraint.specs.Steps.{at}
-use Rattle.constraint.specs.Table.{TableRead, ReadsTableUpTo}
-use Rattle.constraint.specs.Report.{ReportOfUpTo, no-table, no-recording, all-taken, ReportsUpTo, written, too-short, Reports}
+use Rattle.delkuthi.proofs.Names.{Begins, BeginsUpTo, LeftBy, List, NumbersStamps, NumbersStampsUpTo, ReadAnswer, ReadsTableUpTo, ReportOfUpTo}
+use Rattle.delkuthi.proofs.Names.{Reports, ReportsOn, ReportsOnUpTo, ReportsUpTo, StampedAnswer, TableRead, Words, _↔_, _≡_, _≤_, all-taken}
+use Rattle.delkuthi.proofs.Names.{arith, at, begun, no-recording, no-table, reads-same, refused, unused, used, ℕ}
+use Rattle.constraint.specs.Report.{too-short, written}
 use Rattle.constraint.specs.Stamps as Stamps
-use Rattle.constraint.specs.declared.StampedAnswer.{StampedAnswer}
-use Rattle.constraint.proofs.Editions.{reads-same}
-use Rattle.table.specs.declared.ReadAnswer.{ReadAnswer}
-use Rattle.lent.specs.Layout.{Words}
-use Rattle.fresh.specs.Fresh.{BeginsUpTo, begun, refused, Begins}
-use Rattle.delkuthi.specs.Reporting.{LeftBy, unused, used, ReportsOnUpTo, ReportsOn}
-use Rattle.delkuthi.specs.Stamps.{NumbersStampsUpTo, NumbersStamps}
 
 module _ (one other : ℕ) (table : List ℕ) (known : at table 0 ≤ one) (known′ : at table 0 ≤ other) where
   same : {read : TableRead} → ReadsTableUpTo one table read → ReadsTableUpTo other table read

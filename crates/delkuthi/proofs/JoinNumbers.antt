@@ -1,15 +1,8 @@
 -- A refusal of a join is one of its recordings, 20 or 16: its number is from 1 to 127, and where both are read it is that of the first "no" of 20
 -- and 16.
-use Rattle.constraint.proofs.Library.{ℕ, arith, _≡_, subst, List}
-use Rattle.constraint.specs.Steps.{Step}
-use Rattle.constraint.specs.Questions.{Judged}
-use Rattle.constraint.specs.Recording.{ReadsInOrder, recording-of}
-use Rattle.constraint.specs.Joined.{AnswersJoin, no-first, no-second, in-common, too-short, written}
-use Rattle.constraint.specs.declared.Answer.the-variants.{Taken, Refused}
-use Rattle.constraint.specs.declared.JoinAnswer.{JoinAnswer}
-use Rattle.constraint.proofs.Judged.{never, judged-none, judged-yes, judged-no}
-use Rattle.stamps.proofs.Agreement.{order-once}
-use Rattle.delkuthi.specs.Joining.{joinRefusal, joinQuestions, joinNumber, NumbersJoin}
+use Rattle.delkuthi.proofs.Names.{AnswersJoin, JoinAnswer, Judged, List, NumbersJoin, ReadsInOrder, Refused, Step, Taken, _≡_, arith}
+use Rattle.delkuthi.proofs.Names.{in-common, joinNumber, joinQuestions, joinRefusal, judged-no, judged-none, judged-yes, never, no-first}
+use Rattle.delkuthi.proofs.Names.{no-second, order-once, recording-of, subst, too-short, written, ℕ}
 use Rattle.delkuthi.proofs.RecordNumbers.{Short, refusal-short}
 
 module _ (one two before : List ℕ) where
@@ -32,8 +25,7 @@ module _ (one two before : List ℕ) where
         → Judged (joinQuestions one two before first second) (joinRefusal answer)
     join-asked (no-first n place refused) = let same = order-once one refused read in never (cc)
     join-asked (no-second f n place r refused) = let same = order-once two refused also in never (cc)
-    join-asked (in-common f s place r t common found) =
-        rw (← first-is f r, ← second-is s t) (judged-no 20 _ _ common)
+    join-asked (in-common f s place r t common found) = rw (← first-is f r, ← second-is s t) (judged-no 20 _ _ common)
     join-asked (too-short f s r t apart short) =
         rw (← first-is f r, ← second-is s t) (judged-yes 20 _ _ (Refused 16) apart (judged-no 16 _ _ (λ room. omega (arith, short))))
     join-asked (written f s r t apart room) =

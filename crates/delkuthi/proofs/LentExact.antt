@@ -1,31 +1,12 @@
 -- §11.2: a host's calls on lent memory, one after the other, each known by its contract alone, are the machine's, so that they keep its promise;
 -- and each reader's contract speaks of every list of calls and withdrawals.
-use Rattle.constraint.proofs.Library.{ℕ, _<_, _≡_, refl, sym, ap₂, subst, List, _∷_, map, arith}
-use Rattle.constraint.specs.Accepted.{Accepted}
-use Rattle.constraint.specs.Steps.{Step, at}
-use Rattle.constraint.specs.Run.{Request, Left, asks, noneLeft, Run}
-use Rattle.constraint.specs.Promise.{ReadsRow, play}
-use Rattle.constraint.specs.Table.{ReadsTableUpTo, table-of, table-refused}
-use Rattle.constraint.specs.Page.{Pages}
-use Rattle.constraint.specs.declared.Answer.{Answer}
-use Rattle.constraint.specs.declared.Constraint.{Constraint}
-use Rattle.constraint.proofs.Judged.{never}
-use Rattle.constraint.proofs.Sanity.{run-once}
-use Rattle.table.specs.declared.ReadAnswer.{ReadAnswer}
-use Rattle.table.proofs.Once.{reads-once}
-use Rattle.table.proofs.AcceptedRows.{read-accepted}
-use Rattle.monitor.specs.Machine.{monitorOf, verdictOf}
-use Rattle.monitor.specs.Contract.{resultOf, step, after}
-use Rattle.monitor.specs.declared.Monitor.{Monitor}
-use Rattle.monitor.proofs.Theorem.{monitor-is-exact}
-use Rattle.lent.specs.Contract.{answerFrom, Holds}
-use Rattle.fresh.specs.Fresh.{BeginsUpTo, Begins, begun, refused}
-use Rattle.delkuthi.specs.Taking.{Took, RecordingTakenAs}
-use Rattle.delkuthi.specs.Reporting.{LeftBy, unused, used, ReportsOnUpTo, ReportsSteps}
-use Rattle.delkuthi.specs.LentExact.{Memory, Host, over, asked, Untouched, ReadsAs, ReadsRecorded, whole, cut, Reported, LentExactUpTo}
-use Rattle.delkuthi.specs.LentExact.{LentExact}
-use Rattle.delkuthi.proofs.Lying.{call-holds}
-use Rattle.delkuthi.proofs.Reports.{begun-over, reported-as-recorded}
+use Rattle.delkuthi.proofs.Names.{Accepted, Answer, Begins, BeginsUpTo, Constraint, Holds, Host, Left, LeftBy, LentExact, LentExactUpTo, List}
+use Rattle.delkuthi.proofs.Names.{Memory, Monitor, Pages, ReadAnswer, ReadsAs, ReadsRecorded, ReadsRow, ReadsTableUpTo, RecordingTakenAs}
+use Rattle.delkuthi.proofs.Names.{Reported, ReportsOnUpTo, ReportsSteps, Request, Run, Step, Took, Untouched, _<_, _∷_, _≡_, after, answerFrom}
+use Rattle.delkuthi.proofs.Names.{ap₂, arith, asked, asks, at, begun, cut, map, monitor-is-exact, monitorOf, never, noneLeft, over, play}
+use Rattle.delkuthi.proofs.Names.{read-accepted, reads-once, refl, refused, resultOf, run-once, step, subst, sym, table-of, table-refused}
+use Rattle.delkuthi.proofs.Names.{unused, used, verdictOf, whole, ℕ}
+use Rattle.delkuthi.proofs.{Lying.call-holds, Reports.begun-over, Reports.reported-as-recorded}
 
 -- ---- what is read
 

@@ -1,4 +1,5 @@
 -- The laws of taking a recording and of telling its report.
+mod Names
 pub mod Taking
 pub mod Progress
 pub mod Summaries

@@ -1,20 +1,9 @@
 -- What is read of the words of a lent monitor is what the monitor that lies there says: each of its numbers has a place of its own.
-use Rattle.constraint.proofs.Library.{ℕ, _-_, _<_, min, _≡_, refl, sym, ap, subst, _∙_, List, [], arith, length, getD}
-use Rattle.constraint.specs.Limits.{rowLimit}
-use Rattle.machine.specs.Words.{rowWords, numberWords}
+use Rattle.delkuthi.proofs.Names.{Holds, Lent, List, Monitor, Request, Shaped, Stepped, Steps, Takes, Words, [], _-_, _<_, _∙_, _≡_}
+use Rattle.delkuthi.proofs.Names.{answerFrom, ap, arith, getD, heldRows, keptAt, leaves, length, min, noRow, number-at, numberWords}
+use Rattle.delkuthi.proofs.Names.{place-small, placeOf, refl, resultOf, row-lies, rowAt, rowLimit, rowWords, steppedFrom, subst, sym}
+use Rattle.delkuthi.proofs.Names.{verdictBy, wordsOf, ℕ}
 use Rattle.row.specs.Stored as Stored
-use Rattle.constraint.specs.Run.{Request}
-use Rattle.monitor.specs.Machine.{noRow}
-use Rattle.monitor.specs.Parts.{placeOf, verdictBy}
-use Rattle.monitor.specs.Contract.{resultOf, Steps}
-use Rattle.monitor.specs.declared.Stepped.{Stepped}
-use Rattle.monitor.specs.declared.Monitor.{Monitor}
-use Rattle.monitor.proofs.RowVerdicts.{place-small}
-use Rattle.lent.specs.Layout.{Lent, Words, wordsOf, Shaped, heldRows, rowAt, keptAt}
-use Rattle.lent.specs.Steps.{leaves}
-use Rattle.lent.specs.Contract.{answerFrom, steppedFrom, Takes, Holds}
-use Rattle.lent.proofs.Blocks.{row-lies}
-use Rattle.lent.proofs.Parts.{number-at}
 
 -- what crate lent says of the words, whatever monitor they are
 abbrev pub Said : Words → (Lent → Type 0) → Type 0

@@ -1,24 +1,10 @@
 -- The numbers that the readers of a lent monitor answer with say what the machine reads: no verdict has the word 15, and a row that is broken has a
 -- step that is not 0.
-use Rattle.constraint.proofs.Library.{ℕ, _<_, _≤_, decLt, arith, _≡_, refl, sym, ap, subst, _∙_, Bool, true, false, cond, _&&_, List, inl, inr}
-use Rattle.constraint.proofs.Library.{by-cases, Option, none, some, length, getD, ltb, ltb-true}
-use Rattle.constraint.specs.Limits.{rowLimit}
-use Rattle.constraint.specs.Steps.{Step}
-use Rattle.constraint.specs.Promise.{ReadsRow, row, no-row}
-use Rattle.constraint.specs.declared.Constraint.{Constraint}
-use Rattle.constraint.specs.declared.Verdict.{Verdict}
-use Rattle.constraint.proofs.Judged.{never}
-use Rattle.constraint.proofs.Lists.{split}
-use Rattle.row.specs.Machine.{rowVerdict}
-use Rattle.monitor.specs.Machine.{noRow, verdictOf}
-use Rattle.monitor.specs.Contract.{verdictIn, stepIn, Reading}
-use Rattle.monitor.specs.declared.Monitor.{Monitor}
-use Rattle.monitor.specs.declared.RowVerdict.{RowVerdict}
-use Rattle.monitor.proofs.Demand.{has-row}
-use Rattle.lent.specs.Layout.{Words}
-use Rattle.lent.specs.Contract.{Holds, ReadOff}
-use Rattle.stamps.proofs.Answers.{within}
-use Rattle.delkuthi.specs.Lent.{wordOf, KnownWord, NumberOfVerdict, WordOfVerdict, StepOfVerdict, NumberOfRows}
+use Rattle.delkuthi.proofs.Names.{Bool, Constraint, Holds, KnownWord, List, Monitor, NumberOfRows, NumberOfVerdict, Option, ReadOff, Reading}
+use Rattle.delkuthi.proofs.Names.{ReadsRow, RowVerdict, Step, StepOfVerdict, Verdict, WordOfVerdict, Words, _&&_, _<_, _∙_, _≡_, _≤_, ap}
+use Rattle.delkuthi.proofs.Names.{arith, by-cases, cond, decLt, false, getD, has-row, inl, inr, length, ltb, ltb-true, never, no-row, noRow}
+use Rattle.delkuthi.proofs.Names.{none, refl, row, rowLimit, rowVerdict, some, split, stepIn, subst, sym, true, verdictIn, verdictOf, within}
+use Rattle.delkuthi.proofs.Names.{wordOf, ℕ}
 use Rattle.delkuthi.proofs.Summaries.{made-follows}
 
 -- ---- verdicts

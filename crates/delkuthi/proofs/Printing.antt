@@ -1,32 +1,11 @@
 -- The page that is written says what the rows read: it is made of the summary, which says the type of each of the table's rows and its verdict.
-use Rattle.constraint.proofs.Library.{ℕ, _≤_, _<_, decLt, arith, _≡_, sym, ap, _∙_, subst, List, map, by-cases, some, length, lt-ltb}
-use Rattle.constraint.specs.Limits.{rowLimit}
-use Rattle.constraint.specs.Steps.{Step, at}
-use Rattle.constraint.specs.Types.{typeOf}
-use Rattle.constraint.specs.Continuation.{Reads, reads-open, reads-kept, reads-broken}
-use Rattle.constraint.specs.Accepted.{Accepted}
-use Rattle.constraint.specs.Page.{nameOf, verdictAt, pageText, PageOf, page-of, Pages, page-written, page-too-short}
-use Rattle.constraint.specs.Run.{Request}
-use Rattle.constraint.specs.declared.Constraint.{Constraint}
-use Rattle.constraint.specs.declared.Verdict.{Verdict}
-use Rattle.constraint.proofs.History.{Valid, count-of}
-use Rattle.text.specs.Content.{Copied}
-use Rattle.row.specs.Machine.{rowVerdict}
-use Rattle.row.proofs.Engine.{engine}
-use Rattle.monitor.specs.Machine.{verdictOf}
-use Rattle.monitor.specs.Contract.{after}
-use Rattle.monitor.specs.declared.Monitor.{Monitor}
-use Rattle.monitor.proofs.Demand.{has-row}
-use Rattle.monitor.proofs.FittingRows.{fit-reads}
-use Rattle.monitor.proofs.Following.{Follows}
-use Rattle.monitor.proofs.Withdrawing.{after-follows}
-use Rattle.page.specs.ReadBack.{lineRead}
-use Rattle.page.specs.Sheet.{verdictFor, verdictsOf, textOf}
-use Rattle.page.proofs.Pages.{same-rows}
-use Rattle.page.proofs.ReadBack.{StepFits, page-reads-back, equal-pages}
-use Rattle.delkuthi.specs.Printed.{printedRows, typeIn, brokenIn, printed, WritesPage}
-use Rattle.delkuthi.specs.Summary.{summaryOf, verdictsIn}
-use Rattle.delkuthi.proofs.Summaries.{at-map, count-is, each-summarized, row-summarized, made-follows}
+use Rattle.delkuthi.proofs.Names.{Accepted, Constraint, Copied, Follows, List, Monitor, PageOf, Pages, Reads, Request, Step, StepFits, Valid}
+use Rattle.delkuthi.proofs.Names.{Verdict, WritesPage, _<_, _∙_, _≡_, _≤_, after, after-follows, ap, arith, at, brokenIn, by-cases, count-of}
+use Rattle.delkuthi.proofs.Names.{decLt, engine, equal-pages, fit-reads, has-row, length, lineRead, lt-ltb, map, nameOf, page-of}
+use Rattle.delkuthi.proofs.Names.{page-reads-back, page-too-short, page-written, pageText, printed, printedRows, reads-broken, reads-kept}
+use Rattle.delkuthi.proofs.Names.{reads-open, rowLimit, rowVerdict, same-rows, some, subst, summaryOf, sym, textOf, typeIn, typeOf, verdictAt}
+use Rattle.delkuthi.proofs.Names.{verdictFor, verdictOf, verdictsIn, verdictsOf, ℕ}
+use Rattle.delkuthi.proofs.Summaries.{at-map, count-is, each-summarized, made-follows, row-summarized}
 
 -- a step that a row reads is one of those taken, of which there are fewer than 2^64
 reads-fits : {c : Constraint} {steps : List Step} (v : Verdict) → Valid steps → Reads c steps v → StepFits v
@@ -71,8 +50,7 @@ module _ (rows : List Constraint) (requests : List Request) (accepted : Accepted
   pub printed-back : (i : ℕ) → i < length rows
       → lineRead (printed made) i ≡ record { number = i; name = nameOf (at (map typeOf rows) i); verdict = verdictOf made i }
   printed-back i h =
-      let steps = followed .0 in
-      let f = followed .1 in
+      let steps = followed .0 in let f = followed .1 in
       let there : i < printedRows made = omega (arith, count-is rows steps made f) in
       rw (row-summarized rows steps made f i h .0, verdict-is rows steps made f i h)
       (page-reads-back (typeIn made) (v rows steps made f) (printedRows made) i (omega arith) there (fits rows steps made f i there))

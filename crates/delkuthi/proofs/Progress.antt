@@ -1,28 +1,11 @@
 -- Records are taken one after the other: what reading gives from a place on, over the steps taken before it, is what it gives from the start.
-use Rattle.constraint.proofs.Library.{ℕ, zero, suc, _*_, _≤_, _<_, _≡_, refl, sym, ap, subst, _∙_, false, List, [], _∷_, _++_, arith, length}
-use Rattle.constraint.proofs.Library.{length-append}
-use Rattle.constraint.specs.Limits.{lastCount}
-use Rattle.constraint.specs.Steps.{Step, at, closed}
-use Rattle.constraint.specs.Questions.{Judged}
-use Rattle.constraint.specs.Run.{stepFor, questions, asks}
-use Rattle.constraint.specs.Table.{bodyAt}
-use Rattle.constraint.specs.Recording.{VersionKnown, version-refused, callAt, RecordAt, recordQuestions, RecordingRead, recording-of}
-use Rattle.constraint.specs.Recording.{recording-refused}
-use Rattle.constraint.specs.Recording.{ReadsRecords, no-more, record-refused, record-taken, version-taken}
-use Rattle.constraint.specs.declared.Call.{Call}
-use Rattle.constraint.specs.declared.Answer.the-variants.{Taken, Refused}
-use Rattle.constraint.specs.declared.Constraint.{Constraint}
-use Rattle.constraint.proofs.Judged.{never, judged-yes, judged-all, judged-once}
-use Rattle.recording.specs.Record.{CallAt}
-use Rattle.recording.proofs.Records.{record-judged, record-refused as record-not-there, unclosed-more}
-use Rattle.monitor.specs.Machine.{stepOf as machineStep}
-use Rattle.monitor.specs.Contract.{Steps}
-use Rattle.monitor.specs.declared.Monitor.{Monitor}
-use Rattle.monitor.specs.declared.Stepped.{Stepped}
-use Rattle.lent.specs.Contract.{steppedFrom}
-use Rattle.delkuthi.specs.Taking.{Took, RecordingTakenAs, StepsBefore, at-version, at-first, behind, TakesRecording}
-use Rattle.table.specs.declared.ReadAnswer.{ReadAnswer}
-use Rattle.monitor.proofs.Theorem.{monitor-is-exact}
+use Rattle.delkuthi.proofs.Names.{Call, CallAt, Constraint, Judged, List, Monitor, ReadAnswer, ReadsRecords, RecordAt, RecordingRead}
+use Rattle.delkuthi.proofs.Names.{RecordingTakenAs, Refused, Step, Stepped, Steps, StepsBefore, Taken, TakesRecording, Took, VersionKnown, []}
+use Rattle.delkuthi.proofs.Names.{_*_, _++_, _<_, _∙_, _∷_, _≡_, _≤_, ap, arith, asks, at, at-first, at-version, behind, bodyAt, callAt}
+use Rattle.delkuthi.proofs.Names.{closed, false, judged-all, judged-once, judged-yes, lastCount, length, length-append, machineStep}
+use Rattle.delkuthi.proofs.Names.{monitor-is-exact, never, no-more, questions, record-judged, record-not-there, record-refused, record-taken}
+use Rattle.delkuthi.proofs.Names.{recordQuestions, recording-of, recording-refused, refl, stepFor, steppedFrom, subst, suc, sym, unclosed-more}
+use Rattle.delkuthi.proofs.Names.{version-refused, version-taken, zero, ℕ}
 use Rattle.delkuthi.proofs.Taking.{took-judged, took-more}
 
 -- how far a recording was taken

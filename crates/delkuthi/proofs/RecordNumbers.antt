@@ -1,18 +1,9 @@
 -- Each question of a table, of a record and of its step has a number from 1 to 127, as a test over the list computes, and so has each refusal.
-use Rattle.constraint.proofs.Library.{ℕ, _+_, _<_, arith, _≡_, refl, Bool, true, false, _&&_, List, [], _∷_, inl, inr, ltb, ltb-true}
-use Rattle.constraint.specs.Steps.{Step}
-use Rattle.constraint.specs.Accepted.{rowsQuestions}
-use Rattle.constraint.specs.Questions.{Question, Judged}
-use Rattle.constraint.specs.Run.{questions}
-use Rattle.constraint.specs.Recording.{callAt, recordQuestions, recording-refused, ReadsRecords, record-refused, record-taken, ReadsInOrder}
-use Rattle.constraint.specs.Recording.{version-refused, version-taken}
-use Rattle.constraint.specs.Stamps.{stampsQuestions, AnswersStampsUpTo, no-table, no-recording, not-asked}
-use Rattle.constraint.specs.declared.Answer.the-variants.{Refused}
-use Rattle.constraint.specs.declared.Call.{Call}
-use Rattle.constraint.specs.declared.Constraint.{Constraint}
-use Rattle.constraint.specs.declared.StampedAnswer.{StampedAnswer}
-use Rattle.constraint.proofs.Judged.{never}
-use Rattle.fresh.proofs.Refusals.{refused-small}
+use Rattle.delkuthi.proofs.Names.{AnswersStampsUpTo, Bool, Call, Constraint, Judged, List, Question, ReadsInOrder, ReadsRecords, Refused}
+use Rattle.delkuthi.proofs.Names.{StampedAnswer, Step, [], _&&_, _+_, _<_, _∷_, _≡_, arith, callAt, false, inl, inr, ltb, ltb-true, never}
+use Rattle.delkuthi.proofs.Names.{not-asked, questions, record-refused, record-taken, recordQuestions, recording-refused, refl, refused-small}
+use Rattle.delkuthi.proofs.Names.{rowsQuestions, stampsQuestions, true, version-refused, version-taken, ℕ}
+use Rattle.constraint.specs.Stamps.{no-recording, no-table}
 
 -- a number that leaves room for one bit more in its byte
 abbrev pub Short : ℕ → Type 0

@@ -1,19 +1,9 @@
 -- A refusal of the table writer has a number above 0, as each of its questions has; and a table that is written is short.
-use Rattle.constraint.proofs.Library.{ℕ, _+_, _*_, _≤_, _<_, _≡_, refl, subst, List, [], _∷_, arith, length, length-append}
-use Rattle.constraint.specs.Questions.{Question, Judged}
-use Rattle.constraint.specs.Accepted.{rowsQuestions}
-use Rattle.constraint.specs.Table.{rowBytes, rowsBytes, tableBytesIn, writerQuestions}
-use Rattle.constraint.specs.declared.Answer.the-variants.{Taken, Refused}
-use Rattle.constraint.specs.declared.Constraint.{Constraint}
-use Rattle.constraint.proofs.Judged.{never, judged-parts}
-use Rattle.constraint.proofs.Accepted.{rows-then, rows-room}
-use Rattle.table.specs.Raw.{FirstRefused, WritesRaw, all-read, stopped-at}
-use Rattle.table.specs.Writing.{Writes, answerIn}
-use Rattle.table.specs.declared.WriteAnswer.{WriteAnswer}
-use Rattle.table.proofs.Bodies.{row-length}
-use Rattle.table.proofs.Standing.{body-short}
-use Rattle.delkuthi.specs.Tables.{tableNumber, MakesTableIn}
-use Rattle.delkuthi.proofs.RecordNumbers.{short?, number-short, rows-short}
+use Rattle.delkuthi.proofs.Names.{Constraint, FirstRefused, Judged, List, MakesTableIn, Question, Refused, Taken, WriteAnswer, Writes}
+use Rattle.delkuthi.proofs.Names.{WritesRaw, [], _*_, _+_, _<_, _∷_, _≡_, _≤_, all-read, answerIn, arith, body-short, judged-parts, length}
+use Rattle.delkuthi.proofs.Names.{length-append, never, refl, row-length, rowBytes, rows-room, rows-then, rowsBytes, rowsQuestions, stopped-at}
+use Rattle.delkuthi.proofs.Names.{subst, tableBytesIn, tableNumber, writerQuestions, ℕ}
+use Rattle.delkuthi.proofs.RecordNumbers.{number-short, rows-short, short?}
 
 writer-number : {edition : ℕ} (rows : List Constraint) (before after : List ℕ) (r : WriteAnswer) (n : ℕ) → r ≡ WriteAnswer.Refused n
     → Writes edition rows before r after

@@ -1,37 +1,16 @@
 -- The report's text goes by what reading the table and the recording gave, and there is room for all of it.
-use Rattle.constraint.proofs.Library.{ℕ, suc, _+_, _*_, _/_, _%_, _≤_, _<_, _≡_, refl, sym, ap, ap₂, subst, _∙_, false, List, _∷_, [], _++_, map}
-use Rattle.constraint.proofs.Library.{add-one, arith, length, drop, drop-cons, lt-ltb, le-ltb}
-use Rattle.constraint.specs.Steps.{Step, at, close, closed}
-use Rattle.constraint.specs.Run.{done}
-use Rattle.constraint.specs.Table.{ReadsTableUpTo, table-of}
-use Rattle.constraint.specs.Report.{rowLines, closedText, refusedText, EachReads, no-row, row-reads, ReportOfUpTo, ReportsUpTo, no-table}
-use Rattle.constraint.specs.Report.{no-recording}
-use Rattle.constraint.specs.Report.{all-taken}
-use Rattle.constraint.specs.Recording.{ReadsRecording, recording-of}
-use Rattle.constraint.specs.declared.Constraint.{Constraint}
-use Rattle.constraint.specs.declared.Verdict.{Verdict}
-use Rattle.constraint.proofs.Accepted.{rows-room}
-use Rattle.constraint.proofs.History.{closed-close}
-use Rattle.constraint.proofs.Judged.{never}
-use Rattle.text.specs.Content.{emptyText, extended, Holds as Contains, Copied}
-use Rattle.text.specs.Lines.{closedLine, rowLine}
-use Rattle.text.specs.declared.Text.{Text}
-use Rattle.text.proofs.Texts.{extended-append, holds-all}
-use Rattle.text.proofs.Reports.{rows-more, closed-append, reportLimit, closed-length, refused-length, copied-reports}
-use Rattle.table.specs.declared.ReadAnswer.{ReadAnswer}
+use Rattle.delkuthi.proofs.Names.{BeginsUpTo, Constraint, Contains, Copied, EachReads, Holds, LeftBy, List, Monitor, ReadAnswer}
+use Rattle.delkuthi.proofs.Names.{ReadsRecording, ReadsTableUpTo, ReportOfUpTo, ReportsOf, ReportsOnUpTo, ReportsSteps, ReportsUpTo, Step}
+use Rattle.delkuthi.proofs.Names.{Summary, TakesRecords, Text, Verdict, Words, [], _%_, _*_, _++_, _+_, _/_, _<_, _∙_, _∷_, _≡_, _≤_, add-one}
+use Rattle.delkuthi.proofs.Names.{after, all-taken, ap, ap₂, arith, at, begun, close, closed, closed-append, closed-close, closed-length}
+use Rattle.delkuthi.proofs.Names.{closedLine, closedText, copied-reports, done, drop, drop-cons, emptyText, extended, extended-append, false}
+use Rattle.delkuthi.proofs.Names.{freshLent, holds-all, le-ltb, length, lt-ltb, map, never, no-recording, no-table, read-accepted}
+use Rattle.delkuthi.proofs.Names.{recording-of, refl, refusalOf, refused, refused-length, refusedText, reportLimit, reportText, reported}
+use Rattle.delkuthi.proofs.Names.{row-reads, rowLine, rowLines, rows-more, rows-room, subst, suc, summaryOf, sym, table-of, unclosed, unused}
+use Rattle.delkuthi.proofs.Names.{used, verdictsIn, ℕ}
+use Rattle.constraint.specs.Report.{no-row}
+use Rattle.delkuthi.proofs.{Summaries.each-summarized, Summaries.made-follows, Summaries.verdicts-few, Taking.took-follows}
 use Rattle.table.specs.declared.ReadAnswer.the-variants.{Accepted, Refused}
-use Rattle.table.proofs.AcceptedRows.{read-accepted}
-use Rattle.monitor.specs.Contract.{after}
-use Rattle.monitor.specs.declared.Monitor.{Monitor}
-use Rattle.lent.specs.Layout.{Words}
-use Rattle.lent.specs.Contract.{Holds}
-use Rattle.fresh.specs.Fresh.{freshLent, BeginsUpTo, begun, refused}
-use Rattle.page.specs.declared.Summary.{Summary}
-use Rattle.delkuthi.specs.Taking.{TakesRecords}
-use Rattle.delkuthi.specs.Reporting.{LeftBy, unused, used, ReportsOnUpTo, ReportsSteps, unclosed, reported, ReportsOf}
-use Rattle.delkuthi.specs.Summary.{refusalOf, summaryOf, verdictsIn, reportText}
-use Rattle.delkuthi.proofs.Taking.{took-follows}
-use Rattle.delkuthi.proofs.Summaries.{verdicts-few, each-summarized, made-follows}
 
 -- ---- the text
 

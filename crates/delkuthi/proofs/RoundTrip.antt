@@ -1,21 +1,12 @@
 -- §4.9 and §4.10 of the exported writer: a number that is a length answers a table that was written, and reading it gives the rows that the raw
 -- bytes stand for; and raw bytes that stand for the rows of an accepted table are written as that table.
-use Rattle.constraint.proofs.Library.{ℕ, _+_, _*_, _≤_, _<_, _≡_, refl, sym, ap, subst, _∙_, cond, List, _++_, arith, eqb, length, take, drop}
-use Rattle.constraint.specs.Bytes.{Bytes}
-use Rattle.constraint.specs.Table.{ReadsTableUpTo, table-of}
-use Rattle.constraint.specs.Steps.{at}
-use Rattle.constraint.specs.declared.Constraint.{Constraint}
-use Rattle.constraint.proofs.Lists.{split}
-use Rattle.table.specs.Raw.{rawSize, RawRows, WritesRaw}
-use Rattle.table.specs.declared.WriteAnswer.{WriteAnswer}
-use Rattle.table.proofs.Again.{raw-read}
-use Rattle.table.proofs.RawAgain.{raw-write}
-use Rattle.delkuthi.specs.Tables.{tableNumber, MakesTableIn}
+use Rattle.delkuthi.proofs.Names.{Bytes, Constraint, List, MakesTableIn, RawRows, ReadsTableUpTo, WriteAnswer, WritesRaw, _*_, _++_, _+_, _<_}
+use Rattle.delkuthi.proofs.Names.{_∙_, _≡_, _≤_, ap, arith, at, cond, drop, eqb, length, raw-read, raw-write, rawSize, refl, split, subst, sym}
+use Rattle.delkuthi.proofs.Names.{table-of, tableNumber, take, ℕ}
 
 -- the number of a refusal is no length
 no-length : (k row n : ℕ) → 0 < k → k < 256 → n * 256 ≡ tableNumber (WriteAnswer.Refused k) row → ⊥
-no-length k row n above below =
-    split (eqb k 16) (λ b. n * 256 ≡ cond b 16 (row * 256 + k) → ⊥) (λ _ same. omega arith) (λ _ same. omega arith)
+no-length k row n above below = split (eqb k 16) (λ b. n * 256 ≡ cond b 16 (row * 256 + k) → ⊥) (λ _ same. omega arith) (λ _ same. omega arith)
 
 -- what a table of an edition that was written says to a call that takes the edition
 abbrev ReadsBack : ℕ → List ℕ → List ℕ → Type 0

@@ -1,26 +1,8 @@
 -- Where no stamp is late the number that answers for late stamps is that of the closed monitor's word: both read one list of steps.
-use Rattle.constraint.proofs.Library.{ℕ, _*_, arith, _≡_, sym, ap, subst, _∙_, List, [], _∷_, _++_, map, Option, some}
-use Rattle.constraint.specs.Steps.{Step, close}
-use Rattle.constraint.specs.Continuation.{Reads, reads-open}
-use Rattle.constraint.specs.Run.{asks, Left}
-use Rattle.constraint.specs.Promise.{ReadsRow, row, no-row}
-use Rattle.constraint.specs.Table.{ReadsTableUpTo, table-of}
-use Rattle.constraint.specs.Stamps.{RepeatRow}
-use Rattle.constraint.specs.declared.Constraint.{Constraint}
-use Rattle.constraint.specs.declared.Constraint.the-variants.{Repeat}
-use Rattle.constraint.specs.declared.StampedAnswer.{StampedAnswer}
-use Rattle.constraint.specs.declared.Verdict.{Verdict}
-use Rattle.constraint.proofs.History.{valid-none, closed-close}
-use Rattle.constraint.proofs.Judged.{never}
-use Rattle.constraint.proofs.Lists.{both}
-use Rattle.constraint.proofs.Runs.{run-valid}
-use Rattle.constraint.proofs.Sanity.{run-once}
-use Rattle.monitor.specs.declared.Monitor.{Monitor}
-use Rattle.stamps.proofs.Agreement.{stampedOf, stamps-agree}
-use Rattle.table.specs.declared.ReadAnswer.{ReadAnswer}
-use Rattle.delkuthi.specs.Lent.{wordOf, WordOfVerdict}
-use Rattle.delkuthi.specs.Stamps.{stampedNumber, NumbersStampsUpTo}
-use Rattle.delkuthi.specs.Taking.{RecordingTakenAs}
+use Rattle.delkuthi.proofs.Names.{Constraint, Left, List, Monitor, NumbersStampsUpTo, Option, ReadAnswer, Reads, ReadsRow, ReadsTableUpTo}
+use Rattle.delkuthi.proofs.Names.{RecordingTakenAs, Repeat, RepeatRow, StampedAnswer, Step, Verdict, WordOfVerdict, [], _*_, _++_, _∙_, _∷_}
+use Rattle.delkuthi.proofs.Names.{_≡_, ap, arith, asks, both, close, closed-close, map, never, no-row, reads-open, row, run-once, run-valid}
+use Rattle.delkuthi.proofs.Names.{some, stampedNumber, stampedOf, stamps-agree, subst, sym, table-of, valid-none, wordOf, ℕ}
 
 -- 1 for kept and 2 for broken are 256 and 512
 numbers-agree : (c : Constraint) (steps : List Step) (v : Verdict) → Reads c (steps ++ (close ∷ [])) v
@@ -33,8 +15,7 @@ pub stamps-as-the-monitor : {newest : ℕ} (table recording : List ℕ) (rows : 
     → ReadsTableUpTo newest table (table-of rows) → RecordingTakenAs rows recording ReadAnswer.Accepted m → RepeatRow rows i k lower upper
     → WordOfVerdict m i word → NumbersStampsUpTo newest table recording i 0 number → number ≡ word * 256
 stamps-as-the-monitor table recording rows m i k lower upper word number read taken there verdict numbers =
-    let steps = taken .0 in
-    let took = taken .2 in
+    let steps = taken .0 in let took = taken .2 in
     let says = verdict .says .means rows (map asks (took .calls)) (took .accepted) (took .made) in
     of-row (says .2) (subst (λ (left : Left). ReadsRow rows (left .steps) i (says .2)) (run-once rows (says .1 .1) (took .all-taken .1) .1) (says .3))
     (says .4)

@@ -1,31 +1,10 @@
 -- The summary that is gathered row after row is the monitor's, and where the monitor follows some steps it says what each row reads after them.
-use Rattle.constraint.proofs.Library.{ℕ, zero, suc, _+_, _-_, _≤_, _<_, add-one, arith, _≡_, refl, sym, subst, _∙_, List, [], _∷_, _++_, map}
-use Rattle.constraint.proofs.Library.{append-nil, length, getD, set, take, replicate, length-map, length-take, List·getD-map, length-take-le}
-use Rattle.constraint.proofs.Library.{take-all, take-suc, set-at, append-snoc}
-use Rattle.constraint.specs.Limits.{rowLimit}
-use Rattle.constraint.specs.Steps.{Step, at}
-use Rattle.constraint.specs.Types.{typeOf}
-use Rattle.constraint.specs.Accepted.{Accepted}
-use Rattle.constraint.specs.Report.{EachReads, no-row, row-reads}
-use Rattle.constraint.specs.Page.{verdictAt}
-use Rattle.constraint.specs.Run.{Request, Left}
-use Rattle.constraint.specs.declared.Constraint.{Constraint}
-use Rattle.constraint.proofs.Lists.{getD-within}
-use Rattle.machine.proofs.FieldNumbers.{form-is}
-use Rattle.row.specs.Machine.{rowVerdict}
-use Rattle.row.specs.declared.Row.{Row}
-use Rattle.row.proofs.Engine.{engine}
-use Rattle.row.proofs.Steps.{fits-reads}
-use Rattle.monitor.specs.Machine.{noRow}
-use Rattle.monitor.specs.Contract.{after, Remains}
-use Rattle.monitor.specs.declared.Monitor.{Monitor}
-use Rattle.monitor.proofs.FittingRows.{FitRows}
-use Rattle.monitor.proofs.Following.{Follows}
-use Rattle.monitor.proofs.Withdrawing.{after-follows}
-use Rattle.page.specs.Sheet.{verdictFor}
-use Rattle.page.specs.declared.Summary.{Summary}
-use Rattle.delkuthi.specs.Printed.{printedRows}
-use Rattle.delkuthi.specs.Summary.{summaryOf, verdictsIn}
+use Rattle.delkuthi.proofs.Names.{Accepted, Constraint, EachReads, FitRows, Follows, Left, List, List·getD-map, Monitor, Remains, Request, Row}
+use Rattle.delkuthi.proofs.Names.{Step, Summary, [], _++_, _+_, _-_, _<_, _∙_, _∷_, _≡_, _≤_, add-one, after, after-follows, append-nil}
+use Rattle.delkuthi.proofs.Names.{append-snoc, arith, at, engine, fits-reads, form-is, getD, getD-within, length, length-map, length-take}
+use Rattle.delkuthi.proofs.Names.{length-take-le, map, noRow, printedRows, refl, replicate, row-reads, rowLimit, rowVerdict, set, set-at}
+use Rattle.delkuthi.proofs.Names.{subst, suc, summaryOf, sym, take, take-all, take-suc, typeOf, verdictAt, verdictFor, verdictsIn, zero, ℕ}
+use Rattle.constraint.specs.Report.{no-row}
 
 -- ---- row after row
 

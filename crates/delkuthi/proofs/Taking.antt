@@ -1,21 +1,8 @@
 -- A monitor to which some steps are left answers the next as its questions say over those steps, and where it takes it has taken one more: a list of
 -- requests has one outcome.
-use Rattle.constraint.proofs.Library.{_≡_, sym, _∙_, subst, List, [], _∷_, _++_, map}
-use Rattle.constraint.specs.Steps.{Step}
-use Rattle.constraint.specs.Questions.{Judged}
-use Rattle.constraint.specs.Run.{stepFor, questions, asks, Left}
-use Rattle.constraint.specs.declared.Answer.the-variants.{Taken}
-use Rattle.constraint.specs.declared.Call.{Call}
-use Rattle.constraint.specs.declared.Constraint.{Constraint}
-use Rattle.row.proofs.Engine.{engine}
-use Rattle.constraint.proofs.Sanity.{run-once}
-use Rattle.monitor.specs.Contract.{Steps}
-use Rattle.monitor.specs.Beside.{allTaken}
-use Rattle.monitor.specs.declared.Monitor.{Monitor}
-use Rattle.monitor.specs.declared.Stepped.{Stepped}
-use Rattle.monitor.proofs.Following.{Follows}
-use Rattle.monitor.proofs.Withdrawing.{takes-more, after-call, remains-follows}
-use Rattle.delkuthi.specs.Taking.{Took}
+use Rattle.delkuthi.proofs.Names.{Call, Constraint, Follows, Judged, Left, List, Monitor, Step, Stepped, Steps, Taken, Took, [], _++_, _∙_}
+use Rattle.delkuthi.proofs.Names.{_∷_, _≡_, after-call, allTaken, asks, engine, map, questions, remains-follows, run-once, stepFor, subst, sym}
+use Rattle.delkuthi.proofs.Names.{takes-more}
 
 module _ (rows : List Constraint) (steps : List Step) (m : Monitor) (took : Took rows steps m) where
   -- its records follow the steps

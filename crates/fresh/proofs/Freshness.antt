@@ -1,40 +1,17 @@
 -- The fresh monitor over an accepted table has its rows in its first places, and its words say what is so of it: the lists of all kinds stand one
 -- after the other among the entries, where there is room for them, and nothing waits in a row but the words that a Reaction has from the start.
-use Rattle.constraint.proofs.Library.{ℕ, zero, suc, _+_, _-_, _%_, _<_, _≤_, mod-eq-of-lt, arith, _≡_, refl, sym, ap, ap₂, subst, subst₂, _∙_, Bool}
-use Rattle.constraint.proofs.Library.{true, false, cond, List, [], _∷_, _++_, map, length, getD, set, take, replicate, length-append}
-use Rattle.constraint.proofs.Library.{length-replicate, length-map, List·getD-append, take-at, take-suc, take-length, getD-append-add, getD-at}
-use Rattle.constraint.proofs.Library.{ltb, ltb-true, ltb-false}
-use Rattle.constraint.specs.Limits.{rowLimit, waitingLimit}
-use Rattle.constraint.specs.Accepted.{Accepted}
-use Rattle.constraint.specs.Promise.{play}
-use Rattle.constraint.specs.Records.{filler}
-use Rattle.constraint.specs.Steps.{at}
-use Rattle.constraint.specs.declared.Constraint.{Constraint}
-use Rattle.constraint.proofs.Lists.{split, Each, each-none, each-cons, each-append}
+use Rattle.fresh.proofs.Names.{Accepted, Before, Bool, Constraint, Each, Indexes, Lent, List, List·getD-append, Monitor, RestZero, Roomy, Row}
+use Rattle.fresh.proofs.Names.{RowsPut, Rule, Shaped, Sound, SoundRows, Words, [], _%_, _++_, _+_, _-_, _<_, _∙_, _∷_, _≡_, _≤_, accepted-few}
+use Rattle.fresh.proofs.Names.{accepted-sound, after, ap, ap₂, arith, at, concerns, concerns-none, cond, each-append, each-cons, each-none}
+use Rattle.fresh.proofs.Names.{endOf, endsTo, false, filler, freshLent, getD, getD-append-add, getD-at, heldRows, isOf, keptAt, length}
+use Rattle.fresh.proofs.Names.{length-append, length-map, length-replicate, listedTo, ltb, ltb-false, ltb-true, map, mod-eq-of-lt, monitorOf}
+use Rattle.fresh.proofs.Names.{namedRows, noBefore, noEvent, noRow, noWords, numbers, padded, play, refl, replicate, rest-zero-fresh, rowAt}
+use Rattle.fresh.proofs.Names.{rowCount, rowLimit, rowNamed, rowOf, rowsOf, set, split, startOf, subst, subst₂, suc, sym, take, take-at}
+use Rattle.fresh.proofs.Names.{take-length, take-suc, taken-few, true, waitingLimit, withLists, words-few, wordsOf, zero, ℕ}
+use Rattle.fresh.proofs.Padding.{padded-at, padded-length, padded-next}
+use Rattle.fresh.proofs.{Lists.shaped-lists, Lists.words-known, Totals.listed-few}
 use Rattle.machine.specs.Rule as Rules
-use Rattle.machine.specs.declared.Rule.{Rule}
-use Rattle.machine.proofs.FitsRow.{words-few}
-use Rattle.row.specs.Machine.{rowOf, concerns, noEvent}
-use Rattle.row.specs.Undo.{noBefore}
-use Rattle.row.specs.Stored.{RestZero}
-use Rattle.row.specs.declared.Before.{Before}
-use Rattle.row.specs.declared.Row.{Row}
-use Rattle.row.proofs.Filling.{taken-few}
-use Rattle.row.proofs.Kept.{rest-zero-fresh}
 use Rattle.row.proofs.Exact as Exact
-use Rattle.row.proofs.OwnKinds.{concerns-none}
-use Rattle.monitor.specs.Machine.{noRow, monitorOf}
-use Rattle.monitor.specs.Contract.{after}
-use Rattle.monitor.specs.declared.Monitor.{Monitor}
-use Rattle.monitor.proofs.FittingRows.{SoundRows}
-use Rattle.monitor.proofs.Demand.{accepted-sound, accepted-few}
-use Rattle.lent.specs.Layout.{Lent, Words, wordsOf, Shaped, endOf, startOf, rowNamed, heldRows, rowAt, keptAt}
-use Rattle.lent.specs.Steps.{rowCount}
-use Rattle.lent.specs.Contract.{namedRows, rowsOf, numbers, isOf, Roomy, Sound, Indexes}
-use Rattle.fresh.specs.Fresh.{listedTo, endsTo, padded, withLists, freshLent, noWords, RowsPut}
-use Rattle.fresh.proofs.Padding.{padded-length, padded-at, padded-next}
-use Rattle.fresh.proofs.Totals.{listed-few}
-use Rattle.fresh.proofs.Lists.{shaped-lists, words-known}
 
 -- ---- the lists of the first kinds
 

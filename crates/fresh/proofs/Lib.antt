@@ -1,4 +1,5 @@
 -- Why the words of a monitor that is made fresh are those of the fresh monitor over the table.
+mod Names
 mod Padding
 mod Totals
 mod Lists

@@ -1,16 +1,10 @@
 -- The lists of a lent monitor where they lie: a store in one is a store in one part of the record. Words whose blocks are all known are a monitor's.
-use Rattle.constraint.proofs.Library.{ℕ, suc, _<_, _≤_, _/_, _%_, arith, _≡_, refl, sym, ap, ap₂, subst, _∙_, List, [], _∷_, _++_, length, getD, set}
-use Rattle.constraint.proofs.Library.{drop, drop-cons, drop-length}
-use Rattle.row.specs.Undo.{noBefore}
-use Rattle.row.specs.Stored as Stored
-use Rattle.row.specs.declared.Before.{Before}
-use Rattle.row.specs.declared.Row.{Row}
-use Rattle.monitor.specs.Machine.{noRow}
-use Rattle.lent.specs.Layout.{Lent, Words, halves, numberBlock, lastBlocks, wordsOf, rowBlocks, Shaped}
-use Rattle.fresh.specs.Fresh.{padded, withLists, RowsLie}
-use Rattle.lent.proofs.Blocks.{last-written}
-use Rattle.lent.proofs.Parts.{half-written, numbers-read, entries-read}
+use Rattle.fresh.proofs.Names.{Before, Lent, List, Row, RowsLie, Shaped, Words, [], _%_, _++_, _/_, _<_, _∙_, _∷_, _≡_, _≤_, ap, ap₂, arith}
+use Rattle.fresh.proofs.Names.{drop, drop-cons, drop-length, entries-read, getD, half-written, halves, last-written, lastBlocks, length}
+use Rattle.fresh.proofs.Names.{noBefore, noRow, numberBlock, numbers-read, padded, refl, rowBlocks, set, subst, suc, sym, withLists, wordsOf}
+use Rattle.fresh.proofs.Names.{ℕ}
 use Rattle.fresh.proofs.Padding.{padded-length}
+use Rattle.row.specs.Stored as Stored
 
 -- ---- stores
 

@@ -1,10 +1,8 @@
 -- A list that is padded with zeros: a store just behind it makes it one longer, and where it has no room for one more nothing changes.
-use Rattle.constraint.proofs.Library.{ℕ, zero, suc, _+_, _<_, _≤_, arith, _≡_, refl, sym, ap, _∙_, add-one, List, [], _∷_, _++_, append-assoc, length}
-use Rattle.constraint.proofs.Library.{getD, set, take, replicate, length-set, length-append, length-replicate, List·getD-append}
-use Rattle.constraint.proofs.Library.{replicate-append-replicate, length-take-le, take-all, take-length, take-append-le, take-set-le, take-set-lt}
-use Rattle.constraint.proofs.Library.{append-snoc, set-at, getD-take, ltb, ltb-true, ltb-false}
-use Rattle.constraint.proofs.Lists.{split}
-use Rattle.fresh.specs.Fresh.{padded}
+use Rattle.fresh.proofs.Names.{List, List·getD-append, [], _++_, _+_, _<_, _∙_, _∷_, _≡_, _≤_, add-one, ap, append-assoc, append-snoc, arith}
+use Rattle.fresh.proofs.Names.{getD, getD-take, length, length-append, length-replicate, length-set, length-take-le, ltb, ltb-false, ltb-true}
+use Rattle.fresh.proofs.Names.{padded, refl, replicate, replicate-append-replicate, set, set-at, split, suc, sym, take, take-all}
+use Rattle.fresh.proofs.Names.{take-append-le, take-length, take-set-le, take-set-lt, zero, ℕ}
 
 pub set-past : (i v : ℕ) (l : List ℕ) → length l ≤ i → set l i v ≡ l
 set-past i v l past = sym (take-all (length l) (set l i v) (omega (arith, length-set l i v))) ∙ take-set-le (length l) l i v past ∙ take-length l
@@ -19,8 +17,7 @@ module _ (list : List ℕ) where
 
   pub padded-at : (places i : ℕ) → i < length list → i < places → getD (padded places list) i 0 ≡ getD list i 0
   unfolding padded
-  padded-at places i there within =
-      getD-take places (list ++ replicate places 0) i 0 within ∙ List·getD-append list (replicate places 0) 0 i there
+  padded-at places i there within = getD-take places (list ++ replicate places 0) i 0 within ∙ List·getD-append list (replicate places 0) 0 i there
 
   -- ---- one more
 

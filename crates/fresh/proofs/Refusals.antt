@@ -1,16 +1,8 @@
 -- The refusal of a table has a number above 0 and a place close to the start: each of the rows before it, at most 32, has at most 36 bytes.
-use Rattle.constraint.proofs.Library.{ℕ, _+_, _-_, _*_, _≤_, _<_, _≡_, List, [], _∷_, inl, inr, arith, length, drop}
-use Rattle.constraint.proofs.Library.{length-drop, length-take-le}
-use Rattle.constraint.specs.Limits.{rowLimit}
-use Rattle.constraint.specs.Steps.{at}
-use Rattle.constraint.specs.Questions.{Question, Judged}
-use Rattle.constraint.specs.Table.{ShapeFits, lengthAt, bodyAt, placeQuestions, TableRead, table-of, table-refused, rowThen}
-use Rattle.constraint.specs.Table.{ReadsRows, no-more, row-refused, row-taken, ReadsTableUpTo, version-refused, version-taken}
-use Rattle.constraint.specs.declared.Answer.the-variants.{Taken, Refused}
-use Rattle.constraint.specs.declared.Constraint.{Constraint}
-use Rattle.constraint.proofs.Judged.{never}
-use Rattle.constraint.proofs.Lengths.{last-listed, length-short}
-use Rattle.table.proofs.Places.{place-taken}
+use Rattle.fresh.proofs.Names.{Constraint, Judged, List, Question, ReadsRows, ReadsTableUpTo, Refused, ShapeFits, TableRead, Taken, [], _*_}
+use Rattle.fresh.proofs.Names.{_+_, _-_, _<_, _∷_, _≡_, _≤_, arith, at, bodyAt, drop, inl, inr, last-listed, length, length-drop, length-short}
+use Rattle.fresh.proofs.Names.{length-take-le, lengthAt, never, no-more, place-taken, placeQuestions, row-refused, row-taken, rowLimit}
+use Rattle.fresh.proofs.Names.{rowThen, table-of, table-refused, version-refused, version-taken, ℕ}
 
 -- a body of fitting shape is short
 shape-short : (edition : ℕ) (body : List ℕ) → ShapeFits edition body → length body ≤ 34

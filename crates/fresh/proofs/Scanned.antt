@@ -1,19 +1,9 @@
 -- A table's rows are read again one by one, each is stored in its block, and behind the last of them nothing whole stands: the filler is read there.
-use Rattle.constraint.proofs.Library.{ℕ, zero, suc, _+_, _<_, _≤_, arith, _≡_, refl, sym, ap, subst, _∙_, List, [], _∷_, length, getD, set, drop}
-use Rattle.constraint.proofs.Library.{length-set, drop-of-length-le, getD-set-same, getD-set-other, ltb, eqb, ltb-true, ltb-false, eqb-true}
-use Rattle.constraint.proofs.Library.{eqb-false}
-use Rattle.constraint.specs.Records.{filler}
-use Rattle.constraint.specs.Table.{TableRead, table-of, table-refused, ReadsRows, no-more, row-refused, row-taken}
-use Rattle.constraint.specs.declared.Constraint.{Constraint}
-use Rattle.constraint.proofs.Judged.{never}
-use Rattle.constraint.proofs.Lists.{split}
-use Rattle.table.specs.Scan.{PlacedAt}
-use Rattle.table.specs.declared.scan.Placed.{Placed}
-use Rattle.table.proofs.Scanning.{scan-step}
+use Rattle.fresh.proofs.Names.{Constraint, List, Monitor, Placed, PlacedAt, ReadsRows, RowsPut, TableRead, Words, [], _+_, _<_, _∙_, _∷_, _≡_}
+use Rattle.fresh.proofs.Names.{_≤_, ap, arith, drop, drop-of-length-le, eqb, eqb-false, eqb-true, filler, getD, getD-set-other, getD-set-same}
+use Rattle.fresh.proofs.Names.{keptAt, length, length-set, ltb, ltb-false, ltb-true, never, no-more, refl, row-refused, row-taken, rowAt}
+use Rattle.fresh.proofs.Names.{scan-step, set, split, subst, suc, sym, table-of, table-refused, zero, ℕ}
 use Rattle.row.specs.Stored as Stored
-use Rattle.monitor.specs.declared.Monitor.{Monitor}
-use Rattle.lent.specs.Layout.{Words, rowAt, keptAt}
-use Rattle.fresh.specs.Fresh.{RowsPut}
 
 -- ---- read
 

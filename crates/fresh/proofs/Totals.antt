@@ -1,13 +1,6 @@
 -- The lists of all kinds together have at most four entries for each row: a row has four numbers for its kinds, and each of them is one kind at most.
-use Rattle.constraint.proofs.Library.{ℕ, zero, suc, _+_, _*_, _≤_, arith, _≡_, refl, ap, _∙_, Bool, true, false, cond, _||_, List, [], _∷_, length}
-use Rattle.constraint.proofs.Library.{length-append, eqb, eqb-true}
-use Rattle.constraint.specs.Steps.{among}
-use Rattle.constraint.proofs.Lists.{split}
-use Rattle.machine.specs.declared.Rule.{Rule}
-use Rattle.monitor.specs.declared.Monitor.{Monitor}
-use Rattle.lent.specs.Layout.{rowAt}
-use Rattle.lent.specs.Contract.{numbers, isOf}
-use Rattle.fresh.specs.Fresh.{listedTo}
+use Rattle.fresh.proofs.Names.{Bool, List, Monitor, Rule, [], _*_, _+_, _||_, _∙_, _∷_, _≡_, _≤_, among, ap, arith, cond, eqb, eqb-true, false}
+use Rattle.fresh.proofs.Names.{isOf, length, length-append, listedTo, numbers, refl, rowAt, split, suc, true, zero, ℕ}
 
 -- how many numbers below n pass a test
 unfoldable passing : (ℕ → Bool) → ℕ → ℕ
@@ -49,8 +42,7 @@ among-few (x ∷ list) n = omega (arith, cons-few x list n, same-few x n .0, amo
 one-more : (test : ℕ → Bool) (n : ℕ) → length (numbers test (suc n)) ≡ length (numbers test n) + cond (test n) 1 0
 one-more test n =
     length-append (numbers test n) (cond (test n) (n ∷ []) [])
-    ∙ ap (λ (k : ℕ). length (numbers test n) + k)
-    (split (test n) (λ b. length (cond b (n ∷ []) []) ≡ cond b 1 0) (λ _. refl) (λ _. refl))
+    ∙ ap (λ (k : ℕ). length (numbers test n) + k) (split (test n) (λ b. length (cond b (n ∷ []) []) ≡ cond b 1 0) (λ _. refl) (λ _. refl))
 
 module _ (m : Monitor) where
   row-more : (n kinds : ℕ) → length (listedTo m (suc n) kinds) ≡ length (listedTo m n kinds) + passing (λ k. isOf m k n) kinds

@@ -1,10 +1,10 @@
 -- A step of a row is what the clock and the close do to it, and then what an event does that concerns it: a row that is not concerned is changed
 -- by the first part alone, and one that is applies the event, as it has room and is broken or in time.
-use Rattle.lent.proofs.Names.{Before, Bool, Occurrence, Row, Rule, _<_, _∙_, _≡_, _⊎_, ap, arith, both, brokenRow, brokenState, concerns, cond}
-use Rattle.lent.proofs.Names.{crowds, endedRow, endedSaves, endedState, endsBy, eq-eqb, eqb, eventRow, eventSaves, false, appliedBefore}
-use Rattle.lent.proofs.Names.{appliedRow, inl, inr, lt-ltb, ltb, ltb-false, ltb-true, movesBy, ne-eqb, refl, rowFrom, rowStep, rule-stays}
-use Rattle.lent.proofs.Names.{saved-ended, saved-applied, savedAt, savedBy, savedRow, split, step-crowds, step-ended, step-applied, still, subst}
-use Rattle.lent.proofs.Names.{sym, true, ℕ, ⊎-elim}
+use Rattle.lent.proofs.Names.{Before, Bool, Occurrence, Row, Rule, _<_, _∙_, _≡_, _⊎_, ap, appliedBefore, appliedRow, arith, both, brokenRow}
+use Rattle.lent.proofs.Names.{brokenState, concerns, cond, crowds, endedRow, endedSaves, endedState, endsBy, eq-eqb, eqb, eventRow, eventSaves}
+use Rattle.lent.proofs.Names.{false, inl, inr, lt-ltb, ltb, ltb-false, ltb-true, movesBy, ne-eqb, refl, rowFrom, rowStep, rule-stays}
+use Rattle.lent.proofs.Names.{saved-applied, saved-ended, savedAt, savedBy, savedRow, split, step-applied, step-crowds, step-ended, still}
+use Rattle.lent.proofs.Names.{subst, sym, true, ℕ, ⊎-elim}
 
 -- ---- what a step makes of a row
 

@@ -7,10 +7,10 @@ use Rattle.lent.proofs.Names.{min, movesBy, namedRows, noBefore, noEven
 use Rattle.lent.proofs.Names.{rowNamed, rowsOf, rule-stays, saved-few, saved-state, soonestAll, soonestOf, split, startOf, step-few, still}
 use Rattle.lent.proofs.Names.{subst, suc, sym, taken, takenIn, true, visitAt, visited, waitingLimit, withRoom, withRows, withSoonest, zero}
 use Rattle.lent.proofs.Names.{zip-length, zipFirst, ℕ}
+use Rattle.lent.proofs.Concerned.{applied-late, applied-moved, ended-late, late, late-first, late-saves, late-saves-first, late-still}
+use Rattle.lent.proofs.Concerned.{late-unsaved, moved, no-ends, saved-late, saves, unconcerned, unsaved}
 use Rattle.lent.proofs.Following.{Beside, map-length, map-twice, mapped, room-left, rooms, rooms-last, row-more, row-none, same-beside, visits}
 use Rattle.lent.proofs.Following.{visits-beside, visits-last, visits-same, zip-twice, zipped}
-use Rattle.lent.proofs.Concerned.{ended-late, applied-late, applied-moved, late, late-first, late-saves, late-saves-first, late-still, late-unsaved}
-use Rattle.lent.proofs.Concerned.{moved, no-ends, saved-late, saves, unconcerned, unsaved}
 use Rattle.lent.proofs.Parts.{shaped-room}
 use Rattle.lent.proofs.Following as Following
 

@@ -11,10 +11,10 @@ pub use Rattle.constraint.specs.{Run.Request, Run.asks, Run.withdraws, Streams.
 pub use Rattle.lent.specs.Contract.{Indexes, Roomy, Sound, Takes, isOf, namedRows, numbers, rowsOf, steppedFrom, takenIn}
 pub use Rattle.lent.specs.Layout.{Lent, Shaped, Words, dueAt, endOf, halves, heldRows, keptAt, lastBlocks, numberArray, numberBlock, rowAt}
 pub use Rattle.lent.specs.Layout.{rowNamed, startOf}
-pub use Rattle.lent.specs.Steps.{OnStream, Stores, answerTo, backRows, backed, begun, countedMonitor, countedOn, countedTo, crowded, crowdedAt}
-pub use Rattle.lent.specs.Steps.{crowdedOn, endAt, ended, fullest, appliedOn, leaves, leftAfter, leftOn, nextNumber, numberOf, passed, refusalOf}
-pub use Rattle.lent.specs.Steps.{roomAfter, roomFor, roomed, rowCount, soonestAll, soonestOf, uncountedMonitor, visitAt, visited, withClosed}
-pub use Rattle.lent.specs.Steps.{withMonitor, withNext, withRoom, withRow, withSoonest, withdrawnLent}
+pub use Rattle.lent.specs.Steps.{OnStream, Stores, answerTo, appliedOn, backRows, backed, begun, countedMonitor, countedOn, countedTo, crowded}
+pub use Rattle.lent.specs.Steps.{crowdedAt, crowdedOn, endAt, ended, fullest, leaves, leftAfter, leftOn, nextNumber, numberOf, passed}
+pub use Rattle.lent.specs.Steps.{refusalOf, roomAfter, roomFor, roomed, rowCount, soonestAll, soonestOf, uncountedMonitor, visitAt, visited}
+pub use Rattle.lent.specs.Steps.{withClosed, withMonitor, withNext, withRoom, withRow, withSoonest, withdrawnLent}
 pub use Rattle.machine.specs.{Parts.plus, declared.Rule.Rule, declared.State.State}
 pub use Rattle.monitor.proofs.First.{any-all, map-all, map-behind, without-all, without-next, without-none, zip-all, zip-behind, zip-length, zip-next}
 pub use Rattle.monitor.proofs.First.{zip-none}
@@ -23,7 +23,7 @@ pub use Rattle.monitor.specs.Machine.{nextFor, nextStep, noRow, refuses, steppe
 pub use Rattle.monitor.specs.{Contract.Steps, Parts.rowsWithout, Parts.withRows, declared.Monitor.Monitor}
 pub use Rattle.questions.specs.{Questions.occurrenceBy, Questions.ownRefusal, Questions.placeIn, Questions.timeRefusal, declared.Undo.Undo}
 pub use Rattle.queue.proofs.Shared.{cond-false, cond-true}
-pub use Rattle.row.proofs.Apart.{kept-state, rule-stays, saved-ended, saved-few, saved-applied, saved-state, step-ended, step-few, step-applied}
+pub use Rattle.row.proofs.Apart.{kept-state, rule-stays, saved-applied, saved-ended, saved-few, saved-state, step-applied, step-ended, step-few}
 pub use Rattle.row.proofs.Apart.{without-state}
 pub use Rattle.row.proofs.Filling.{quiet-taken, room-fits, room-free, room-less, taken, taken-few, taken-rises}
 pub use Rattle.row.proofs.Kept.{rest-zero-ended, rest-zero-event, rest-zero-keeps, rest-zero-without}

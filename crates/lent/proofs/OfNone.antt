@@ -4,7 +4,7 @@ use Rattle.lent.proofs.Names.{append-nil, arith, begun, cond, countedTo
 use Rattle.lent.proofs.Names.{occurrenceBy, quiet-taken, refl, refuses, rowAt, rowStep, subst, suc, sym, takenCall, takenIn, takes, withRoom}
 use Rattle.lent.proofs.Names.{withSoonest, zero, ℕ}
 use Rattle.lent.proofs.Counted.{Answered, all-rows, renumbered-indexes, takenFrom, undoAt}
-use Rattle.lent.proofs.{Following.any-numbers, Following.anyIn, Concerned.calm, Concerned.moved, Concerned.saves, Listing.all-stepped}
+use Rattle.lent.proofs.{Concerned.calm, Concerned.moved, Concerned.saves, Following.any-numbers, Following.anyIn, Listing.all-stepped}
 use Rattle.lent.proofs.{Listing.some-late, Listing.step-indexes, Parts.shaped-begun, Parts.shaped-ended, Parts.shaped-soonest, Room.step-crowd}
 use Rattle.monitor.specs.Machine as Machine
 use Rattle.lent.proofs.Listing as Listing

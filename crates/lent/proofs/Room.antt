@@ -5,7 +5,7 @@ use Rattle.lent.proofs.Names.{anyFirst, ap, arith, cond, crowded, crowd
 use Rattle.lent.proofs.Names.{fullest, heldRows, isOf, keptAt, larger, le-trans, length, ltb, ltb-false, ltb-true, min, namedRows, noRow}
 use Rattle.lent.proofs.Names.{numbers, refl, room-free, roomFor, roomed, rowAt, rowCount, rowNamed, rowStep, split, startOf, step-crowds}
 use Rattle.lent.proofs.Names.{subst, suc, sym, taken-few, takenIn, true, zero, ℕ}
-use Rattle.lent.proofs.{Following.any-last, Following.any-none, Following.any-numbers, Following.any-same, Following.anyIn, Concerned.calm}
+use Rattle.lent.proofs.{Concerned.calm, Following.any-last, Following.any-none, Following.any-numbers, Following.any-same, Following.anyIn}
 
 -- ---- the fullest row
 

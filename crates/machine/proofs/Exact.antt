@@ -1,19 +1,7 @@
 -- What each row type proves of its machine, so that whoever steps rows never looks inside a type.
-use Rattle.constraint.proofs.Library.{ℕ, _≤_, _<_, _≡_, Bool, true, false, cond, List, [], _∷_, _++_, length}
-use Rattle.constraint.specs.Limits.{lastTime, noLimit, waitingLimit}
-use Rattle.constraint.specs.Steps.{Step, event, tick, at, own, clock, closed}
-use Rattle.constraint.specs.Meets.{Meets}
-use Rattle.constraint.specs.Continuation.{Open}
-use Rattle.constraint.specs.Waiting.{waiting}
-use Rattle.constraint.specs.Accepted.{kinds, KindsFit, KindsSuit, InRange, LowerFirst}
-use Rattle.constraint.proofs.Streams.{streams}
-use Rattle.constraint.specs.declared.Constraint.{Constraint}
-use Rattle.constraint.proofs.History.{Accepts, Past}
-use Rattle.queue.specs.Ring.{changed}
-use Rattle.machine.specs.Rule.{ruleOf, waitsIn, startWords}
-use Rattle.machine.specs.Parts.{noMarks}
-use Rattle.machine.specs.declared.Marks.{Marks}
-use Rattle.machine.specs.declared.Change.{Change}
+use Rattle.machine.proofs.Names.{Accepts, Bool, Change, Constraint, InRange, KindsFit, KindsSuit, List, LowerFirst, Marks, Meets, Open, Past}
+use Rattle.machine.proofs.Names.{Step, [], _++_, _<_, _∷_, _≡_, _≤_, at, changed, clock, closed, cond, event, false, kinds, lastTime, length}
+use Rattle.machine.proofs.Names.{noLimit, noMarks, own, ruleOf, startWords, streams, tick, true, waiting, waitingLimit, waitsIn, ℕ}
 
 -- a row whose answers to questions 5, 18, 6 and 7 are yes
 pub record Sound (c : Constraint) : Type 0 where

@@ -1,24 +1,15 @@
 -- A constraint's numbers are read off its fields one by one, so what is true of them is shown field by field: the type is the constraint's, and the
 -- kinds are its kinds in their order.
-use Rattle.constraint.proofs.Library.{ℕ, _+_, _<_, arith, _≡_, refl, sym, ap, _∙_, true, false, cond, List, [], _∷_, _++_, _≢_, ⊎-elim, eqb-true}
-use Rattle.constraint.proofs.Library.{ne-eqb, eqb, length, take, drop, replicate, take-take}
-use Rattle.constraint.specs.Steps.{at}
-use Rattle.constraint.specs.Types.{kind, coloured, count, span, lower, upper, upper-or-none, plain, jitter, minimum, len, tolerance}
-use Rattle.constraint.specs.Types.{Field, byte, time, typeOf, fieldsOf}
-use Rattle.constraint.specs.Accepted.{kindsIn, kinds}
-use Rattle.constraint.specs.Records.{isKind, byteField, timeField, fieldAt, fieldsAs, HoldsRow, bytesFrom, timesFrom}
-use Rattle.constraint.specs.declared.Constraint.{Constraint}
-use Rattle.constraint.specs.declared.fields.Fields.{Fields}
-use Rattle.constraint.proofs.Lists.{split, both, or-true}
-use Rattle.constraint.proofs.FieldByField.{fields-next}
-use Rattle.machine.specs.Rule.{noKind, noFields, withKind, withLimits, withField, withFields, ruleOf}
-use Rattle.machine.specs.declared.Rule.{Rule}
+use Rattle.machine.proofs.Names.{Constraint, Field, Fields, HoldsRow, List, Rule, [], _++_, _+_, _<_, _∙_, _∷_, _≡_, _≢_, ap, arith, at, both}
+use Rattle.machine.proofs.Names.{byte, byteField, bytesFrom, coloured, cond, count, drop, eqb, eqb-true, false, fieldAt, fields-next, fieldsAs}
+use Rattle.machine.proofs.Names.{fieldsOf, isKind, jitter, kind, kinds, kindsIn, len, length, lower, minimum, ne-eqb, noFields, noKind}
+use Rattle.machine.proofs.Names.{or-true, plain, refl, replicate, ruleOf, span, split, sym, take, take-take, time, timeField, timesFrom}
+use Rattle.machine.proofs.Names.{tolerance, true, typeOf, upper, upper-or-none, withField, withFields, withKind, withLimits, ℕ, ⊎-elim}
 
 -- ---- one field
 
 pub kind-byte : (role x : ℕ) (r : Rule) → isKind role ≡ true → withFields (fieldAt byteField role x) r ≡ withKind x r
-kind-byte role x r is =
-    ⊎-elim (λ e. rw (eqb-true role 255 e)) (λ e. rw (eqb-true role 253 e)) (or-true (eqb role 255) (eqb role 253) is)
+kind-byte role x r is = ⊎-elim (λ e. rw (eqb-true role 255 e)) (λ e. rw (eqb-true role 253 e)) (or-true (eqb role 255) (eqb role 253) is)
 
 pub span-byte : (role x : ℕ) (r : Rule) → role ≢ 0 → role ≢ 254 → isKind role ≡ false
     → withFields (fieldAt byteField role x) r ≡ withLimits x (r .lower) (r .upper) (r .jitter) (r .minimum) r
@@ -90,8 +81,7 @@ kindsOf r = r .first ∷ r .second ∷ r .third ∷ r .fourth ∷ []
 
 kind-first : (x : ℕ) (fields : List Field) (r : Rule) → kindsOf (withFields fields r) ≡ take 4 (kindsIn fields ++ kindsOf r)
     → kindsOf (withKind x (withFields fields r)) ≡ x ∷ take 3 (kindsIn fields ++ kindsOf r)
-kind-first x fields r e =
-    ap (λ (ks : List ℕ). x ∷ ks) (ap (take 3) e ∙ take-take 3 4 (kindsIn fields ++ kindsOf r) (omega arith))
+kind-first x fields r e = ap (λ (ks : List ℕ). x ∷ ks) (ap (take 3) e ∙ take-take 3 4 (kindsIn fields ++ kindsOf r) (omega arith))
 
 kinds-first : (fields : List Field) (r : Rule) → kindsOf (withFields fields r) ≡ take 4 (kindsIn fields ++ kindsOf r)
 kinds-first [] r = refl

@@ -1,18 +1,9 @@
 -- What a row asks of a machine beside that it is exact: its words keep all that a step changes, and how many times it keeps tells when an event
 -- would let more wait than its 64 places hold. What several types share in proving it goes by the edit of a change.
-use Rattle.constraint.proofs.Library.{ℕ, _+_, _-_, _<_, _≤_, arith, _≡_, refl, sym, Bool, true, false, cond, List, [], _∷_, _++_, ltb, length, set}
-use Rattle.constraint.proofs.Library.{drop, length-append, length-drop, length-set, lt-ltb, le-ltb, ltb-true, ltb-false, eqb}
-use Rattle.constraint.specs.Limits.{waitingLimit}
-use Rattle.constraint.proofs.Lists.{split}
-use Rattle.queue.specs.Ring.{changed}
-use Rattle.queue.specs.declared.Edit.the-variants.{Drop, Store}
-use Rattle.machine.specs.Rule.{wordsOf}
-use Rattle.machine.specs.Parts.{noMarks, continuesWith, breaking}
-use Rattle.machine.specs.Words.{noneKept, lastKept, firstThreeKept, countsKept}
-use Rattle.machine.specs.Machine.{Machine, fillsNever, noneTaken, eachTaken, noMachine}
-use Rattle.machine.specs.declared.Rule.{Rule}
-use Rattle.machine.specs.declared.Marks.{Marks}
-use Rattle.machine.specs.declared.Change.{Change}
+use Rattle.machine.proofs.Names.{Bool, Change, Drop, List, Machine, Marks, Rule, Store, [], _++_, _+_, _-_, _<_, _∷_, _≡_, _≤_, arith}
+use Rattle.machine.proofs.Names.{breaking, changed, cond, continuesWith, countsKept, drop, eachTaken, eqb, false, fillsNever, firstThreeKept}
+use Rattle.machine.proofs.Names.{lastKept, le-ltb, length, length-append, length-drop, length-set, lt-ltb, ltb, ltb-false, ltb-true, noMachine}
+use Rattle.machine.proofs.Names.{noMarks, noneKept, noneTaken, refl, set, split, sym, true, waitingLimit, wordsOf, ℕ}
 
 -- ---- the marks
 

@@ -1,4 +1,5 @@
 -- What each row type proves of its machine, and what several types share.
+mod Names
 pub mod FieldNumbers
 pub mod Exact
 pub mod FitsRow

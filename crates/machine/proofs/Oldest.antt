@@ -1,13 +1,7 @@
 -- The oldest of the times that a row keeps, and the due time that it gives: by cases on the list.
-use Rattle.constraint.proofs.Library.{ℕ, zero, suc, _+_, _≤_, _<_, arith, _≡_, refl, sym, _∙_, false, List, [], _∷_, _++_, leb, eqb, length, drop}
-use Rattle.constraint.proofs.Library.{le-leb, lt-leb, eq-eqb, ne-eqb}
-use Rattle.constraint.specs.Limits.{lastTime}
-use Rattle.constraint.specs.Steps.{at}
-use Rattle.constraint.proofs.Lists.{Each, each-none, each-cons, Rising}
-use Rattle.queue.specs.Ring.{ring, timeAt}
-use Rattle.queue.proofs.Laws.{ring-length, ring-cons}
-use Rattle.queue.proofs.Shared.{leb-same}
-use Rattle.machine.specs.Parts.{plus, front, none-left, dueOr, dueOldest}
+use Rattle.machine.proofs.Names.{Each, List, Rising, [], _++_, _+_, _<_, _∙_, _∷_, _≡_, _≤_, arith, at, drop, dueOldest, dueOr, each-cons}
+use Rattle.machine.proofs.Names.{each-none, eq-eqb, eqb, false, front, lastTime, le-leb, leb, leb-same, length, lt-leb, ne-eqb, none-left}
+use Rattle.machine.proofs.Names.{plus, refl, ring, ring-cons, ring-length, suc, sym, timeAt, zero, ℕ}
 
 -- ---- the oldest time
 
@@ -31,8 +25,7 @@ none-left-dropped [] n zero e = le-leb n 0 (omega arith)
 none-left-dropped [] n (suc d) e = le-leb n (suc d) (omega arith)
 none-left-dropped (t ∷ times) n zero e = lt-leb n 0 (omega arith)
 none-left-dropped (t ∷ times) zero (suc d) e = absurd (omega arith)
-none-left-dropped (t ∷ times) (suc n) (suc d) e =
-    leb-same (suc n) (suc d) n d (omega arith) (omega arith) ∙ none-left-dropped times n d (omega arith)
+none-left-dropped (t ∷ times) (suc n) (suc d) e = leb-same (suc n) (suc d) n d (omega arith) (omega arith) ∙ none-left-dropped times n d (omega arith)
 
 pub none-left-pushed : (times : List ℕ) (t : ℕ) → none-left (times ++ (t ∷ [])) ≡ false
 none-left-pushed [] t = refl

@@ -1,22 +1,11 @@
 -- A row of one kind that is open exactly while the recorded events meet it at the present clock: what it says of some events at a clock it
 -- says of the first of them at every clock before the others, so the empty continuation is the best, and the close does not break it.
-use Rattle.constraint.proofs.Library.{ℕ, zero, suc, _≤_, _<_, arith, _≡_, refl, sym, subst, Bool, true, false, true≢false, List, [], _∷_, _++_}
-use Rattle.constraint.proofs.Library.{append-nil, _↔_, length}
-use Rattle.constraint.specs.Limits.{lastTime, noLimit, waitingLimit}
-use Rattle.constraint.specs.Steps.{Step, event, tick, at, times, own, clock}
-use Rattle.constraint.specs.Meets.{Meets}
-use Rattle.constraint.specs.Continuation.{Open, stop}
-use Rattle.constraint.specs.Waiting.{waiting}
-use Rattle.constraint.proofs.Streams.{streams}
-use Rattle.constraint.specs.declared.Constraint.{Constraint}
-use Rattle.constraint.proofs.Lists.{Each, Rising, rising-snoc}
-use Rattle.constraint.proofs.History.{Accepts, Past, times-append, times-own, times-tick, clock-event, clock-tick}
-use Rattle.constraint.proofs.Continuations.{SameTimes, same-times, continues-late, continues-clock}
-use Rattle.machine.specs.Rule.{ruleOf, waitsIn, startWords}
-use Rattle.machine.specs.Parts.{noMarks}
-use Rattle.machine.specs.declared.Marks.{Marks}
-use Rattle.machine.specs.declared.Change.{Change}
-use Rattle.machine.proofs.Exact.{OfStream, Starts, GoesOn, ByOutcome, outcome-map, Exact}
+use Rattle.machine.proofs.Names.{Accepts, Bool, Change, Constraint, Each, List, Marks, Meets, Open, Past, Rising, SameTimes, Step, [], _++_}
+use Rattle.machine.proofs.Names.{_<_, _↔_, _∷_, _≡_, _≤_, append-nil, arith, at, clock, clock-event, clock-tick, continues-clock}
+use Rattle.machine.proofs.Names.{continues-late, event, false, lastTime, length, noLimit, noMarks, own, refl, rising-snoc, ruleOf, same-times}
+use Rattle.machine.proofs.Names.{startWords, stop, streams, subst, suc, sym, tick, times, times-append, times-own, times-tick, true}
+use Rattle.machine.proofs.Names.{true≢false, waiting, waitingLimit, waitsIn, zero, ℕ}
+use Rattle.machine.proofs.Exact.{ByOutcome, Exact, GoesOn, OfStream, Starts, outcome-map}
 
 -- the close never breaks it
 abbrev always : Marks → List ℕ → Bool
@@ -73,8 +62,7 @@ module _ (c : Constraint) (decide : Marks → List ℕ → ℕ → ℕ → Chang
   says-now steps now e (further, follows, meets) =
       let says : r .Says (times (r .kind) (steps ++ further)) (clock (steps ++ further)) = r .meets (steps ++ further) .0 meets in
       r .says-first (times (r .kind) steps) (times (r .kind) further) now (clock (steps ++ further)) (omega (arith, continues-clock follows))
-      (rw e at (continues-late follows (r .kind)))
-      (rw (times-append (r .kind) steps further) at says)
+      (rw e at (continues-late follows (r .kind))) (rw (times-append (r .kind) steps further) at says)
 
   -- after the events of the row that are recorded, and one more
   breaks : (steps : List Step) (t : ℕ) → ¬ r .Says (times (r .kind) steps ++ (t ∷ [])) t → ¬ Open c (steps ++ (event (r .kind) t ∷ []))

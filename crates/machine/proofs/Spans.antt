@@ -1,12 +1,8 @@
 -- Events that are so far apart: what one more event adds is its distance from the one span places before it.
-use Rattle.constraint.proofs.Library.{ℕ, suc, _+_, _-_, _≤_, arith, decLt, _≡_, refl, true, false, List, [], _∷_, _++_, inl, by-cases, length}
-use Rattle.constraint.proofs.Library.{length-append, leb, eqb, eqb-true, eqb-false}
-use Rattle.constraint.specs.Limits.{noLimit}
-use Rattle.constraint.specs.Steps.{at}
-use Rattle.constraint.specs.Meets.{Apart, SpansApart, AtLeastApart}
-use Rattle.constraint.proofs.Lists.{at-left, at-next, Rising, rising-by}
-use Rattle.machine.specs.Parts.{farEnough}
-use Rattle.machine.proofs.Tests.{Tells, tells-leb, tells-same, tells-or}
+use Rattle.machine.proofs.Names.{Apart, AtLeastApart, List, Rising, SpansApart, [], _++_, _+_, _-_, _∷_, _≡_, _≤_, arith, at, at-left, at-next}
+use Rattle.machine.proofs.Names.{by-cases, decLt, eqb, eqb-false, eqb-true, false, farEnough, inl, leb, length, length-append, noLimit, refl}
+use Rattle.machine.proofs.Names.{rising-by, suc, true, ℕ}
+use Rattle.machine.proofs.Tests.{Tells, tells-leb, tells-or, tells-same}
 
 module _ (span lower upper : ℕ) where
   pub apart-first : (xs ys : List ℕ) → SpansApart span lower upper (xs ++ ys) → SpansApart span lower upper xs

@@ -1,6 +1,5 @@
 -- Tests that tell whether something holds.
-use Rattle.constraint.proofs.Library.{ℕ, _≤_, arith, _≡_, refl, Bool, true, false, _&&_, _||_, leb, leb-true, leb-false}
-use Rattle.constraint.proofs.Lists.{split}
+use Rattle.machine.proofs.Names.{Bool, _&&_, _||_, _≡_, _≤_, arith, false, leb, leb-false, leb-true, refl, split, true, ℕ}
 
 pub data Tells (P : Type 0) : Bool → Type 0 where
   holds : P → Tells P true

@@ -1,22 +1,11 @@
 -- Rows of a source kind and a target kind: what is proved over their lists of times holds of the steps that recorded them.
-use Rattle.constraint.proofs.Library.{ℕ, zero, suc, _≤_, _<_, arith, _≡_, sym, subst, subst₂, transport, Bool, true, false, List, [], _∷_, _++_}
-use Rattle.constraint.proofs.Library.{append-nil, _⊎_, inl, inr, length}
-use Rattle.constraint.specs.Limits.{lastTime}
-use Rattle.constraint.specs.Steps.{Step, event, tick, at, times, own, clock, closed}
-use Rattle.constraint.specs.Meets.{Meets}
-use Rattle.constraint.specs.Continuation.{Open}
-use Rattle.constraint.specs.Waiting.{waiting}
-use Rattle.constraint.specs.Accepted.{kinds, KindsFit}
-use Rattle.constraint.proofs.Streams.{streams}
-use Rattle.constraint.specs.declared.Constraint.{Constraint}
-use Rattle.constraint.proofs.Lists.{Each, Rising}
-use Rattle.constraint.proofs.History.{Accepts, Past, times-append, times-own, times-other, times-tick, clock-event, clock-tick}
-use Rattle.constraint.proofs.Continuations.{SameTimes, same-times, events, continues-late, continues-events, times-events, times-no-events}
-use Rattle.machine.specs.Rule.{ruleOf, waitsIn, startWords}
-use Rattle.machine.specs.declared.Marks.{Marks}
-use Rattle.machine.specs.declared.Change.{Change}
-use Rattle.machine.proofs.Exact.{OfStream, Starts, GoesOn, Waits, ByOutcome, outcome-map, Exact}
-use Rattle.machine.proofs.SeveralKinds.{kinds-stream, kinds-apart, by-place}
+use Rattle.machine.proofs.Names.{Accepts, Bool, Change, Constraint, Each, KindsFit, List, Marks, Meets, Open, Past, Rising, SameTimes, Step}
+use Rattle.machine.proofs.Names.{[], _++_, _<_, _∷_, _≡_, _≤_, _⊎_, append-nil, arith, at, clock, clock-event, clock-tick, closed}
+use Rattle.machine.proofs.Names.{continues-events, continues-late, event, events, false, inl, inr, kinds, lastTime, length, own, ruleOf}
+use Rattle.machine.proofs.Names.{same-times, startWords, streams, subst, subst₂, suc, sym, tick, times, times-append, times-events}
+use Rattle.machine.proofs.Names.{times-no-events, times-other, times-own, times-tick, transport, true, waiting, waitsIn, zero, ℕ}
+use Rattle.machine.proofs.Exact.{ByOutcome, Exact, GoesOn, OfStream, Starts, Waits, outcome-map}
+use Rattle.machine.proofs.SeveralKinds.{by-place, kinds-apart, kinds-stream}
 
 -- what is known of the times recorded up to a clock
 pub record UpTo (now : ℕ) (sources targets : List ℕ) : Type 0 where
@@ -32,8 +21,7 @@ Further now times Meet = (further : List ℕ) × Rising (times ++ further) × Ea
 
 -- no further times from t on do
 abbrev pub Lost : ℕ → (List ℕ → List ℕ → Type 0) → List ℕ → List ℕ → Type 0
-Lost t Meet sources targets =
-    (fs gs : List ℕ) → Each (λ s. t ≤ s) fs → Each (λ y. t ≤ y) gs → ¬ Meet (sources ++ fs) (targets ++ gs)
+Lost t Meet sources targets = (fs gs : List ℕ) → Each (λ s. t ≤ s) fs → Each (λ y. t ≤ y) gs → ¬ Meet (sources ++ fs) (targets ++ gs)
 
 -- what a row of two kinds proves over its lists of times; the parts are those of `Exact`
 pub record TwoKinds (decide : Marks → List ℕ → ℕ → ℕ → Change) (source target : ℕ) (Meet : List ℕ → List ℕ → Type 0)
@@ -131,8 +119,7 @@ module _ {c : Constraint} {source target : ℕ} {Meet : List ℕ → List ℕ �
 
   abbrev Does : List Step → Marks → List ℕ → ℕ → ℕ → Type 0
   Does steps marks held k t =
-      ByOutcome (¬ Open c (steps ++ (event k t ∷ [])))
-      (GoesOn (Live (steps ++ (event k t ∷ []))) (laws .due) (laws .kept) held t)
+      ByOutcome (¬ Open c (steps ++ (event k t ∷ []))) (GoesOn (Live (steps ++ (event k t ∷ []))) (laws .due) (laws .kept) held t)
       (decide marks held k t)
 
   -- what the event makes of the two lists it makes of the steps

@@ -1,8 +1,5 @@
 -- A call's answer goes by the number of its first "no" but 12: refused by it, or crowded, or taken.
-use Rattle.constraint.proofs.Library.{ℕ, _≤_, _<_, _≡_, true, false, lt-ltb, le-ltb}
-use Rattle.constraint.specs.declared.Call.{Call}
-use Rattle.monitor.specs.Machine.{refuses, takes, crowds, takenCall, steppedBy}
-use Rattle.monitor.specs.declared.Monitor.{Monitor}
+use Rattle.monitor.proofs.Names.{Call, Monitor, _<_, _≡_, _≤_, crowds, false, le-ltb, lt-ltb, refuses, steppedBy, takenCall, takes, true, ℕ}
 
 module _ (m : Monitor) (call : Call) (number : ℕ) where
   pub refused-by : 0 < number → refuses number m ≡ steppedBy m call number

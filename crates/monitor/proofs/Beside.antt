@@ -1,29 +1,13 @@
 -- Why a row reads the same after two lists of steps that stand beside each other: step by step both make the same record of
 -- it, and what it reads is read off its record. The other rows of a table have no part in this but to have taken the steps.
-use Rattle.constraint.proofs.Library.{ℕ, zero, suc, _+_, arith, _≡_, refl, sym, ap, ap₂, _∙_, subst, subst₂, false, List, [], _∷_, _++_, map}
-use Rattle.constraint.proofs.Library.{append-nil, append-assoc, some, length, take, getElem?, length-append}
-use Rattle.constraint.specs.Steps.{Step, event, tick, close, clock, closed}
-use Rattle.constraint.specs.Continuation.{Reads}
-use Rattle.constraint.specs.Questions.{Judged}
-use Rattle.constraint.specs.Run.{stepFor, Room, questions, asks, Left, noneLeft, leftBy, Run, done, request}
-use Rattle.constraint.specs.declared.Answer.the-variants.{Taken}
-use Rattle.constraint.specs.declared.Call.{Call}
-use Rattle.constraint.specs.declared.Constraint.{Constraint}
-use Rattle.constraint.specs.declared.Verdict.{Verdict}
-use Rattle.constraint.proofs.Lists.{split}
-use Rattle.constraint.proofs.History.{clock-event, clock-tick, clock-close, closed-event, closed-tick, closed-close}
-use Rattle.constraint.proofs.History.{Accepts, Valid, valid-none, valid-more}
-use Rattle.constraint.proofs.LastQuestion.{judged-last}
-use Rattle.constraint.proofs.Runs.{accepts-taken}
-use Rattle.machine.specs.Rule.{ruleOf}
-use Rattle.row.specs.Machine.{rowOf, tickAt, closeAt, rowStep, rowVerdict}
-use Rattle.row.specs.declared.Row.{Row}
-use Rattle.row.specs.declared.RowStep.{RowStep}
-use Rattle.row.proofs.Exact.{Sound, Exact}
-use Rattle.row.proofs.Steps.{Fits, After, seen, fits-start, fits-step, close-calm, fits-reads}
-use Rattle.row.proofs.Independent.{event-as-tick}
-use Rattle.row.proofs.Engine.{engine}
-use Rattle.monitor.specs.Beside.{OtherAt, Beside, same-event, others, closes, EachBeside, no-more, place, allTaken, TakesAll}
+use Rattle.monitor.proofs.Names.{Accepts, After, Beside, Call, Constraint, EachBeside, Exact, Fits, Judged, Left, List, OtherAt, Reads, Room}
+use Rattle.monitor.proofs.Names.{Row, RowStep, Run, Sound, Step, Taken, TakesAll, Valid, Verdict, [], _++_, _+_, _∙_, _∷_, _≡_, accepts-taken}
+use Rattle.monitor.proofs.Names.{allTaken, ap, append-assoc, append-nil, ap₂, arith, asks, clock, clock-close, clock-event, clock-tick, close}
+use Rattle.monitor.proofs.Names.{close-calm, closeAt, closed, closed-close, closed-event, closed-tick, closes, done, engine, event}
+use Rattle.monitor.proofs.Names.{event-as-tick, false, fits-reads, fits-start, fits-step, getElem?, judged-last, leftBy, length, length-append}
+use Rattle.monitor.proofs.Names.{map, no-more, noneLeft, others, place, questions, refl, request, rowOf, rowStep, rowVerdict, ruleOf}
+use Rattle.monitor.proofs.Names.{same-event, seen, some, split, stepFor, subst, subst₂, suc, sym, take, tick, tickAt, valid-more, valid-none}
+use Rattle.monitor.proofs.Names.{zero, ℕ}
 
 -- ---- calls that are all taken
 
@@ -137,8 +121,7 @@ module _ (c : Constraint) (sound : Sound c) where
         other-as-tick past r (both .fits .rule-is) a accepts t (length past + 1) p
         ∙ ap (λ n. rowStep r (tickAt t) (n + 1)) (both .count-same)
         ∙ sym (other-as-tick past′ r (both .fits .rule-is) b accepts′ t (length past′ + 1) q)
-    moved-same a b accepts accepts′ closes =
-        ap₂ (λ (now n : ℕ). rowStep r (closeAt now) (n + 1)) (both .clock-same) (both .count-same)
+    moved-same a b accepts accepts′ closes = ap₂ (λ (now n : ℕ). rowStep r (closeAt now) (n + 1)) (both .clock-same) (both .count-same)
 
     clock-after : (a b : Step) → Beside c a b → clock (past ++ (a ∷ [])) ≡ clock (past′ ++ (b ∷ []))
     clock-after a b (same-event k t own) = clock-event k t past ∙ sym (clock-event k t past′)

@@ -1,31 +1,13 @@
 -- §3.6: a refusal leaves the monitor as it was, a fresh monitor follows the empty list of steps, and the rows of one that follows some steps read
 -- what the
 -- definitions say.
-use Rattle.constraint.proofs.Library.{ℕ, zero, suc, _+_, _-_, _≤_, _<_, decLt, arith, _≡_, refl, ap, subst, Bool, true, false, cond, List, [], _∷_}
-use Rattle.constraint.proofs.Library.{inl, inr, by-cases, Option, none, some, length, getD, replicate, getElem?, getD-replicate}
-use Rattle.constraint.proofs.Library.{length-replicate, ltb, lt-ltb, le-ltb}
-use Rattle.constraint.specs.Limits.{rowLimit}
-use Rattle.constraint.specs.Steps.{Step, times, clockFrom, closed}
-use Rattle.constraint.specs.Continuation.{BrokenAt, Reads, reads-broken}
-use Rattle.constraint.specs.Questions.{Judged}
-use Rattle.constraint.specs.Accepted.{rowsQuestions, Accepted}
-use Rattle.constraint.specs.Promise.{ReadsRow, row, no-row}
-use Rattle.constraint.specs.declared.Answer.the-variants.{Taken, Refused}
-use Rattle.constraint.specs.declared.Call.{Call}
-use Rattle.constraint.specs.declared.Constraint.{Constraint}
-use Rattle.constraint.specs.declared.Verdict.{Verdict}
-use Rattle.constraint.proofs.History.{Valid, valid-none}
-use Rattle.constraint.proofs.Counting.{nextFree}
-use Rattle.constraint.proofs.Accepted.{rows-room}
-use Rattle.constraint.proofs.Judged.{never}
-use Rattle.constraint.proofs.Runs.{reads-once}
-use Rattle.row.specs.Machine.{rowVerdict}
-use Rattle.row.proofs.Exact.{Sound, Exact}
-use Rattle.monitor.specs.Machine.{noRow, monitorOf, refuses, takes, crowds, takenCall, stepOf, verdictOf, refusalFor}
-use Rattle.monitor.specs.declared.Monitor.{Monitor}
-use Rattle.monitor.specs.declared.Stepped.{Stepped}
-use Rattle.monitor.proofs.FittingRows.{SoundRows, fit-start, fit-reads}
-use Rattle.monitor.proofs.Following.{Follows}
+use Rattle.monitor.proofs.Names.{Accepted, Bool, BrokenAt, Call, Constraint, Exact, Judged, List, Monitor, Option, Reads, ReadsRow, Refused}
+use Rattle.monitor.proofs.Names.{Sound, Step, Stepped, Taken, Valid, Verdict, [], _+_, _-_, _<_, _∷_, _≡_, _≤_, ap, arith, by-cases, clockFrom}
+use Rattle.monitor.proofs.Names.{closed, cond, crowds, decLt, false, getD, getD-replicate, getElem?, inl, inr, le-ltb, length}
+use Rattle.monitor.proofs.Names.{length-replicate, lt-ltb, ltb, monitorOf, never, nextFree, no-row, noRow, none, reads-broken, reads-once}
+use Rattle.monitor.proofs.Names.{refl, refusalFor, refuses, replicate, row, rowLimit, rowVerdict, rows-room, rowsQuestions, some, stepOf}
+use Rattle.monitor.proofs.Names.{subst, suc, takenCall, takes, times, true, valid-none, verdictOf, zero, ℕ}
+use Rattle.monitor.proofs.{FittingRows.SoundRows, FittingRows.fit-reads, FittingRows.fit-start, Following.Follows}
 
 -- ---- a refusal leaves the monitor as it was
 

@@ -1,6 +1,6 @@
 -- A list of n places is filled from the front with what f makes of the items of another list, one after the other.
-use Rattle.constraint.proofs.Library.{ℕ, suc, _+_, _-_, _<_, add-one, arith, _≡_, sym, ap, _∙_, List, [], _∷_, _++_, map, map-append, length, getD}
-use Rattle.constraint.proofs.Library.{set, take, replicate, length-map, length-take-le, take-suc, append-snoc, set-at}
+use Rattle.monitor.proofs.Names.{List, [], _++_, _+_, _-_, _<_, _∙_, _∷_, _≡_, add-one, ap, append-snoc, arith, getD, length, length-map}
+use Rattle.monitor.proofs.Names.{length-take-le, map, map-append, replicate, set, set-at, suc, sym, take, take-suc, ℕ}
 
 module _ {A B : Type 0} (f : A → B) (empty : B) (items : List A) (n : ℕ) where
   -- the first i items, and room behind them

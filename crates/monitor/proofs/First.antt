@@ -1,17 +1,7 @@
 -- What is done to the first rows of a list is done to one after the other, and to no more of them than there are.
-use Rattle.constraint.proofs.Library.{ℕ, zero, suc, _+_, _<_, min, add-one, arith, _≡_, refl, sym, ap, ap₂, _∙_, Bool, true, false, _||_, List, []}
-use Rattle.constraint.proofs.Library.{_∷_, length, getD, set}
-use Rattle.constraint.proofs.Lists.{both, or-false}
-use Rattle.constraint.specs.Limits.{rowLimit}
-use Rattle.row.specs.Machine.{rowStep}
-use Rattle.row.specs.Undo.{savedBy, rowWithout, keptWithout}
-use Rattle.row.specs.declared.Before.{Before}
-use Rattle.row.specs.declared.Occurrence.{Occurrence}
-use Rattle.row.specs.declared.Row.{Row}
-use Rattle.row.specs.declared.RowStep.{RowStep}
-use Rattle.monitor.specs.Machine.{mapFirst, zipFirst, anyFirst}
-use Rattle.monitor.specs.Parts.{withRows, steppedRows, rowsWithout, RowsAfter}
-use Rattle.monitor.specs.declared.Monitor.{Monitor}
+use Rattle.monitor.proofs.Names.{Before, Bool, List, Monitor, Occurrence, Row, RowStep, RowsAfter, [], _+_, _<_, _||_, _∙_, _∷_, _≡_, add-one}
+use Rattle.monitor.proofs.Names.{anyFirst, ap, ap₂, arith, both, false, getD, keptWithout, length, mapFirst, min, or-false, refl, rowLimit}
+use Rattle.monitor.proofs.Names.{rowStep, rowWithout, rowsWithout, savedBy, set, steppedRows, suc, sym, true, withRows, zero, zipFirst, ℕ}
 
 -- ---- each of them changed
 

@@ -1,21 +1,8 @@
 -- The monitor's rows fit the steps one by one: what a step makes of a row it makes of each of them.
-use Rattle.constraint.proofs.Library.{ℕ, zero, suc, _+_, _≤_, _<_, arith, _≡_, refl, sym, subst, true, false, List, [], _∷_, _++_, map, ⊎-elim, some}
-use Rattle.constraint.proofs.Library.{length, getD, getElem?}
-use Rattle.constraint.specs.Limits.{waitingLimit}
-use Rattle.constraint.specs.Steps.{Step, clock, closed}
-use Rattle.constraint.specs.Continuation.{Open, Reads}
-use Rattle.constraint.specs.Waiting.{waiting}
-use Rattle.constraint.specs.Run.{Room}
-use Rattle.constraint.specs.declared.Constraint.{Constraint}
-use Rattle.constraint.proofs.Lists.{both, or-true, or-false}
-use Rattle.constraint.proofs.History.{Accepts, Valid}
-use Rattle.constraint.proofs.Judged.{never}
-use Rattle.row.specs.Machine.{rowOf, closeAt, rowStep, rowVerdict}
-use Rattle.row.specs.declared.Row.{Row}
-use Rattle.row.specs.declared.RowStep.{RowStep}
-use Rattle.row.proofs.Exact.{Sound, Exact}
-use Rattle.row.proofs.Steps.{Fits, After, seen, fits-start, fits-room, fits-step, close-calm, fits-reads}
-use Rattle.monitor.specs.Machine.{mapFirst, anyFirst, noRow}
+use Rattle.monitor.proofs.Names.{Accepts, After, Constraint, Exact, Fits, List, Open, Reads, Room, Row, RowStep, Sound, Step, Valid, [], _++_}
+use Rattle.monitor.proofs.Names.{_+_, _<_, _∷_, _≡_, _≤_, anyFirst, arith, both, clock, close-calm, closeAt, closed, false, fits-reads}
+use Rattle.monitor.proofs.Names.{fits-room, fits-start, fits-step, getD, getElem?, length, map, mapFirst, never, noRow, or-false, or-true}
+use Rattle.monitor.proofs.Names.{refl, rowOf, rowStep, rowVerdict, seen, some, subst, suc, sym, true, waiting, waitingLimit, zero, ℕ, ⊎-elim}
 
 -- each row of a table is sound
 abbrev pub SoundRows : List Constraint → Type 0

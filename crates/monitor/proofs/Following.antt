@@ -1,34 +1,16 @@
 -- The monitor follows the accepted steps: its clock, count, free times and rows are read off them after every call, and each call is answered as its
 -- questions say. By cases on the machine's tests, each of which is one question's.
-use Rattle.constraint.proofs.Library.{ℕ, _+_, _≤_, _<_, ℕ-discrete, decLt, arith, _≡_, refl, sym, ap, _∙_, subst, Bool, true, false, cond, List, []}
-use Rattle.constraint.proofs.Library.{_∷_, _++_, inl, inr, by-cases, length, getD, set, length-append, length-set, getD-set-same, getD-set-other}
-use Rattle.constraint.proofs.Library.{set-out, leb, ltb, ltb-true, ltb-false, leb-true, leb-false}
-use Rattle.constraint.specs.Limits.{lastKind, firstColoured, lastColour, streamCount, lastTime, lastCount, rowLimit}
-use Rattle.constraint.specs.Streams.{stream}
-use Rattle.constraint.specs.Steps.{Step, event, tick, close, times, clock, closed}
-use Rattle.constraint.specs.Continuation.{EventInOrder}
-use Rattle.constraint.specs.Questions.{Question, Judged}
-use Rattle.constraint.specs.Run.{stepFor, Room, eventQuestions, questions}
-use Rattle.constraint.specs.declared.Answer.{Answer}
-use Rattle.constraint.specs.declared.Answer.the-variants.{Taken, Refused}
-use Rattle.constraint.specs.declared.Call.{Call}
-use Rattle.constraint.specs.declared.Constraint.{Constraint}
-use Rattle.constraint.proofs.Lists.{split, both}
-use Rattle.constraint.proofs.Streams.{stream-below}
-use Rattle.constraint.proofs.History.{times-own, times-other, times-tick, times-close, clock-event, clock-tick, clock-close, closed-event}
-use Rattle.constraint.proofs.History.{closed-tick, closed-close, Accepts, Valid, valid-more, counted-of}
-use Rattle.constraint.proofs.Counting.{nextFree, next-above, next-least, next-snoc}
-use Rattle.machine.specs.Parts.{plus}
-use Rattle.row.specs.Machine.{closeAt, rowStep}
-use Rattle.row.proofs.Exact.{Sound, Exact}
-use Rattle.row.proofs.Steps.{seen}
-use Rattle.questions.specs.Questions.{placeFor, timeRefusal, ownRefusal, freeAfter, closedAfter}
-use Rattle.monitor.specs.Machine.{anyFirst, refuses, takes, nextStep, refusalFor}
-use Rattle.monitor.specs.Machine.{nextFor, occurrenceOf, takenCall, crowds, steppedBy, stepOf}
-use Rattle.monitor.specs.declared.Monitor.{Monitor}
-use Rattle.monitor.specs.declared.Stepped.{Stepped}
-use Rattle.questions.proofs.Places.{stream-place}
-use Rattle.monitor.proofs.FittingRows.{FitRows, fit-step, fit-crowded, fit-calm, fit-room}
+use Rattle.monitor.proofs.Names.{Accepts, Answer, Bool, Call, Constraint, EventInOrder, Exact, Judged, List, Monitor, Question, Refused, Room}
+use Rattle.monitor.proofs.Names.{Sound, Step, Stepped, Taken, Valid, [], _++_, _+_, _<_, _∙_, _∷_, _≡_, _≤_, anyFirst, ap, arith, both}
+use Rattle.monitor.proofs.Names.{by-cases, clock, clock-close, clock-event, clock-tick, close, closeAt, closed, closed-close, closed-event}
+use Rattle.monitor.proofs.Names.{closed-tick, closedAfter, cond, counted-of, crowds, decLt, event, eventQuestions, false, firstColoured}
+use Rattle.monitor.proofs.Names.{freeAfter, getD, getD-set-other, getD-set-same, inl, inr, lastColour, lastCount, lastKind, lastTime, leb}
+use Rattle.monitor.proofs.Names.{leb-false, leb-true, length, length-append, length-set, ltb, ltb-false, ltb-true, next-above, next-least}
+use Rattle.monitor.proofs.Names.{next-snoc, nextFor, nextFree, nextStep, occurrenceOf, ownRefusal, placeFor, plus, questions, refl, refusalFor}
+use Rattle.monitor.proofs.Names.{refuses, rowLimit, rowStep, seen, set, set-out, split, stepFor, stepOf, steppedBy, stream, stream-below}
+use Rattle.monitor.proofs.Names.{stream-place, streamCount, subst, sym, takenCall, takes, tick, timeRefusal, times, times-close, times-other}
+use Rattle.monitor.proofs.Names.{times-own, times-tick, true, valid-more, ℕ, ℕ-discrete}
+use Rattle.monitor.proofs.FittingRows.{FitRows, fit-calm, fit-crowded, fit-room, fit-step}
 
 -- the steps once a call has its answer: one more where it is taken, the same where it is refused
 abbrev pub recorded : List Step → Call → Answer → List Step
@@ -208,8 +190,7 @@ module _ (engine : (c : Constraint) → Sound c → Exact c) where
             not-closed = open-still;
             counted = counted;
             stream-small = small;
-            time-small =
-                fits;
+            time-small = fits;
             in-order = order;
           } in
           last-asked call (subst (Accepts steps) is accepts) (λ a j. others a (inl (

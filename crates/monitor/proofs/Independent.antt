@@ -1,30 +1,12 @@
 -- Rows that are independent of each other (§3.10, §3.11), in the buyers' words: what a row reads depends on the events of its own
 -- kinds, the clock and the close alone, so two tables that share a row may differ in all others.
-use Rattle.constraint.proofs.Library.{ℕ, zero, suc, arith, _≡_, refl, sym, ap, ap₂, _∙_, subst, List, [], _∷_, map, _↔_, some, take, getElem?}
-use Rattle.constraint.specs.Steps.{Step, event, tick, close}
-use Rattle.constraint.specs.Continuation.{Reads}
-use Rattle.constraint.specs.Accepted.{Accepted}
-use Rattle.constraint.specs.Run.{questions, asks, Left, noneLeft, leftBy, Run, done, request}
-use Rattle.constraint.specs.Questions.{Judged}
-use Rattle.constraint.specs.declared.Answer.{Answer}
-use Rattle.constraint.specs.declared.Answer.the-variants.{Refused}
-use Rattle.constraint.specs.declared.Call.{Call}
-use Rattle.constraint.specs.declared.Constraint.{Constraint}
-use Rattle.constraint.specs.declared.Constraint.the-variants.{Delay}
-use Rattle.constraint.specs.declared.Verdict.{Verdict}
-use Rattle.constraint.proofs.History.{valid-none}
-use Rattle.constraint.proofs.Judged.{never, judged-once}
-use Rattle.constraint.proofs.LastQuestion.{judged-but-last}
-use Rattle.constraint.proofs.Runs.{run-valid, reads-once}
-use Rattle.constraint.proofs.Sanity.{run-once}
-use Rattle.row.proofs.Exact.{Sound}
-use Rattle.monitor.specs.Machine.{verdictOf}
-use Rattle.monitor.specs.Contract.{after}
-use Rattle.monitor.specs.Beside.{OwnStream, Beside, same-event, others, EachBeside, no-more, place, allTaken, TakesAll, answersTo, NoneFull}
-use Rattle.monitor.proofs.FittingRows.{SoundRows}
-use Rattle.monitor.proofs.Demand.{accepted-sound}
-use Rattle.monitor.proofs.Theorem.{monitor-is-exact, row-reads}
-use Rattle.monitor.proofs.Beside.{takes-first, beside-first, read-both}
+use Rattle.monitor.proofs.Names.{Accepted, Answer, Beside, Call, Constraint, Delay, EachBeside, Judged, Left, List, NoneFull, OwnStream, Reads}
+use Rattle.monitor.proofs.Names.{Refused, Run, Sound, Step, TakesAll, Verdict, [], _↔_, _∙_, _∷_, _≡_, after, allTaken, answersTo, ap, ap₂}
+use Rattle.monitor.proofs.Names.{arith, asks, close, done, event, getElem?, judged-but-last, judged-once, leftBy, map, never, no-more}
+use Rattle.monitor.proofs.Names.{noneLeft, others, place, questions, reads-once, refl, request, run-once, run-valid, same-event, some, subst}
+use Rattle.monitor.proofs.Names.{suc, sym, take, tick, valid-none, verdictOf, zero, ℕ}
+use Rattle.monitor.proofs.Beside.{beside-first, read-both, takes-first}
+use Rattle.monitor.proofs.{Demand.accepted-sound, FittingRows.SoundRows, Theorem.monitor-is-exact, Theorem.row-reads}
 
 sound-row : (rows : List Constraint) → SoundRows rows → (i : ℕ) (c : Constraint) → getElem? rows i ≡ some c → Sound c
 sound-row [] sound i c there = never (cc)

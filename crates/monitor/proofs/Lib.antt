@@ -1,4 +1,5 @@
 -- Why the monitor's machine keeps the promise, and the laws that the proofs of its code share.
+mod Names
 pub mod FittingRows
 pub mod Following
 pub mod Demand

@@ -1,16 +1,7 @@
 -- The verdict that is read off a row's numbers is the machine's.
-use Rattle.constraint.proofs.Library.{ℕ, _<_, arith, _≡_, refl, sym, ap, _∙_, Bool, true, false, cond, _&&_, none, some, length, getD, ltb, ltb-true}
-use Rattle.constraint.specs.Limits.{rowLimit}
-use Rattle.constraint.specs.declared.Verdict.{Verdict}
-use Rattle.constraint.proofs.Lists.{split, getD-within}
-use Rattle.constraint.proofs.Judged.{never}
-use Rattle.row.specs.Machine.{rowVerdict}
-use Rattle.row.specs.declared.Row.{Row}
-use Rattle.monitor.specs.Machine.{noRow, verdictOf}
-use Rattle.monitor.specs.Contract.{verdictIn, VerdictOf}
-use Rattle.monitor.specs.Parts.{placeOf, verdictBy}
-use Rattle.monitor.specs.declared.Monitor.{Monitor}
-use Rattle.monitor.specs.declared.RowVerdict.{RowVerdict}
+use Rattle.monitor.proofs.Names.{Bool, Monitor, Row, RowVerdict, Verdict, VerdictOf, _&&_, _<_, _∙_, _≡_, ap, arith, cond, false, getD}
+use Rattle.monitor.proofs.Names.{getD-within, length, ltb, ltb-true, never, noRow, none, placeOf, refl, rowLimit, rowVerdict, some, split, sym}
+use Rattle.monitor.proofs.Names.{true, verdictBy, verdictIn, verdictOf, ℕ}
 use Rattle.monitor.proofs.Theorem.{reading-kept}
 
 pub place-small : (i : ℕ) → placeOf i < rowLimit

@@ -1,34 +1,12 @@
 -- §3.6 to §3.8 and §3.13 to §3.15 for every row type: the promise over the machine, with the engine of every type put in.
-use Rattle.constraint.proofs.Library.{ℕ, _+_, _≤_, _<_, _≡_, refl, sym, subst, true, false, List, _++_, map, _↔_, Iff·trans, Option, some, length}
-use Rattle.constraint.proofs.Library.{getElem?}
-use Rattle.constraint.specs.Limits.{noLimit}
-use Rattle.constraint.specs.Steps.{at, times, clock, closed}
-use Rattle.constraint.specs.Meets.{Meets}
-use Rattle.constraint.specs.Continuation.{Open, Reads}
-use Rattle.constraint.specs.Accepted.{Accepted}
-use Rattle.constraint.specs.Run.{Request, asks, Left}
-use Rattle.constraint.specs.Promise.{Promise, ReadsRow, row, no-row}
-use Rattle.constraint.specs.declared.Call.{Call}
-use Rattle.constraint.specs.declared.Constraint.{Constraint}
-use Rattle.constraint.specs.declared.Constraint.the-variants.{Delay, Repeat, Sporadic}
-use Rattle.constraint.specs.declared.Verdict.{Verdict}
-use Rattle.constraint.proofs.History.{valid-none, past-of}
-use Rattle.constraint.proofs.Judged.{never}
-use Rattle.constraint.proofs.Runs.{run-valid, broken-exactly, kept-exactly}
-use Rattle.constraint.proofs.Sanity.{run-once}
-use Rattle.pairs.proofs.Laws.Delay.{unlimited-delay-open}
-use Rattle.spans.proofs.Laws.Repeat.{silent-repeat-shut}
-use Rattle.points.proofs.Laws.Sporadic.{silent-sporadic-shut}
-use Rattle.row.proofs.Exact.{Sound}
-use Rattle.row.proofs.Engine.{engine}
-use Rattle.monitor.specs.Machine.{monitorOf, SameBare, verdictOf}
-use Rattle.monitor.specs.Beside.{TakesAll}
-use Rattle.monitor.specs.Contract.{resultOf, step, after, Remains, Steps, Reading}
-use Rattle.monitor.specs.declared.Monitor.{Monitor}
-use Rattle.monitor.specs.declared.Stepped.{Stepped}
-use Rattle.monitor.proofs.Demand.{accepted-sound}
-use Rattle.monitor.proofs.FittingRows.{sound-at}
-use Rattle.monitor.proofs.Withdrawing.{promise, stays, struck, steps-keep, reading-keeps}
+use Rattle.monitor.proofs.Names.{Accepted, Call, Constraint, Delay, Iff·trans, Left, List, Meets, Monitor, Open, Option, Promise, Reading}
+use Rattle.monitor.proofs.Names.{Reads, ReadsRow, Remains, Repeat, Request, SameBare, Sound, Sporadic, Stepped, Steps, TakesAll, Verdict, _++_}
+use Rattle.monitor.proofs.Names.{_+_, _<_, _↔_, _≡_, _≤_, after, asks, at, broken-exactly, clock, closed, engine, false, getElem?}
+use Rattle.monitor.proofs.Names.{kept-exactly, length, map, monitorOf, never, no-row, noLimit, past-of, refl, resultOf, row, run-once}
+use Rattle.monitor.proofs.Names.{run-valid, silent-repeat-shut, silent-sporadic-shut, some, step, subst, sym, times, true}
+use Rattle.monitor.proofs.Names.{unlimited-delay-open, valid-none, verdictOf, ℕ}
+use Rattle.monitor.proofs.Withdrawing.{promise, reading-keeps, stays, steps-keep, struck}
+use Rattle.monitor.proofs.{Demand.accepted-sound, FittingRows.sound-at}
 
 -- over every table, every list of calls and withdrawals from a fresh monitor, and every row
 pub monitor-is-exact : Promise monitorOf step verdictOf

@@ -1,42 +1,17 @@
 -- §3.13 to §3.15: a call's answer and what it does to a monitor go by all but what may be withdrawn, and a withdrawal gives back the monitor that
 -- the last step found, but for that. So after any requests the monitor is the one after the steps that are left.
-use Rattle.constraint.proofs.Library.{ℕ, zero, suc, _+_, _≤_, _<_, arith, _≡_, refl, sym, ap, ap₂, _∙_, subst, Bool, true, false, cond, List, [], _∷_}
-use Rattle.constraint.proofs.Library.{_++_, map, append-nil, _⊎_, inl, inr, some, length, getD, set, replicate, set-set, ltb, eqb, lt-ltb, eqb-false}
-use Rattle.constraint.specs.Limits.{streamCount, rowLimit, lastCount}
-use Rattle.constraint.specs.Steps.{Step}
-use Rattle.constraint.specs.Questions.{Judged}
-use Rattle.constraint.specs.Accepted.{Accepted}
-use Rattle.constraint.specs.Run.{stepFor, questions, Request, asks, withdraws, Left, noneLeft, requestQuestions, leftBy, Run, done, request, Keeps}
-use Rattle.constraint.specs.Promise.{ReadsRow, play, Promise}
-use Rattle.constraint.specs.declared.Answer.{Answer}
-use Rattle.constraint.specs.declared.Answer.the-variants.{Taken, Refused}
-use Rattle.constraint.specs.declared.Call.{Call}
-use Rattle.constraint.specs.declared.Constraint.{Constraint}
-use Rattle.constraint.specs.declared.Verdict.{Verdict}
-use Rattle.constraint.proofs.Lists.{split, both}
-use Rattle.constraint.proofs.Judged.{never}
-use Rattle.constraint.proofs.History.{counted-of}
-use Rattle.constraint.proofs.Runs.{accepts-taken}
-use Rattle.constraint.proofs.Sanity.{run-once}
-use Rattle.constraint.proofs.Withdrawals.{butLast, but-last, keeps-begins, calls-keep, begins-broken}
-use Rattle.row.specs.Machine.{rowStep}
-use Rattle.row.specs.Undo.{movesBy, noBefore, savedRow, savedBy, rowWithout, keptWithout}
-use Rattle.row.specs.declared.Before.{Before}
-use Rattle.row.specs.declared.Occurrence.{Occurrence}
-use Rattle.row.specs.declared.Row.{Row}
-use Rattle.row.proofs.Exact.{Sound, Exact}
-use Rattle.row.proofs.Undo.{row-without}
-use Rattle.questions.specs.Questions.{placeFor, placeIn, freeAfter}
-use Rattle.monitor.specs.Machine.{monitorOf, mapFirst, zipFirst, refuses, takes, nextStep, nextFor, occurrenceOf, crowds, refusalFor}
-use Rattle.monitor.specs.Machine.{takenCall, stepOf, verdictOf, withdrawn, withdrawOf, bare, SameBare}
-use Rattle.monitor.specs.Contract.{resultOf, step, after, Remains, Steps, Reading}
-use Rattle.monitor.specs.Beside.{allTaken, TakesAll}
-use Rattle.monitor.specs.declared.Monitor.{Monitor}
-use Rattle.monitor.specs.declared.Stepped.{Stepped}
-use Rattle.questions.proofs.Places.{place-small}
-use Rattle.monitor.proofs.FittingRows.{FitRows}
-use Rattle.monitor.proofs.Following.{recorded, Follows, step-is, step-answered}
-use Rattle.monitor.proofs.Demand.{step-untouched, start-follows, verdict-reads, broken-row, reads-still}
+use Rattle.monitor.proofs.Names.{Accepted, Answer, Before, Bool, Call, Constraint, Exact, Judged, Keeps, Left, List, Monitor, Occurrence}
+use Rattle.monitor.proofs.Names.{Promise, Reading, ReadsRow, Refused, Remains, Request, Row, Run, SameBare, Sound, Step, Stepped, Steps, Taken}
+use Rattle.monitor.proofs.Names.{TakesAll, Verdict, [], _++_, _+_, _<_, _∙_, _∷_, _≡_, _≤_, _⊎_, accepts-taken, after, allTaken, ap}
+use Rattle.monitor.proofs.Names.{append-nil, ap₂, arith, asks, bare, begins-broken, both, but-last, butLast, calls-keep, cond, counted-of}
+use Rattle.monitor.proofs.Names.{crowds, done, eqb, eqb-false, false, freeAfter, getD, inl, inr, keeps-begins, keptWithout, lastCount, leftBy}
+use Rattle.monitor.proofs.Names.{length, lt-ltb, ltb, map, mapFirst, monitorOf, movesBy, never, nextFor, nextStep, noBefore, noneLeft}
+use Rattle.monitor.proofs.Names.{occurrenceOf, place-small, placeFor, placeIn, play, questions, refl, refusalFor, refuses, replicate, request}
+use Rattle.monitor.proofs.Names.{requestQuestions, resultOf, row-without, rowLimit, rowStep, rowWithout, run-once, savedBy, savedRow, set}
+use Rattle.monitor.proofs.Names.{set-set, some, split, step, stepFor, stepOf, streamCount, subst, suc, sym, takenCall, takes, true, verdictOf}
+use Rattle.monitor.proofs.Names.{withdrawOf, withdrawn, withdraws, zero, zipFirst, ℕ}
+use Rattle.monitor.proofs.Demand.{broken-row, reads-still, start-follows, step-untouched, verdict-reads}
+use Rattle.monitor.proofs.{FittingRows.FitRows, Following.Follows, Following.recorded, Following.step-answered, Following.step-is}
 
 -- ---- what may be withdrawn does not matter to a call
 
@@ -240,8 +215,7 @@ module _ (engine : (c : Constraint) → Sound c → Exact c) (rows : List Constr
 
   -- and what may be withdrawn is there to be withdrawn
   abbrev Ready : Left → Monitor → Type 0
-  Ready left m =
-      ((left .may ≡ false) × (m .undo .may ≡ 0)) ⊎ ((left .may ≡ true) × (m .undo .may ≡ 1) × Part (butLast (left .steps)) (withdrawn m))
+  Ready left m = ((left .may ≡ false) × (m .undo .may ≡ 0)) ⊎ ((left .may ≡ true) × (m .undo .may ≡ 1) × Part (butLast (left .steps)) (withdrawn m))
 
   pub record Holds (left : Left) (m : Monitor) : Type 0 where
     pub part : Part (left .steps) m
@@ -288,8 +262,7 @@ module _ (engine : (c : Constraint) → Sound c → Exact c) (rows : List Constr
             closed = m .closed;
             len = m .len;
             before = m .before;
-            undo =
-                m .undo;
+            undo = m .undo;
           }))
           (subst (λ (k : ℕ). zipFirst k (λ b r. rowWithout (nextStep m) r b)
           (zipFirst k (savedBy (occurrenceOf m s) (nextStep m)) (m .rows) (m .before))
@@ -398,8 +371,7 @@ module _ (engine : (c : Constraint) → Sound c → Exact c) (rows : List Constr
           follows = f;
           stamped = stamped-none (length rows) rowLimit 1 (f .few) (omega arith);
           calls = [];
-          taken =
-              (false, done);
+          taken = (false, done);
           same = refl;
         };
         ready = inl (refl, refl);

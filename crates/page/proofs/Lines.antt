@@ -1,16 +1,14 @@
 -- A line of the page, column by column: each text fits its columns, whatever the type, the verdict and the step, and none has a blank or a line end
 -- in it.
-use Rattle.constraint.proofs.Library.{ℕ, zero, suc, _+_, _-_, _≤_, _<_, arith, _≡_, refl, ap, _∙_, Bool, true, false, _&&_, List, [], _∷_, _++_}
-use Rattle.constraint.proofs.Library.{append-assoc, length, getD, drop, replicate, length-append, length-replicate, getD-replicate}
-use Rattle.constraint.proofs.Library.{replicate-append-replicate, sets, drop-at, leb, ltb, leb-true, ltb-true}
-use Rattle.constraint.specs.Report.{decimal, blank, lineEnd}
-use Rattle.constraint.specs.Types.{unknownName, typeNames}
-use Rattle.constraint.specs.Page.{leftIn, rightIn, nameOf, verdictWord, stepText, lineText, pageWidth, pageLine}
-use Rattle.constraint.specs.declared.Verdict.{Verdict}
-use Rattle.constraint.specs.declared.Verdict.the-variants.{Open, Kept, Broken}
-use Rattle.constraint.proofs.Lists.{Each, each-none, each-cons, each-append}
+use Rattle.constraint.proofs.Library.{Bool, List, [], _&&_, _++_, _+_, _-_, _<_, _∙_, _∷_, _≡_, _≤_, ap, append-assoc, arith, drop, drop-at, false}
+use Rattle.constraint.proofs.Library.{getD, getD-replicate, leb, leb-true, length, length-append, length-replicate, ltb, ltb-true, refl, replicate}
+use Rattle.constraint.proofs.Library.{replicate-append-replicate, sets, suc, true, zero, ℕ}
+use Rattle.constraint.proofs.Lists.{Each, each-append, each-cons, each-none}
+use Rattle.constraint.specs.Page.{leftIn, lineText, nameOf, pageLine, pageWidth, rightIn, stepText, verdictWord}
+use Rattle.constraint.specs.{Report.blank, Report.decimal, Report.lineEnd, Types.typeNames, Types.unknownName, declared.Verdict.Verdict}
+use Rattle.constraint.specs.{declared.Verdict.the-variants.Broken, declared.Verdict.the-variants.Kept, declared.Verdict.the-variants.Open}
 use Rattle.number.proofs.Stores.{stores-append}
-use Rattle.text.proofs.Decimals.{decimal-length, decimal-few, decimal-each}
+use Rattle.text.proofs.Decimals.{decimal-each, decimal-few, decimal-length}
 
 -- ---- texts
 
@@ -181,8 +179,7 @@ module _ (i type : ℕ) (v : Verdict) (few : i < 1000) where
   line-length = omega (arith, length-append (lineText i type v) (lineEnd ∷ []), text-length)
 
   pub line-is : pageLine i type v ≡ number i ++ gap ++ name type ++ word v ++ step v ++ end
-  line-is =
-      ap (λ (line : List ℕ). line ++ lineEnd ∷ []) text-is ∙ append-assoc (number i ++ gap ++ name type ++ word v ++ step v) rest (lineEnd ∷ [])
+  line-is = ap (λ (line : List ℕ). line ++ lineEnd ∷ []) text-is ∙ append-assoc (number i ++ gap ++ name type ++ word v ++ step v) rest (lineEnd ∷ [])
 
 -- ---- in a buffer
 

@@ -1,20 +1,16 @@
 -- The page line after line: row i's line stands behind i lines and a heading for each 16 of them, so its place and the page's length follow from the
 -- number of rows alone; and each line has 72 bytes, none of them a line end.
-use Rattle.constraint.proofs.Library.{ℕ, zero, suc, _+_, _-_, _*_, _/_, _%_, _≤_, _<_, min, decLt, suc-add, zero-add, add-one, arith, _≡_, refl}
-use Rattle.constraint.proofs.Library.{subst, _∙_, ap, cond, List, [], _∷_, _++_, append-assoc, append-nil, by-cases, length, replicate, length-append}
-use Rattle.constraint.proofs.Library.{getD-replicate, sets, eqb, eqb-true, eqb-false}
-use Rattle.constraint.specs.Limits.{rowLimit}
-use Rattle.constraint.specs.Steps.{at}
-use Rattle.constraint.specs.Report.{lineEnd}
-use Rattle.constraint.specs.Page.{pageWidth, lineText, pageLine, hyphens, heading, pageLines, pageText}
-use Rattle.page.specs.ReadBack.{linesOf, pageLength, Lines, no-line, one-more, lineStart}
-use Rattle.constraint.specs.declared.Verdict.{Verdict}
+use Rattle.constraint.proofs.Library.{List, [], _%_, _*_, _++_, _+_, _-_, _/_, _<_, _∙_, _∷_, _≡_, _≤_, add-one, ap, append-assoc, append-nil, arith}
+use Rattle.constraint.proofs.Library.{by-cases, cond, decLt, eqb, eqb-false, eqb-true, getD-replicate, length, length-append, min, refl, replicate}
+use Rattle.constraint.proofs.Library.{sets, subst, suc, suc-add, zero, zero-add, ℕ}
 use Rattle.constraint.proofs.Lists.{split}
-use Rattle.text.specs.Content.{Copied}
+use Rattle.constraint.specs.Page.{heading, hyphens, lineText, pageLine, pageLines, pageText, pageWidth}
+use Rattle.constraint.specs.{Limits.rowLimit, Report.lineEnd, Steps.at, declared.Verdict.Verdict}
+use Rattle.page.proofs.Lines.{line-length, stored, text-length, text-printed}
+use Rattle.page.specs.ReadBack.{Lines, lineStart, linesOf, no-line, one-more, pageLength}
+use Rattle.page.specs.{Sheet.textOf, Sheet.verdictsOf, declared.Summary.Summary}
 use Rattle.text.proofs.Texts.{copied-all, copied-none}
-use Rattle.page.specs.Sheet.{verdictsOf, textOf}
-use Rattle.page.specs.declared.Summary.{Summary}
-use Rattle.page.proofs.Lines.{text-length, text-printed, line-length, stored}
+use Rattle.text.specs.Content.{Copied}
 
 -- ---- headings
 
@@ -48,8 +44,7 @@ hyphens-line =
     one-more (replicate pageWidth 45) [] refl (λ k h e. let same : 45 ≡ lineEnd = rw (getD-replicate {A = ℕ} 72 k 45 0 h) at e in omega arith) no-line
 
 heading-lines : (i : ℕ) → Lines (headings i) (heading i)
-heading-lines i =
-    by-heading (λ text. Lines (headings i) text) i (λ e. rw e hyphens-line) (λ e. rw e no-line)
+heading-lines i = by-heading (λ text. Lines (headings i) text) i (λ e. rw e hyphens-line) (λ e. rw e no-line)
 
 -- ---- rows
 

@@ -1,18 +1,17 @@
 -- What is read off a page is what was put there: a row's line stands where the reader looks, each column holds its text between blanks, and neither a
 -- word nor a number has a blank in it. So two pages with the same bytes say the same verdicts.
-use Rattle.constraint.proofs.Library.{ℕ, zero, suc, _-_, _^_, _≤_, _<_, arith, _≡_, refl, sym, ap, _∙_, List, [], _∷_, _++_, append-assoc, some}
-use Rattle.constraint.proofs.Library.{length, replicate, take-at, drop-at, drop-append-add, ne-eqb}
-use Rattle.constraint.specs.Report.{decimal, blank}
-use Rattle.constraint.specs.Page.{leftIn, rightIn, nameOf, verdictWord, stepText, pageText}
-use Rattle.text.specs.Content.{numberFrom}
-use Rattle.page.specs.ReadBack.{columns, wordFrom, same, verdictFrom, LineRead, lineRead}
-use Rattle.constraint.specs.declared.Verdict.{Verdict}
-use Rattle.constraint.specs.declared.Verdict.the-variants.{Open, Kept, Broken}
+use Rattle.constraint.proofs.Library.{List, [], _++_, _-_, _<_, _^_, _∙_, _∷_, _≡_, _≤_, ap, append-assoc, arith, drop-append-add, drop-at, length}
+use Rattle.constraint.proofs.Library.{ne-eqb, refl, replicate, some, suc, sym, take-at, zero, ℕ}
 use Rattle.constraint.proofs.Lists.{Each, each-tail}
-use Rattle.text.proofs.Decimals.{decimal-value}
-use Rattle.page.proofs.Lines.{Letter, Fits, name-fits, word-fits, step-fits, left-length, right-length, number, gap, name, word, step, end}
-use Rattle.page.proofs.Lines.{at-gap, at-name, at-word, at-step, line-is}
+use Rattle.constraint.specs.Page.{leftIn, nameOf, pageText, rightIn, stepText, verdictWord}
+use Rattle.constraint.specs.declared.Verdict.the-variants.{Broken, Kept, Open}
+use Rattle.constraint.specs.{Report.blank, Report.decimal, declared.Verdict.Verdict}
+use Rattle.page.proofs.Lines.{Fits, Letter, at-gap, at-name, at-step, at-word, end, gap, left-length, line-is, name, name-fits, number}
+use Rattle.page.proofs.Lines.{right-length, step, step-fits, word, word-fits}
 use Rattle.page.proofs.Pages.{page-length, row-standing}
+use Rattle.page.specs.ReadBack.{LineRead, columns, lineRead, same, verdictFrom, wordFrom}
+use Rattle.text.proofs.Decimals.{decimal-value}
+use Rattle.text.specs.Content.{numberFrom}
 
 -- ---- out of its columns
 

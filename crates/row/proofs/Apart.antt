@@ -1,21 +1,11 @@
 -- The step of a row is what its parts make of it: an open row that is overdue, or that the close finds, is ended; one that an event concerns
 -- applies it; and no step leaves more than 64 waiting, nor does a withdrawal.
-use Rattle.constraint.proofs.Library.{ℕ, _+_, _≤_, arith, _≡_, refl, sym, _∙_, ap, Bool, true, false, cond, _&&_, ltb, eqb, length, set, ltb-true}
-use Rattle.constraint.specs.Limits.{waitingLimit}
-use Rattle.constraint.proofs.Lists.{split, both}
-use Rattle.queue.specs.Ring.{Ring, ringOf, ringPlace, pushRing, putRing, dropRing, changed, edited, editPlace}
-use Rattle.queue.specs.declared.Edit.{Edit}
-use Rattle.queue.specs.declared.Edit.the-variants.{Drop, Push, PushTwo, Store}
-use Rattle.machine.specs.declared.Change.{Change}
-use Rattle.machine.specs.declared.Rule.{Rule}
-use Rattle.machine.specs.declared.State.{State}
-use Rattle.row.specs.Machine.{concerns, rowFrom, itemsOf, brokenState, brokenRow, applied, stays, crowding, changedRow, rowStep}
-use Rattle.row.specs.Undo.{movesBy, stepPlace, savedAt, savedRow, savedBy, backRow, rowWithout, keptWithout, noBefore, noState}
-use Rattle.row.specs.Apart.{endsBy, endedState, changeBy, appliedRow, appliedBefore, steppedRow}
-use Rattle.row.specs.declared.Before.{Before}
-use Rattle.row.specs.declared.Occurrence.{Occurrence}
-use Rattle.row.specs.declared.Row.{Row}
-use Rattle.row.specs.declared.RowStep.{RowStep}
+use Rattle.row.proofs.Names.{Before, Bool, Change, Drop, Edit, Occurrence, Push, PushTwo, Ring, Row, RowStep, Rule, State, Store, _&&_, _+_}
+use Rattle.row.proofs.Names.{_∙_, _≡_, _≤_, ap, applied, appliedBefore, appliedRow, arith, backRow, both, brokenRow, brokenState, changeBy}
+use Rattle.row.proofs.Names.{changed, changedRow, concerns, cond, crowding, dropRing, editPlace, edited, endedState, endsBy, eqb, false}
+use Rattle.row.proofs.Names.{itemsOf, keptWithout, length, ltb, ltb-true, movesBy, noBefore, noState, pushRing, putRing, refl, ringOf}
+use Rattle.row.proofs.Names.{ringPlace, rowFrom, rowStep, rowWithout, savedAt, savedBy, savedRow, set, split, stays, stepPlace, steppedRow}
+use Rattle.row.proofs.Names.{sym, true, waitingLimit, ℕ}
 use Rattle.row.proofs.Crowding.{step-by}
 
 -- ---- a row that applies an event

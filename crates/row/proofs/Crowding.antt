@@ -1,20 +1,10 @@
 -- Whether what occurs crowds a row does not hang on the number of the step, nor on its times: a row with room for two more words is crowded by
 -- nothing, as a change lets in two at most; and with 63 or 64 waiting, its type, its marks and how many wait say whether more are let in.
-use Rattle.constraint.proofs.Library.{ℕ, _+_, _<_, _≤_, arith, _≡_, refl, sym, _∙_, ap, Bool, true, false, cond, _&&_, List}
-use Rattle.constraint.proofs.Library.{[], _∷_, ltb, eqb, length, set, drop, length-append, length-drop, length-set, le-ltb}
-use Rattle.constraint.proofs.Library.{ltb-true, ltb-false}
-use Rattle.constraint.specs.Limits.{waitingLimit}
-use Rattle.constraint.proofs.Lists.{split}
-use Rattle.queue.specs.Ring.{changed}
-use Rattle.queue.specs.declared.Edit.{Edit}
-use Rattle.queue.specs.declared.Edit.the-variants.{Drop, Push, PushTwo, Store}
-use Rattle.queue.proofs.Laws.{ring-length}
-use Rattle.machine.proofs.FitsRow.{crowds-of, neither}
-use Rattle.row.specs.Machine.{concerns, itemsOf, brokenRow, applied, stays, crowding, changedRow, rowStep}
-use Rattle.row.specs.Apart.{fills, fullFor, crowdedBy, changeBy, withChange, steppedRow}
-use Rattle.row.specs.declared.Occurrence.{Occurrence}
-use Rattle.row.specs.declared.Row.{Row}
-use Rattle.row.specs.declared.RowStep.{RowStep}
+use Rattle.row.proofs.Names.{Bool, Drop, Edit, List, Occurrence, Push, PushTwo, Row, RowStep, Store, [], _&&_, _+_, _<_, _∙_, _∷_, _≡_, _≤_}
+use Rattle.row.proofs.Names.{ap, applied, arith, brokenRow, changeBy, changed, changedRow, concerns, cond, crowdedBy, crowding, crowds-of}
+use Rattle.row.proofs.Names.{drop, eqb, false, fills, fullFor, itemsOf, le-ltb, length, length-append, length-drop, length-set, ltb, ltb-false}
+use Rattle.row.proofs.Names.{ltb-true, neither, refl, ring-length, rowStep, set, split, stays, steppedRow, sym, true, waitingLimit, withChange}
+use Rattle.row.proofs.Names.{ℕ}
 use Rattle.row.proofs.Machines.{fits}
 
 -- ---- a change
@@ -68,8 +58,7 @@ two-more (Drop dropped) list h = rw (length-drop dropped list) (omega (arith, h)
 two-more (Push dropped word) list h = rw (length-append (drop dropped list) (word ∷ []), length-drop dropped list) (omega (arith, h))
 two-more (PushTwo dropped first second) list h =
     rw (length-append (drop dropped list) (first ∷ second ∷ []), length-drop dropped list) (omega (arith, h))
-two-more (Store place first second) list h =
-    omega (arith, h, length-set (set list place first) (place + 1) second, length-set list place first)
+two-more (Store place first second) list h = omega (arith, h, length-set (set list place first) (place + 1) second, length-set list place first)
 
 all-false : (a b c d : Bool) → cond a false (cond b false (cond c (cond d false false) false)) ≡ false
 all-false true b c d = refl

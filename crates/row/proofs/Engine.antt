@@ -1,6 +1,6 @@
 -- Every row type is exact: by the type, what its own laws prove.
-use Rattle.constraint.specs.declared.Constraint.{Constraint}
-use Rattle.row.proofs.Exact.{Sound, Exact}
+use Rattle.row.proofs.Names.{Constraint}
+use Rattle.row.proofs.Exact.{Exact, Sound}
 -- Made by release/row-types.py.
 use Rattle.constraint.specs.declared.Constraint.the-variants.{Delay}
 use Rattle.constraint.specs.declared.Constraint.the-variants.{StrongDelay}

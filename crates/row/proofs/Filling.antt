@@ -1,16 +1,7 @@
 -- How full a row is says when an event can crowd it: a row in which a place is free is crowded by nothing, and what does not concern a row takes
 -- none.
-use Rattle.constraint.proofs.Library.{ℕ, _+_, _-_, _<_, _≤_, min, arith, _≡_, refl, Bool, true, false, cond, _&&_, ltb, eqb}
-use Rattle.constraint.proofs.Library.{ltb-false}
-use Rattle.constraint.proofs.Lists.{split}
-use Rattle.machine.specs.declared.Rule.{Rule}
-use Rattle.machine.specs.declared.State.{State}
-use Rattle.row.specs.Machine.{concerns, brokenRow, stays, rowStep}
-use Rattle.row.specs.Apart.{fills, fullFor}
-use Rattle.row.specs.Stored.{filledBy, roomIn}
-use Rattle.row.specs.declared.Occurrence.{Occurrence}
-use Rattle.row.specs.declared.Row.{Row}
-use Rattle.row.specs.declared.RowStep.{RowStep}
+use Rattle.row.proofs.Names.{Bool, Occurrence, Row, RowStep, Rule, State, _&&_, _+_, _-_, _<_, _≡_, _≤_, arith, brokenRow, concerns, cond, eqb}
+use Rattle.row.proofs.Names.{false, filledBy, fills, fullFor, ltb, ltb-false, min, refl, roomIn, rowStep, split, stays, true, ℕ}
 use Rattle.row.proofs.Machines.{fits}
 
 -- ---- a row in which a place is free is crowded by nothing

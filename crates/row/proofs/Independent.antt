@@ -1,19 +1,8 @@
 -- What does not concern a row: its machine looks at an event's kind only to ask whether it is one of the row's, so an event of no
 -- kind of the row's does to it what a tick to that time does.
-use Rattle.constraint.proofs.Library.{ℕ, _<_, _≡_, refl, ap, _∙_, false, length}
-use Rattle.constraint.specs.Limits.{streamCount}
-use Rattle.constraint.specs.Streams.{kindOf}
-use Rattle.constraint.specs.Steps.{at, among}
-use Rattle.constraint.specs.Accepted.{kinds}
-use Rattle.constraint.proofs.Streams.{among-where}
-use Rattle.constraint.specs.declared.Constraint.{Constraint}
-use Rattle.constraint.proofs.Lists.{split}
-use Rattle.machine.specs.Rule.{ruleOf}
-use Rattle.row.specs.Machine.{concerns, noEvent, eventAt, tickAt, rowStep}
-use Rattle.row.specs.declared.Occurrence.{Occurrence}
-use Rattle.row.specs.declared.Row.{Row}
-use Rattle.row.proofs.Exact.{Sound}
-use Rattle.row.proofs.OwnKinds.{concerns-stream, concerns-none}
+use Rattle.row.proofs.Names.{Constraint, Occurrence, Row, _<_, _∙_, _≡_, among, among-where, ap, at, concerns, eventAt, false, kindOf, kinds}
+use Rattle.row.proofs.Names.{length, noEvent, refl, rowStep, ruleOf, split, streamCount, tickAt, ℕ}
+use Rattle.row.proofs.{Exact.Sound, OwnKinds.concerns-none, OwnKinds.concerns-stream}
 
 -- two occurrences that are none of the row's, alike but for the kind and the stream
 unconcerned : (r : Row) (o p : Occurrence) (number : ℕ) → concerns (r .rule) (o .kind) ≡ false → concerns (r .rule) (p .kind) ≡ false

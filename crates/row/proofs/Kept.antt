@@ -1,19 +1,10 @@
 -- What a row's words keep by an event is all that the row was, where what its type never stores is 0; and that stays so: a type changes only marks
 -- that it keeps, and a row that breaks or begins has none.
-use Rattle.constraint.proofs.Library.{ℕ, arith, _≡_, refl, sym, ap, _∙_, true, false, cond, ltb, eqb, ltb-false, eqb-true}
-use Rattle.constraint.specs.declared.Constraint.{Constraint}
-use Rattle.constraint.proofs.Lists.{split, both}
-use Rattle.queue.specs.Ring.{timeAt, secondAt}
-use Rattle.machine.specs.Parts.{noMarks}
-use Rattle.machine.specs.Rule.{ruleOf}
-use Rattle.machine.specs.declared.State.{State}
-use Rattle.row.specs.declared.Before.{Before}
-use Rattle.row.specs.declared.Occurrence.{Occurrence}
-use Rattle.row.specs.declared.Row.{Row}
-use Rattle.row.specs.Machine.{concerns, rowFrom, rowOf, itemsOf, brokenState, brokenRow, applied}
-use Rattle.row.specs.Undo.{noBefore, savedAt, backRow, rowWithout, keptWithout}
-use Rattle.row.specs.Apart.{endsBy, endedState, changeBy, withChange, appliedRow, writesAt, appliedBefore}
-use Rattle.row.specs.Stored.{keptMarks, keptAtPlace, appliedKeeps, eventRow, eventSaves, eventKeeps, endedRow, endedSaves, Unused, RestZero}
+use Rattle.row.proofs.Names.{Before, Constraint, Occurrence, RestZero, Row, State, Unused, _∙_, _≡_, ap, applied, appliedBefore, appliedKeeps}
+use Rattle.row.proofs.Names.{appliedRow, arith, backRow, both, brokenRow, brokenState, changeBy, concerns, cond, endedRow, endedSaves}
+use Rattle.row.proofs.Names.{endedState, endsBy, eqb, eqb-true, eventKeeps, eventRow, eventSaves, false, itemsOf, keptAtPlace, keptMarks}
+use Rattle.row.proofs.Names.{keptWithout, ltb, ltb-false, noBefore, noMarks, refl, rowFrom, rowOf, rowWithout, ruleOf, savedAt, secondAt}
+use Rattle.row.proofs.Names.{split, sym, timeAt, true, withChange, writesAt, ℕ}
 use Rattle.row.proofs.Machines.{fits}
 
 -- ---- the marks that a type keeps
@@ -101,8 +92,7 @@ module _ (r : Row) (b : Before) where
       → r .now .broken ≡ 0)
       (λ _ e. both (sym e)) (λ l _. omega (arith, ltb-false 0 (r .now .broken) l))
 
-  ended-unused : (o : Occurrence) (number : ℕ) → Unused (r .rule .form) (r .now .marks)
-      → Unused (r .rule .form) (endedState (r .now) o number .marks)
+  ended-unused : (o : Occurrence) (number : ℕ) → Unused (r .rule .form) (r .now .marks) → Unused (r .rule .form) (endedState (r .now) o number .marks)
   unfolding endedState
   ended-unused o number unused =
       split (ltb (r .now .due) (o .time))

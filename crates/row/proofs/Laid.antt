@@ -1,19 +1,10 @@
 -- A row's words with a change are those of the row with the change, as either way of the change computes; and what occurs makes of a row what the
 -- clock or the close alone make of it, or what the event does.
-use Rattle.constraint.proofs.Library.{ℕ, arith, _≡_, refl, ap, _∙_, Bool, true, false, cond, _&&_, List, ltb, eqb, ltb-true, ltb-false, eq-eqb}
-use Rattle.constraint.proofs.Library.{ne-eqb}
-use Rattle.constraint.proofs.Lists.{split, both}
-use Rattle.queue.specs.Ring.{ringOf, edited, editPlace}
-use Rattle.machine.specs.declared.Change.{Change}
-use Rattle.machine.specs.declared.State.{State}
-use Rattle.machine.specs.Words.{rowWords, changedWords}
-use Rattle.row.specs.declared.Before.{Before}
-use Rattle.row.specs.declared.Occurrence.{Occurrence}
-use Rattle.row.specs.declared.Row.{Row}
-use Rattle.row.specs.Machine.{concerns, rowFrom, mark, brokenState, brokenRow, applied, eventAt}
-use Rattle.row.specs.Undo.{movesBy, stepPlace, savedAt, savedBy}
-use Rattle.row.specs.Apart.{endsBy, endedState, withChange, appliedRow, writesAt, steppedRow}
-use Rattle.row.specs.Stored.{pastOf, wordsOf, keptMarks, keptAtPlace, eventRow, eventSaves, eventKeeps, endedRow, endedSaves, stepKeeps}
+use Rattle.row.proofs.Names.{Before, Bool, Change, List, Occurrence, Row, State, _&&_, _∙_, _≡_, ap, applied, appliedRow, arith, both}
+use Rattle.row.proofs.Names.{brokenRow, brokenState, changedWords, concerns, cond, editPlace, edited, endedRow, endedSaves, endedState, endsBy}
+use Rattle.row.proofs.Names.{eq-eqb, eqb, eventAt, eventKeeps, eventRow, eventSaves, false, keptAtPlace, keptMarks, ltb, ltb-false, ltb-true}
+use Rattle.row.proofs.Names.{mark, movesBy, ne-eqb, pastOf, refl, ringOf, rowFrom, rowWords, savedAt, savedBy, split, stepKeeps, stepPlace}
+use Rattle.row.proofs.Names.{steppedRow, true, withChange, wordsOf, writesAt, ℕ}
 use Rattle.row.proofs.Kept.{KeepsWhole, event-keeps-all}
 
 module _ (r : Row) (b : Before) (change : Change) (number : ℕ) where
@@ -43,8 +34,7 @@ module _ (r : Row) (b : Before) (change : Change) (number : ℕ) where
 not-zero : (n : ℕ) → eqb n 0 ≡ cond (ltb 0 n) false true
 not-zero n =
     split (ltb 0 n) (λ b. ltb 0 n ≡ b → eqb n 0 ≡ cond b false true)
-    (λ _ e. ne-eqb n 0 (λ z. absurd (omega (arith, z, ltb-true 0 n e)))) (λ _ e. eq-eqb n 0 (omega (arith, ltb-false 0 n e)))
-    refl
+    (λ _ e. ne-eqb n 0 (λ z. absurd (omega (arith, z, ltb-true 0 n e)))) (λ _ e. eq-eqb n 0 (omega (arith, ltb-false 0 n e))) refl
 
 module _ (r : Row) (o : Occurrence) (number : ℕ) (b : Before) where
   abbrev with-state : State → Row
@@ -79,8 +69,7 @@ module _ (r : Row) (o : Occurrence) (number : ℕ) (b : Before) where
 
   saved-ended : cond (ltb (r .now .due) (o .time)) false (concerns (r .rule) (o .kind)) ≡ false → endedSaves o number r b ≡ savedBy o number r b
   unfolding endsBy savedBy movesBy stepPlace
-  saved-ended =
-      ended-saves (ltb 0 (r .now .broken)) (ltb (r .now .due) (o .time)) (concerns (r .rule) (o .kind)) (o .closes) (writesAt r o)
+  saved-ended = ended-saves (ltb 0 (r .now .broken)) (ltb (r .now .due) (o .time)) (concerns (r .rule) (o .kind)) (o .closes) (writesAt r o)
 
   applied-row : (broken : Bool) (after-event : Row) → cond (cond broken false true) after-event r ≡ cond broken r after-event
   applied-row true after-event = refl
@@ -101,8 +90,7 @@ module _ (r : Row) (o : Occurrence) (number : ℕ) (b : Before) where
   saved-applied : ltb (r .now .due) (o .time) ≡ false → concerns (r .rule) (o .kind) ≡ true
       → eventSaves (eventAt (o .stream) (o .time)) number r b ≡ savedBy o number r b
   unfolding savedBy movesBy stepPlace
-  saved-applied early own =
-      rw (early, own, not-zero (r .now .broken)) (applied-saves (ltb 0 (r .now .broken)) (o .closes) (writesAt r o))
+  saved-applied early own = rw (early, own, not-zero (r .now .broken)) (applied-saves (ltb 0 (r .now .broken)) (o .closes) (writesAt r o))
 
   -- where the words keep all that the row was, they do so after what occurs
   pub step-keeps-all : KeepsWhole r b → stepKeeps o number r b ≡ savedBy o number r b

@@ -1,4 +1,5 @@
 -- Every row type is exact, and what a step makes of a row of any type.
+mod Names
 pub mod Exact
 pub mod Engine
 pub mod OwnKinds

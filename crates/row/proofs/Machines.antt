@@ -1,8 +1,6 @@
 -- Whatever the number of its type, a row's machine fits a row: each type's does, and so does that of no type.
-use Rattle.constraint.proofs.Library.{ℕ, zero, suc, _+_, _<_, arith, _≡_, _≢_, refl, _⊎_, inl, inr, List, [], _∷_, getD, List·getD-eq-default}
-use Rattle.machine.specs.Machine.{Machine, noMachine}
-use Rattle.machine.proofs.FitsRow.{FitsRow, fits-none}
-use Rattle.row.specs.Machine.{machines, machineOf}
+use Rattle.row.proofs.Names.{FitsRow, List, List·getD-eq-default, Machine, [], _+_, _<_, _∷_, _≡_, _≢_, _⊎_, arith, fits-none, getD, inl, inr}
+use Rattle.row.proofs.Names.{machineOf, machines, noMachine, refl, suc, zero, ℕ}
 -- Made by release/row-types.py.
 use Rattle.pairs.proofs.Laws.Delay.{fitsDelay}
 use Rattle.pairs.proofs.Laws.StrongDelay.{fitsStrongDelay}

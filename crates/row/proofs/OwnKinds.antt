@@ -1,20 +1,8 @@
 -- The row's test of an event's kind is right: its four numbers are the constraint's kinds and, for those that it lacks, 64, which is no kind; and
 -- an event is of one of the row's streams just where it is of one of its kinds.
-use Rattle.constraint.proofs.Library.{ℕ, zero, suc, _≤_, _<_, arith, _≡_, refl, ap, _∙_, true, false, _||_, List, [], _∷_, _++_, length, take}
-use Rattle.constraint.proofs.Library.{replicate, eqb, ne-eqb}
-use Rattle.constraint.specs.Limits.{streamCount}
-use Rattle.constraint.specs.Streams.{kindOf}
-use Rattle.constraint.specs.Steps.{among}
-use Rattle.constraint.specs.Types.{fieldsOf}
-use Rattle.constraint.specs.Accepted.{kinds, KindsFit, KindsSuit}
-use Rattle.constraint.proofs.Streams.{streams, kind-small, among-where, among-kinds}
-use Rattle.constraint.specs.declared.Constraint.{Constraint}
-use Rattle.constraint.proofs.Types.{regular}
-use Rattle.constraint.proofs.Lists.{split}
-use Rattle.machine.specs.Rule.{noKind, ruleOf}
-use Rattle.machine.proofs.FieldNumbers.{kinds-are}
-use Rattle.machine.proofs.SeveralKinds.{kinds-small}
-use Rattle.row.specs.Machine.{concerns, noEvent}
+use Rattle.row.proofs.Names.{Constraint, KindsFit, KindsSuit, List, [], _++_, _<_, _||_, _∙_, _∷_, _≡_, _≤_, among, among-kinds, among-where}
+use Rattle.row.proofs.Names.{ap, arith, concerns, eqb, false, fieldsOf, kind-small, kindOf, kinds, kinds-are, kinds-small, length, ne-eqb}
+use Rattle.row.proofs.Names.{noEvent, noKind, refl, regular, replicate, ruleOf, split, streamCount, streams, suc, take, true, zero, ℕ}
 use Rattle.row.proofs.Exact.{OfStream}
 
 -- the kinds that a row lacks are no event's

@@ -1,35 +1,17 @@
 -- A row of any type keeps what it has to: going on, it is open and holds what waits; broken, it has the first step after which no
 -- continuation was left. By cases on what the machine does at a step, from what each type proves.
-use Rattle.constraint.proofs.Library.{ℕ, _+_, _≤_, _<_, arith, _≡_, refl, sym, ap, _∙_, subst, Bool, true, false, cond, _&&_, List, [], _∷_, _++_}
-use Rattle.constraint.proofs.Library.{append-nil, _⊎_, inl, inr, ⊎-elim, length, ltb, eqb, ltb-true, ltb-false, lt-ltb, le-ltb, eqb-true, eqb-false}
-use Rattle.constraint.specs.Limits.{streamCount, lastTime, waitingLimit}
-use Rattle.constraint.specs.Steps.{Step, event, tick, close, among, own, clockFrom, clock, closed}
-use Rattle.constraint.specs.Meets.{Meets}
-use Rattle.constraint.specs.Continuation.{Open, BrokenAt, Reads, reads-open, reads-kept, reads-broken}
-use Rattle.constraint.specs.Waiting.{waiting}
-use Rattle.constraint.specs.Accepted.{KindsSuit}
-use Rattle.constraint.proofs.Streams.{streams}
-use Rattle.constraint.specs.declared.Constraint.{Constraint}
-use Rattle.constraint.specs.declared.Verdict.{Verdict}
-use Rattle.constraint.proofs.Lists.{split, both}
-use Rattle.constraint.proofs.History.{own-other, own-tick, own-close, clock-event, clock-tick, clock-close}
-use Rattle.constraint.proofs.History.{closed-event, closed-tick, closed-close, Accepts, Valid, valid-more, Past, past-of}
-use Rattle.constraint.proofs.Continuations.{meets-same, continues-closed, open-at-tick}
-use Rattle.constraint.proofs.Verdicts.{broken-now, broken-later, broken-shut, open-of-meets}
-use Rattle.queue.specs.Ring.{ringOf, ring, items, changed, edited}
-use Rattle.queue.proofs.Laws.{ring-length, ring-zeros, items-edited, times-edited}
-use Rattle.machine.specs.Rule.{ruleOf, waitsIn}
-use Rattle.machine.specs.declared.Rule.{Rule}
-use Rattle.machine.specs.declared.Change.{Change}
-use Rattle.machine.specs.declared.State.{State}
-use Rattle.machine.proofs.FitsRow.{words-few}
-use Rattle.row.specs.Machine.{decide, rowFrom, itemsOf, mark, rowOf, brokenRow, applied, stays, crowding, changedRow}
-use Rattle.row.specs.Machine.{noEvent, eventAt, tickAt, closeAt, rowStep, rowVerdict}
-use Rattle.row.specs.declared.Occurrence.{Occurrence}
-use Rattle.row.specs.declared.Row.{Row}
-use Rattle.row.specs.declared.RowStep.{RowStep}
-use Rattle.row.proofs.Exact.{Sound, GoesOn, Waits, ByOutcome, Exact}
-use Rattle.row.proofs.OwnKinds.{concerns-own, among-own, concerns-none}
+use Rattle.row.proofs.Names.{Accepts, Bool, BrokenAt, Change, Constraint, KindsSuit, List, Meets, Occurrence, Open, Past, Reads, Row, RowStep}
+use Rattle.row.proofs.Names.{Rule, State, Step, Valid, Verdict, [], _&&_, _++_, _+_, _<_, _∙_, _∷_, _≡_, _≤_, _⊎_, among, ap, append-nil}
+use Rattle.row.proofs.Names.{applied, arith, both, broken-later, broken-now, broken-shut, brokenRow, changed, changedRow, clock, clock-close}
+use Rattle.row.proofs.Names.{clock-event, clock-tick, clockFrom, close, closeAt, closed, closed-close, closed-event, closed-tick, cond}
+use Rattle.row.proofs.Names.{continues-closed, crowding, decide, edited, eqb, eqb-false, eqb-true, event, eventAt, false, inl, inr, items}
+use Rattle.row.proofs.Names.{items-edited, itemsOf, lastTime, le-ltb, length, lt-ltb, ltb, ltb-false, ltb-true, mark, meets-same, noEvent}
+use Rattle.row.proofs.Names.{open-at-tick, open-of-meets, own, own-close, own-other, own-tick, past-of, reads-broken, reads-kept, reads-open}
+use Rattle.row.proofs.Names.{refl, ring, ring-length, ring-zeros, ringOf, rowFrom, rowOf, rowStep, rowVerdict, ruleOf, split, stays}
+use Rattle.row.proofs.Names.{streamCount, streams, subst, sym, tick, tickAt, times-edited, true, valid-more, waiting, waitingLimit, waitsIn}
+use Rattle.row.proofs.Names.{words-few, ℕ, ⊎-elim}
+use Rattle.row.proofs.Exact.{ByOutcome, Exact, GoesOn, Sound, Waits}
+use Rattle.row.proofs.OwnKinds.{among-own, concerns-none, concerns-own}
 
 -- ---- what holds between the steps and a row
 
@@ -114,8 +96,7 @@ module _ (c : Constraint) (exact : Exact c) (steps : List Step) (valid : Valid s
       ⊎-elim
       (λ (g : Going c exact steps (r .times) (r .now)).
       with-rule c P r (f .rule-is) (going (r .times) (r .now) (f .whole) (le-ltb 0 (r .now .broken) (omega (arith, g .unbroken))) g))
-      (λ b. broken (lt-ltb 0 (r .now .broken) (b .counted)) b)
-      (f .state)
+      (λ b. broken (lt-ltb 0 (r .now .broken) (b .counted)) b) (f .state)
 
   -- the clock is not past its due time
   by-due : (words : List ℕ) (s : State) → (g : Going c exact steps words s) → clock steps ≤ exact .due (s .marks) (ring words (s .head) (s .len))
@@ -124,8 +105,7 @@ module _ (c : Constraint) (exact : Exact c) (steps : List Step) (valid : Valid s
   -- ---- Open and Waiting
 
   going-open : (words : List ℕ) (s : State) → closed steps ≡ false → Going c exact steps words s → Open c steps
-  going-open words s o g =
-      exact .is-open past o (g .live) (by-due words s g)
+  going-open words s o g = exact .is-open past o (g .live) (by-due words s g)
 
   -- a row that is open has at most 64 waiting
   pub fits-room : (r : Row) → Fits c exact steps r → Open c steps → waiting c steps ≤ waitingLimit
@@ -134,8 +114,7 @@ module _ (c : Constraint) (exact : Exact c) (steps : List Step) (valid : Valid s
       (λ (g : Going c exact steps (r .times) (r .now)).
       waits-few (waitsIn (ruleOf c .form)) (omega (arith, ring-length (r .times) (r .now .head) (r .now .len), g .room))
       (exact .waits past (g .live)))
-      (λ b. absurd (broken-shut c (r .now .broken) valid (b .first) o))
-      (f .state)
+      (λ b. absurd (broken-shut c (r .now .broken) valid (b .first) o)) (f .state)
 
   -- ---- Steps that break a row
 
@@ -178,8 +157,7 @@ module _ (c : Constraint) (exact : Exact c) (steps : List Step) (valid : Valid s
 
   -- a tick to a time past the due time
   tick-late : (words : List ℕ) (was : State) (t : ℕ) → Going c exact steps words was → was .due < t → t ≤ lastTime → ¬ Open c (steps ++ (tick t ∷ []))
-  tick-late words was t g later small =
-      exact .late past (g .live) (subst (λ (n : ℕ). n < t) (g .due-is) later) small
+  tick-late words was t g later small = exact .late past (g .live) (subst (λ (n : ℕ). n < t) (g .due-is) later) small
 
   -- ---- Events
 
@@ -250,8 +228,7 @@ module _ (c : Constraint) (exact : Exact c) (steps : List Step) (valid : Valid s
             (λ e. applied-fits (ltb-false waitingLimit (length kept-times) e))
 
       -- any change
-      changed-after : (change : Change)
-          → ByOutcome (¬ Open c (steps ++ (event k t ∷ []))) Goes change
+      changed-after : (change : Change) → ByOutcome (¬ Open c (steps ++ (event k t ∷ []))) Goes change
           → Holds (changedRow row-was change (length steps + 1))
       unfolding changedRow
       changed-after change by =

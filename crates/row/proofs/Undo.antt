@@ -1,17 +1,9 @@
 -- A row that a step may change is put back word for word: an edit writes at its own place, or there and at the next, and a break writes no word. A
 -- row that it may not change stays as it is.
-use Rattle.constraint.proofs.Library.{ℕ, _≡_, refl, ap, Bool, true, false, cond, _&&_, List, length, ltb, eqb, eq-eqb, ne-eqb}
-use Rattle.constraint.specs.Limits.{waitingLimit}
-use Rattle.constraint.proofs.Lists.{split, both}
-use Rattle.queue.specs.Ring.{ringOf, timeAt, secondAt, changed, editPlace, putBack}
-use Rattle.queue.proofs.Laws.{same-back, edit-back}
-use Rattle.machine.specs.declared.Change.{Change}
-use Rattle.row.specs.Machine.{decide, concerns, rowFrom, itemsOf, brokenRow, applied, stays, crowding, changedRow, rowStep}
-use Rattle.row.specs.Undo.{movesBy, stepPlace, savedAt, savedRow, savedBy, backRow, rowWithout}
-use Rattle.row.specs.declared.Before.{Before}
-use Rattle.row.specs.declared.Occurrence.{Occurrence}
-use Rattle.row.specs.declared.Row.{Row}
-use Rattle.row.specs.declared.RowStep.{RowStep}
+use Rattle.row.proofs.Names.{Before, Bool, Change, List, Occurrence, Row, RowStep, _&&_, _≡_, ap, applied, backRow, both, brokenRow, changed}
+use Rattle.row.proofs.Names.{changedRow, concerns, cond, crowding, decide, edit-back, editPlace, eq-eqb, eqb, false, itemsOf, length, ltb}
+use Rattle.row.proofs.Names.{movesBy, ne-eqb, putBack, refl, ringOf, rowFrom, rowStep, rowWithout, same-back, savedAt, savedBy, savedRow}
+use Rattle.row.proofs.Names.{secondAt, split, stays, stepPlace, timeAt, true, waitingLimit, ℕ}
 
 module _ (r : Row) (whole : length (r .times) ≡ 64) where
   -- a row is put back from what was kept of it at a place

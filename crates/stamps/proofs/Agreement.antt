@@ -1,32 +1,14 @@
 -- With stamps that are never late there is one choice, the stamps themselves; so the word is what the monitor reads at the close, where that takes
 -- every record.
-use Rattle.constraint.proofs.Library.{ℕ, _+_, arith, _≡_, refl, sym, ap, subst, _∙_, List, [], _∷_, _++_, ext-getD}
-use Rattle.constraint.specs.Steps.{Step, event, tick, close, times, clock}
-use Rattle.constraint.specs.Meets.{Meets, MeetsRepeat}
-use Rattle.constraint.specs.Continuation.{Reads, reads-open}
-use Rattle.constraint.specs.Questions.{Judged}
-use Rattle.constraint.specs.Run.{Room, eventQuestions, questions}
-use Rattle.constraint.specs.Streams.{stream}
-use Rattle.constraint.specs.Table.{ReadsTableUpTo, table-of}
-use Rattle.constraint.specs.Recording.{callAt, recordQuestions, RecordingRead, recording-of, ReadsRecords, no-more, record-refused, record-taken}
-use Rattle.constraint.specs.Recording.{ReadsRecording, version-refused, version-taken, ReadsInOrder}
-use Rattle.constraint.specs.Stamps.{TrueTimes, ReadsStamps, each-meets, none-meets, both-occur, RepeatRow, stampsQuestions, AnswersStampsUpTo}
-use Rattle.constraint.specs.Stamps.{no-table}
-use Rattle.constraint.specs.Stamps.{no-recording, not-asked, reads}
-use Rattle.constraint.specs.declared.Answer.the-variants.{Taken, Refused}
-use Rattle.constraint.specs.declared.Call.{Call}
-use Rattle.constraint.specs.declared.Constraint.{Constraint}
-use Rattle.constraint.specs.declared.Constraint.the-variants.{Repeat}
-use Rattle.constraint.specs.declared.StampedAnswer.{StampedAnswer}
-use Rattle.constraint.specs.declared.StampedVerdict.{StampedVerdict}
-use Rattle.constraint.specs.declared.Verdict.{Verdict}
-use Rattle.constraint.proofs.Lists.{both, rising-at}
-use Rattle.constraint.proofs.Judged.{never, judged-none, judged-yes, judged-all, judged-once}
-use Rattle.constraint.proofs.History.{Valid, valid-none, valid-more, past-of, times-close, clock-close, closed-close}
-use Rattle.constraint.proofs.Runs.{accepts-taken, kept-exactly}
-use Rattle.table.proofs.Once.{reads-once}
-use Rattle.stamps.proofs.Progress.{record-accepts}
-use Rattle.stamps.proofs.Answers.{within}
+use Rattle.stamps.proofs.Names.{AnswersStampsUpTo, Call, Constraint, Judged, List, Meets, MeetsRepeat, Reads, ReadsInOrder, ReadsRecording}
+use Rattle.stamps.proofs.Names.{ReadsRecords, ReadsStamps, ReadsTableUpTo, RecordingRead, Refused, Repeat, RepeatRow, Room, StampedAnswer}
+use Rattle.stamps.proofs.Names.{StampedVerdict, Step, Taken, TrueTimes, Valid, Verdict, [], _++_, _+_, _∙_, _∷_, _≡_, accepts-taken, ap, arith}
+use Rattle.stamps.proofs.Names.{both, both-occur, callAt, clock, clock-close, close, closed-close, each-meets, event, eventQuestions, ext-getD}
+use Rattle.stamps.proofs.Names.{judged-all, judged-none, judged-once, judged-yes, kept-exactly, never, no-more, no-recording, no-table}
+use Rattle.stamps.proofs.Names.{none-meets, not-asked, past-of, questions, reads, reads-once, reads-open, record-refused, record-taken}
+use Rattle.stamps.proofs.Names.{recordQuestions, recording-of, refl, rising-at, stampsQuestions, stream, subst, sym, table-of, tick, times}
+use Rattle.stamps.proofs.Names.{times-close, valid-more, valid-none, version-refused, version-taken, ℕ}
+use Rattle.stamps.proofs.{Answers.within, Progress.record-accepts}
 
 -- ---- one word
 

@@ -1,24 +1,8 @@
 -- The answer is put together in the order of the questions: the table's, the recording's, the row's and that of the range.
-use Rattle.constraint.proofs.Library.{ℕ, zero, suc, _≤_, _<_, arith, _≡_, List, [], _∷_, some, length, getElem?}
-use Rattle.constraint.specs.Limits.{firstColoured, lastTime}
-use Rattle.constraint.specs.Accepted.{KindsSuit, InRange}
-use Rattle.constraint.specs.Records.{tableOf}
-use Rattle.constraint.specs.Table.{ReadsTableUpTo, table-of}
-use Rattle.constraint.specs.Stamps.{RepeatRow, AnswersStampsUpTo, no-recording, not-asked, reads}
-use Rattle.constraint.specs.declared.Answer.the-variants.{Refused}
-use Rattle.constraint.specs.declared.Constraint.{Constraint}
-use Rattle.constraint.specs.declared.Constraint.the-variants.{Repeat}
-use Rattle.constraint.specs.declared.StampedAnswer.{StampedAnswer}
-use Rattle.constraint.specs.declared.Table.{Table}
-use Rattle.constraint.proofs.Judged.{never, judged-yes, judged-no}
-use Rattle.row.proofs.Exact.{Sound}
-use Rattle.monitor.proofs.Demand.{accepted-sound, accepted-few}
-use Rattle.monitor.proofs.FittingRows.{sound-at}
-use Rattle.table.proofs.AcceptedRows.{read-accepted}
-use Rattle.stamps.specs.Machine.{PassesStamps, Finds}
-use Rattle.stamps.specs.declared.Passed.{Passed}
-use Rattle.stamps.specs.declared.Asked.{Asked}
-use Rattle.stamps.specs.declared.RowAsked.{RowAsked}
+use Rattle.stamps.proofs.Names.{AnswersStampsUpTo, Asked, Constraint, Finds, InRange, KindsSuit, List, Passed, PassesStamps, ReadsTableUpTo}
+use Rattle.stamps.proofs.Names.{Refused, Repeat, RepeatRow, RowAsked, Sound, StampedAnswer, Table, [], _<_, _∷_, _≡_, _≤_, accepted-few}
+use Rattle.stamps.proofs.Names.{accepted-sound, arith, firstColoured, getElem?, judged-no, judged-yes, lastTime, length, never, no-recording}
+use Rattle.stamps.proofs.Names.{not-asked, read-accepted, reads, some, sound-at, suc, table-of, tableOf, zero, ℕ}
 
 -- a row that is there has a number below theirs
 pub within : (rows : List Constraint) (i : ℕ) (c : Constraint) → getElem? rows i ≡ some c → i < length rows

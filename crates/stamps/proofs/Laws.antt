@@ -1,31 +1,13 @@
 -- The last true time of a choice can be at each place from the earliest to the stamp, and a choice goes on with any later place of the next stamp; so
 -- each two neighbours can take the ends of their ranges, and the tests on these ends tell what each choice and what some choice does.
-use Rattle.constraint.proofs.Library.{ℕ, _+_, _-_, _≤_, _<_, min, max, arith, decLt, _≡_, refl, sym, ap, subst, _∙_, Bool, true, false, cond, _&&_}
-use Rattle.constraint.proofs.Library.{List, [], _∷_, _++_, inl, inr, ⊎-elim, by-cases, length, take, length-append, length-take, getD-take, eqb}
-use Rattle.constraint.proofs.Library.{eqb-true, eqb-false}
-use Rattle.constraint.specs.Limits.{firstColoured, lastTime, noLimit}
-use Rattle.constraint.specs.Streams.{stream}
-use Rattle.constraint.specs.Steps.{Step, event, at, times}
-use Rattle.constraint.specs.Meets.{NotLater, Apart, SpansApart, MeetsRepeat}
-use Rattle.constraint.specs.Stamps.{TrueTimes, ReadsStamps, each-meets, none-meets, both-occur}
-use Rattle.constraint.specs.declared.Call.{Call}
-use Rattle.constraint.specs.declared.Constraint.the-variants.{Sporadic}
-use Rattle.constraint.specs.declared.StampedVerdict.{StampedVerdict}
-use Rattle.constraint.specs.Run.{stepFor}
-use Rattle.constraint.proofs.Lists.{split, at-left, at-next, Each}
-use Rattle.constraint.proofs.History.{times-own, times-other, times-tick, times-close, Accepts}
-use Rattle.machine.specs.Parts.{plus, noMarks, marksOf}
-use Rattle.machine.specs.Rule.{ruleOf}
-use Rattle.machine.specs.declared.Rule.{Rule}
-use Rattle.machine.specs.declared.Marks.{Marks}
-use Rattle.machine.proofs.Tests.{Tells, holds, fails, tells-leb, tells-and}
-use Rattle.machine.proofs.Spans.{apart-first}
-use Rattle.points.specs.Sporadic.{stride, highest}
-use Rattle.points.proofs.Laws.Points.{points-first, points-more}
-use Rattle.points.proofs.Laws.Sporadic.{PointsOf, Places, first-places, later-place, later-places}
-use Rattle.stamps.specs.Machine.{nextLow, nextHigh, firstStamp, laterStamp, stampAfter, callAfter, closeVerdict, stampsVerdict, noStamps}
-use Rattle.stamps.specs.declared.Asked.{Asked}
-use Rattle.stamps.specs.declared.Stamps.{Stamps}
+use Rattle.stamps.proofs.Names.{Accepts, Apart, Asked, Bool, Call, Each, List, Marks, MeetsRepeat, NotLater, Places, PointsOf, ReadsStamps}
+use Rattle.stamps.proofs.Names.{Rule, SpansApart, Sporadic, StampedVerdict, Stamps, Step, Tells, TrueTimes, [], _&&_, _++_, _+_, _-_, _<_, _∙_}
+use Rattle.stamps.proofs.Names.{_∷_, _≡_, _≤_, ap, apart-first, arith, at, at-left, at-next, both-occur, by-cases, callAfter, closeVerdict}
+use Rattle.stamps.proofs.Names.{cond, decLt, each-meets, eqb, eqb-false, eqb-true, event, fails, false, first-places, firstColoured}
+use Rattle.stamps.proofs.Names.{firstStamp, getD-take, highest, holds, inl, inr, lastTime, later-place, later-places, laterStamp, length}
+use Rattle.stamps.proofs.Names.{length-append, length-take, marksOf, max, min, nextHigh, nextLow, noLimit, noMarks, noStamps, none-meets, plus}
+use Rattle.stamps.proofs.Names.{points-first, points-more, refl, ruleOf, split, stampAfter, stampsVerdict, stepFor, stream, stride, subst, sym}
+use Rattle.stamps.proofs.Names.{take, tells-and, tells-leb, times, times-close, times-other, times-own, times-tick, true, ℕ, ⊎-elim}
 
 -- the hidden points of Sporadic with that jitter: of any choice, and of one that is lower to upper apart
 abbrev anyRule : ℕ → Rule

@@ -1,25 +1,10 @@
 -- What is kept of the stamps goes on from record to record, and at the end it says what the row reads.
-use Rattle.constraint.proofs.Library.{ℕ, _≤_, _<_, _≡_, sym, subst, List, [], _∷_, _++_, length}
-use Rattle.constraint.specs.Limits.{firstColoured, lastTime}
-use Rattle.constraint.specs.Steps.{Step, times, clock}
-use Rattle.constraint.specs.Questions.{Judged}
-use Rattle.constraint.specs.Run.{stepFor, questions}
-use Rattle.constraint.specs.Recording.{VersionKnown, callAt, RecordAt, recordQuestions, ReadsInOrder, recording-of, recording-refused}
-use Rattle.constraint.specs.Stamps.{ReadsStamps}
-use Rattle.constraint.specs.declared.Answer.the-variants.{Taken}
-use Rattle.constraint.specs.declared.Call.{Call}
-use Rattle.constraint.specs.declared.Constraint.{Constraint}
-use Rattle.constraint.proofs.Judged.{judged-all}
-use Rattle.constraint.proofs.History.{past-of}
-use Rattle.constraint.proofs.Runs.{accepts-taken}
-use Rattle.clock.specs.Clock.{After, ReadsNext}
-use Rattle.clock.specs.declared.Clock.{Clock}
-use Rattle.clock.specs.declared.RecordRead.{RecordRead}
-use Rattle.clock.proofs.Laws.{ReadUpTo, up-to-start, up-to-more, up-to-refused, up-to-end, after-valid, after-clock}
-use Rattle.stamps.specs.Machine.{noStamps, callAfter, stampsVerdict}
-use Rattle.stamps.specs.declared.Asked.{Asked}
-use Rattle.stamps.specs.declared.Stamps.{Stamps}
-use Rattle.stamps.proofs.Laws.{Keeps, keeps-none, keeps-call, reads-now}
+use Rattle.stamps.proofs.Names.{After, Asked, Call, Clock, Constraint, Judged, List, ReadUpTo, ReadsInOrder, ReadsNext, ReadsStamps, RecordAt}
+use Rattle.stamps.proofs.Names.{RecordRead, Stamps, Step, Taken, VersionKnown, [], _++_, _<_, _∷_, _≡_, _≤_, accepts-taken, after-clock}
+use Rattle.stamps.proofs.Names.{after-valid, callAfter, callAt, clock, firstColoured, judged-all, lastTime, length, noStamps, past-of}
+use Rattle.stamps.proofs.Names.{questions, recordQuestions, recording-of, recording-refused, stampsVerdict, stepFor, subst, sym, times}
+use Rattle.stamps.proofs.Names.{up-to-end, up-to-more, up-to-refused, up-to-start, ℕ}
+use Rattle.stamps.proofs.Laws.{Keeps, keeps-call, keeps-none, reads-now}
 
 -- a record that is taken: its own question, and those of its step
 pub record-accepts : (bytes : List ℕ) (rows : List Constraint) (steps : List Step) (place : ℕ) → Judged (recordQuestions rows steps bytes place) Taken

@@ -1,20 +1,7 @@
 -- A row's numbers are those of its fields, so the type's number and the span tell a Repeat of span 1.
-use Rattle.constraint.proofs.Library.{ℕ, _≤_, _<_, arith, _≡_, sym, ap, subst, _∙_, List, [], _∷_, some, length, getD, getElem?, take, getD-take}
-use Rattle.constraint.specs.Steps.{at}
-use Rattle.constraint.specs.Types.{rowRead}
-use Rattle.constraint.specs.Records.{tableOf, HoldsRow}
-use Rattle.constraint.specs.Stamps.{RepeatRow}
-use Rattle.constraint.specs.declared.Answer.the-variants.{Refused}
-use Rattle.constraint.specs.declared.Constraint.{Constraint}
-use Rattle.constraint.specs.declared.Constraint.the-variants.{Repeat}
-use Rattle.constraint.specs.declared.Entry.{Entry}
-use Rattle.constraint.specs.declared.Table.{Table}
-use Rattle.constraint.specs.declared.fields.Fields.{Fields}
-use Rattle.constraint.proofs.Types.{numbers-read}
-use Rattle.constraint.proofs.Judged.{never, judged-yes, judged-no}
-use Rattle.constraint.proofs.Records.{record-count, row-there}
-use Rattle.stamps.specs.Machine.{Finds}
-use Rattle.stamps.specs.declared.RowAsked.{RowAsked}
+use Rattle.stamps.proofs.Names.{Constraint, Entry, Fields, Finds, HoldsRow, List, Refused, Repeat, RepeatRow, RowAsked, Table, [], _<_, _∙_}
+use Rattle.stamps.proofs.Names.{_∷_, _≡_, _≤_, ap, arith, at, getD, getD-take, getElem?, judged-no, judged-yes, length, never, numbers-read}
+use Rattle.stamps.proofs.Names.{record-count, row-there, rowRead, some, subst, sym, tableOf, take, ℕ}
 
 -- ---- a row's numbers
 
@@ -54,10 +41,7 @@ module _ (table : Table) (i : ℕ) where
           refused = λ more rows e few late.
               judged-yes 15 _ _ (Refused 25) (is-there rows e)
               (judged-no 25 _ _ (λ asked.
-              let k = asked .0 in
-              let low = asked .1 .0 in
-              let high = asked .1 .1 .0 in
-              let row = asked .1 .1 .1 in
+              let k = asked .0 in let low = asked .1 .0 in let high = asked .1 .1 .0 in let row = asked .1 .1 .1 in
               let same : getD (table .rows) i d .constraint ≡ Repeat k 1 low high =
               of-row rows k low high (row-there table rows i d e (is-there rows e)) row in
               let numbers = repeat-of k low high f (subst (λ (c : Constraint). HoldsRow c f) same holds) in

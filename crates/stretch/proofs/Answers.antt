@@ -1,26 +1,16 @@
 -- The numbers of the starts say which stretches break the row, so the first that is as long as its start needs is the first that breaks it;
 -- and the answer is put together in the order of the questions.
-use Rattle.constraint.proofs.Library.{ℕ, _≤_, _<_, min, arith, _≡_, refl, sym, ap, subst, Bool, true, false, List, [], _∷_, inl, some, length, getD}
-use Rattle.constraint.proofs.Library.{getElem?, length-drop, leb, le-leb, lt-leb, leb-true, leb-false}
-use Rattle.constraint.specs.Steps.{Step, at}
-use Rattle.constraint.specs.Questions.{Judged}
-use Rattle.constraint.specs.Records.{Decides, tableOf}
-use Rattle.constraint.specs.Accepted.{Accepted}
-use Rattle.constraint.specs.Recording.{ReadsInOrder, recording-of}
-use Rattle.constraint.specs.declared.Answer.{Answer}
-use Rattle.constraint.specs.declared.Answer.the-variants.{Taken, Refused}
-use Rattle.constraint.specs.declared.Constraint.{Constraint}
-use Rattle.constraint.specs.declared.Entry.{Entry}
-use Rattle.constraint.specs.declared.Table.{Table}
-use Rattle.constraint.proofs.Judged.{judged-none, judged-yes, judged-no}
-use Rattle.constraint.proofs.Records.{record-count, row-there}
-use Rattle.constraint.proofs.Accepted.{alone-accepted}
-use Rattle.constraint.specs.Stretches.{Stretch, stretchOf, stretches, Some, FirstAt, Breaking, stretchQuestions, AnswersRow, no-stretch, found}
-use Rattle.stretch.specs.Machine.{Kept, RunOf, NeedsFrom, Enough, Searches, Tries, TriesAll, Asks}
+use Rattle.constraint.proofs.Judged.{judged-no, judged-none, judged-yes}
+use Rattle.constraint.proofs.Library.{Bool, List, [], _<_, _∷_, _≡_, _≤_, ap, arith, false, getD, getElem?, inl, le-leb, leb, leb-false, leb-true}
+use Rattle.constraint.proofs.Library.{length, length-drop, lt-leb, min, refl, some, subst, sym, true, ℕ}
+use Rattle.constraint.proofs.{Accepted.alone-accepted, Records.record-count, Records.row-there}
+use Rattle.constraint.specs.Stretches.{AnswersRow, Breaking, FirstAt, Some, Stretch, found, no-stretch, stretchOf, stretchQuestions, stretches}
+use Rattle.constraint.specs.{Accepted.Accepted, Questions.Judged, Recording.ReadsInOrder, Recording.recording-of, Records.Decides, Records.tableOf}
+use Rattle.constraint.specs.{Steps.Step, Steps.at, declared.Answer.Answer, declared.Answer.the-variants.Refused, declared.Answer.the-variants.Taken}
+use Rattle.constraint.specs.{declared.Constraint.Constraint, declared.Entry.Entry, declared.StretchAnswer.StretchAnswer, declared.Table.Table}
+use Rattle.stretch.proofs.{Places.Inside, Places.first-as, Places.some-as, Places.some-right, Places.stretches-inside, Taking.recording-taken}
+use Rattle.stretch.specs.Machine.{Asks, Enough, Kept, NeedsFrom, RunOf, Searches, Tries, TriesAll}
 use Rattle.stretch.specs.declared.Found.{Found}
-use Rattle.constraint.specs.declared.StretchAnswer.{StretchAnswer}
-use Rattle.stretch.proofs.Taking.{recording-taken}
-use Rattle.stretch.proofs.Places.{Inside, some-as, first-as, stretches-inside, some-right}
 
 -- ---- one row
 

@@ -1,26 +1,15 @@
 -- A recording's records go to the arrays one by one, as long as there is room, and a record's stream and time say what it is.
-use Rattle.constraint.proofs.Library.{ℕ, _≤_, _<_, min, ℕ-discrete, decLt, arith, _≡_, refl, sym, ap, subst, _∙_, cond, List, [], _∷_, _++_, by-cases}
-use Rattle.constraint.proofs.Library.{length, set, length-append, length-set, List·getD-append, getD-at, getD-set-same, getD-set-other, eqb, ne-eqb}
-use Rattle.constraint.specs.Limits.{streamCount}
-use Rattle.constraint.specs.Streams.{stream}
-use Rattle.constraint.specs.Steps.{Step, close, at}
-use Rattle.constraint.specs.Questions.{Judged}
-use Rattle.constraint.specs.Run.{stepFor, questions}
-use Rattle.constraint.specs.Recording.{VersionKnown, callOf, colourIn, recordQuestions, ReadsInOrder, recording-of, recording-refused}
-use Rattle.constraint.specs.Bytes.{numberAt}
-use Rattle.constraint.specs.Table.{bodyAt}
-use Rattle.constraint.specs.declared.Answer.the-variants.{Taken}
-use Rattle.constraint.specs.declared.Call.{Call}
-use Rattle.constraint.proofs.Lists.{split}
-use Rattle.constraint.proofs.Judged.{judged-all}
-use Rattle.constraint.proofs.History.{Accepts}
-use Rattle.constraint.proofs.Runs.{accepts-taken}
+use Rattle.clock.proofs.Laws.{ReadUpTo, up-to-end, up-to-more, up-to-refused, up-to-start}
+use Rattle.clock.specs.{Clock.After, Clock.ReadsNext, declared.Clock.Clock, declared.RecordRead.RecordRead}
+use Rattle.constraint.proofs.Library.{List, List·getD-append, [], _++_, _<_, _∙_, _∷_, _≡_, _≤_, ap, arith, by-cases, cond, decLt, eqb, getD-at}
+use Rattle.constraint.proofs.Library.{getD-set-other, getD-set-same, length, length-append, length-set, min, ne-eqb, refl, set, subst, sym, ℕ}
+use Rattle.constraint.proofs.Library.{ℕ-discrete}
+use Rattle.constraint.proofs.{History.Accepts, Judged.judged-all, Lists.split, Runs.accepts-taken}
+use Rattle.constraint.specs.Recording.{ReadsInOrder, VersionKnown, callOf, colourIn, recordQuestions, recording-of, recording-refused}
+use Rattle.constraint.specs.{Bytes.numberAt, Limits.streamCount, Questions.Judged, Run.questions, Run.stepFor, Steps.Step, Steps.at, Steps.close}
+use Rattle.constraint.specs.{Streams.stream, Table.bodyAt, declared.Answer.the-variants.Taken, declared.Call.Call}
 use Rattle.questions.specs.Questions.{occurrenceBy}
-use Rattle.clock.specs.Clock.{After, ReadsNext}
-use Rattle.clock.specs.declared.Clock.{Clock}
-use Rattle.clock.specs.declared.RecordRead.{RecordRead}
-use Rattle.clock.proofs.Laws.{ReadUpTo, up-to-start, up-to-more, up-to-refused, up-to-end}
-use Rattle.stretch.specs.Machine.{stepAs, Kept, KeepsRecord}
+use Rattle.stretch.specs.Machine.{KeepsRecord, Kept, stepAs}
 
 -- ---- a record's numbers
 

@@ -1,8 +1,8 @@
 -- The search goes through the list of stretches one by one: what it has tried and what is left are the list, so its counter is the place.
-use Rattle.constraint.proofs.Library.{ℕ, zero, suc, _+_, _-_, _*_, _≤_, _<_, zero-mul, one-mul, mul-one, mul-add, add-mul, arith, _≡_, refl, sym, ap}
-use Rattle.constraint.proofs.Library.{subst, _∙_, List, [], _∷_, _++_, append-nil, _⊎_, inl, inr, ⊎-elim, length, length-append, append-snoc}
+use Rattle.constraint.proofs.Library.{List, [], _*_, _++_, _+_, _-_, _<_, _∙_, _∷_, _≡_, _≤_, _⊎_, add-mul, ap, append-nil, append-snoc, arith, inl}
+use Rattle.constraint.proofs.Library.{inr, length, length-append, mul-add, mul-one, one-mul, refl, subst, suc, sym, zero, zero-mul, ℕ, ⊎-elim}
 use Rattle.constraint.specs.Steps.{at}
-use Rattle.constraint.specs.Stretches.{Stretch, stretchOf, starts, sizes, stretches, Some, FirstAt}
+use Rattle.constraint.specs.Stretches.{FirstAt, Some, Stretch, sizes, starts, stretchOf, stretches}
 use Rattle.stretch.specs.Machine.{Enough}
 
 -- ---- lists of stretches

@@ -1,27 +1,15 @@
 -- What the loop over the records from a start on keeps: its row is that of a run, whichever constraint has the row's rule.
-use Rattle.constraint.proofs.Library.{ℕ, suc, _+_, _≤_, _<_, arith, _≡_, refl, sym, ap, subst, _∙_, Bool, true, false, cond, _&&_, List, [], _∷_}
-use Rattle.constraint.proofs.Library.{by-cases, ⊎-elim, ℕ-discrete, getD, length, set, replicate, length-set, ltb, eqb, getD-set-same, getD-set-other}
-use Rattle.constraint.specs.Steps.{Step, at}
-use Rattle.constraint.specs.Accepted.{Accepted}
-use Rattle.constraint.specs.declared.Constraint.{Constraint}
-use Rattle.machine.specs.Rule.{ruleOf}
-use Rattle.machine.specs.declared.Rule.{Rule}
-use Rattle.machine.specs.Words.{numberWords, rowWords, ruleAt}
-use Rattle.row.specs.Machine.{concerns, rowFrom, freshState, rowOf, brokenRow, applied, rowStep}
-use Rattle.row.specs.declared.Row.{Row}
-use Rattle.row.specs.declared.RowStep.{RowStep}
-use Rattle.row.specs.declared.Before.{Before}
-use Rattle.row.specs.declared.Occurrence.{Occurrence}
-use Rattle.row.specs.Undo.{noBefore}
-use Rattle.row.specs.Apart.{crowdedBy, changeBy, withChange, steppedRow}
-use Rattle.row.specs.Stored.{wordsOf}
-use Rattle.row.proofs.Engine.{engine}
-use Rattle.row.proofs.Steps.{Fits, Going}
-use Rattle.row.proofs.Crowding.{step-crowds, step-by, crowded-known}
-use Rattle.row.proofs.Exact.{Sound}
+use Rattle.constraint.proofs.Library.{Bool, List, [], _&&_, _+_, _<_, _∙_, _∷_, _≡_, _≤_, ap, arith, by-cases, cond, eqb, false, getD, getD-set-other}
+use Rattle.constraint.proofs.Library.{getD-set-same, length, length-set, ltb, refl, replicate, set, subst, suc, sym, true, ℕ, ℕ-discrete, ⊎-elim}
+use Rattle.constraint.specs.{Accepted.Accepted, Steps.Step, Steps.at, declared.Constraint.Constraint}
+use Rattle.machine.specs.{Rule.ruleOf, Words.numberWords, Words.rowWords, Words.ruleAt, declared.Rule.Rule}
 use Rattle.monitor.proofs.Demand.{accepted-sound}
-use Rattle.stretch.specs.Machine.{seenAs, RunOf, NeedsFrom}
-use Rattle.stretch.proofs.Starts.{Running, run-start, run-end, run-crowded, run-broken, run-on}
+use Rattle.row.proofs.{Crowding.crowded-known, Crowding.step-by, Crowding.step-crowds, Engine.engine, Exact.Sound, Steps.Fits, Steps.Going}
+use Rattle.row.specs.Machine.{applied, brokenRow, concerns, freshState, rowFrom, rowOf, rowStep}
+use Rattle.row.specs.{Apart.changeBy, Apart.crowdedBy, Apart.steppedRow, Apart.withChange, Stored.wordsOf, Undo.noBefore, declared.Before.Before}
+use Rattle.row.specs.{declared.Occurrence.Occurrence, declared.Row.Row, declared.RowStep.RowStep}
+use Rattle.stretch.proofs.Starts.{Running, run-broken, run-crowded, run-end, run-on, run-start}
+use Rattle.stretch.specs.Machine.{NeedsFrom, RunOf, seenAs}
 
 pub sound-of : (c : Constraint) → Accepted (c ∷ []) → Sound c
 sound-of c accepted = accepted-sound (c ∷ []) accepted .0
@@ -130,8 +118,7 @@ module _ (streams times : List ℕ) (count start : ℕ) (small : count ≤ 256) 
       module _ (calm : crowdedBy (r .rule) (r .now) o ≡ false) where
         stepped-is : rowStep r (seenAs (at streams (start + size)) (at times (start + size))) (size + 1) .crowded ≡ false
             → rowStep r (seenAs (at streams (start + size)) (at times (start + size))) (size + 1) .row ≡ steppedRow o (size + 1) r
-        stepped-is e =
-            ap (λ (s : RowStep). s .row) (here ∙ step-by r o (size + 1) false (ap (λ (s : RowStep). s .crowded) (sym here) ∙ e))
+        stepped-is e = ap (λ (s : RowStep). s .row) (here ∙ step-by r o (size + 1) false (ap (λ (s : RowStep). s .crowded) (sym here) ∙ e))
 
         pub to-broken : 0 < steppedRow o (size + 1) r .now .broken → (c : Constraint) → rule ≡ ruleOf c
             → NeedsFrom c streams times count start (size + 1)

@@ -1,35 +1,21 @@
 -- A run over one row, from a start on, goes on while the row is open. Where it breaks the row, every longer stretch from there breaks it,
 -- as nothing more is refused; where it meets 12 or the end, none does.
-use Rattle.constraint.proofs.Library.{ℕ, zero, suc, _+_, _-_, _≤_, _<_, decLt, arith, _≡_, refl, sym, ap, subst, _∙_, true, false, cond, List, []}
-use Rattle.constraint.proofs.Library.{_∷_, _++_, ⊎-elim, by-cases, length, take, drop, getD, length-take, length-drop, take-take, length-take-le}
-use Rattle.constraint.proofs.Library.{getD-take, getD-drop, eqb, le-leb, lt-leb}
-use Rattle.constraint.specs.Limits.{streamCount, waitingLimit}
-use Rattle.constraint.specs.Steps.{Step, event, tick, close, at, closed}
-use Rattle.constraint.specs.Continuation.{Open, Reads, reads-open, reads-kept, reads-broken}
-use Rattle.constraint.specs.Waiting.{waiting}
-use Rattle.constraint.specs.Questions.{Judged}
-use Rattle.constraint.specs.Records.{Decides}
-use Rattle.constraint.specs.Run.{stepFor, Room, questions}
-use Rattle.constraint.specs.declared.Answer.the-variants.{Taken}
-use Rattle.constraint.specs.declared.Call.{Call}
-use Rattle.constraint.specs.declared.Constraint.{Constraint}
-use Rattle.constraint.specs.declared.Verdict.{Verdict}
-use Rattle.constraint.proofs.Lists.{split}
-use Rattle.constraint.proofs.Judged.{never}
-use Rattle.constraint.proofs.LastQuestion.{judged-last}
-use Rattle.constraint.proofs.History.{closed-event, closed-tick, Accepts, Valid}
-use Rattle.constraint.proofs.Runs.{accepts-taken}
-use Rattle.constraint.proofs.Verdicts.{open-prefix, broken-shut}
-use Rattle.row.specs.Machine.{rowOf, eventAt, tickAt, rowStep, rowVerdict}
-use Rattle.row.specs.declared.Occurrence.{Occurrence}
-use Rattle.row.specs.declared.Row.{Row}
-use Rattle.row.specs.declared.RowStep.{RowStep}
-use Rattle.row.proofs.Exact.{Sound}
-use Rattle.row.proofs.Engine.{engine}
-use Rattle.row.proofs.Steps.{Fits, Going, After, seen, fits-start, fits-room, fits-step, fits-reads}
-use Rattle.constraint.specs.Stretches.{TakesEach, takes-none, Breaks}
-use Rattle.stretch.specs.Machine.{stepAs, seenAs, Kept, Needs}
-use Rattle.stretch.proofs.Taking.{takes-valid, CallAt, takes-at, next, next-is, part-next, next-judged, takes-next}
+use Rattle.constraint.proofs.History.{Accepts, Valid, closed-event, closed-tick}
+use Rattle.constraint.proofs.Library.{List, [], _++_, _+_, _-_, _<_, _∙_, _∷_, _≡_, _≤_, ap, arith, by-cases, cond, decLt, drop, eqb, false, getD}
+use Rattle.constraint.proofs.Library.{getD-drop, getD-take, le-leb, length, length-drop, length-take, length-take-le, lt-leb, refl, subst, suc, sym}
+use Rattle.constraint.proofs.Library.{take, take-take, true, zero, ℕ, ⊎-elim}
+use Rattle.constraint.proofs.{Judged.never, LastQuestion.judged-last, Lists.split, Runs.accepts-taken, Verdicts.broken-shut, Verdicts.open-prefix}
+use Rattle.constraint.specs.Continuation.{Open, Reads, reads-broken, reads-kept, reads-open}
+use Rattle.constraint.specs.Steps.{Step, at, close, closed, event, tick}
+use Rattle.constraint.specs.{Limits.streamCount, Limits.waitingLimit, Questions.Judged, Records.Decides, Run.Room, Run.questions, Run.stepFor}
+use Rattle.constraint.specs.{Stretches.Breaks, Stretches.TakesEach, Stretches.takes-none, Waiting.waiting, declared.Answer.the-variants.Taken}
+use Rattle.constraint.specs.{declared.Call.Call, declared.Constraint.Constraint, declared.Verdict.Verdict}
+use Rattle.row.proofs.Steps.{After, Fits, Going, fits-reads, fits-room, fits-start, fits-step, seen}
+use Rattle.row.proofs.{Engine.engine, Exact.Sound}
+use Rattle.row.specs.Machine.{eventAt, rowOf, rowStep, rowVerdict, tickAt}
+use Rattle.row.specs.{declared.Occurrence.Occurrence, declared.Row.Row, declared.RowStep.RowStep}
+use Rattle.stretch.proofs.Taking.{CallAt, next, next-is, next-judged, part-next, takes-at, takes-next, takes-valid}
+use Rattle.stretch.specs.Machine.{Kept, Needs, seenAs, stepAs}
 
 -- ---- a record as two numbers
 
@@ -81,15 +67,13 @@ module _ (c : Constraint) (sound : Sound c) where
   -- a row that fits is open while it is not broken, and shut when it is
   fits-open : (part : List Step) → Valid part → closed part ≡ false → (r : Row) → Fits c (engine c sound) part r → r .now .broken ≡ 0 → Open c part
   unfolding rowVerdict
-  fits-open part valid not-closed r fits unbroken =
-      open-of part _ (fits-reads c (engine c sound) part valid r fits) (rw (unbroken, not-closed))
+  fits-open part valid not-closed r fits unbroken = open-of part _ (fits-reads c (engine c sound) part valid r fits) (rw (unbroken, not-closed))
 
   fits-shut : (part : List Step) → Valid part → (r : Row) → Fits c (engine c sound) part r → 0 < r .now .broken → ¬ Open c part
   fits-shut part valid r fits broken =
       ⊎-elim
       (λ (g : Going c (engine c sound) part (r .times) (r .now)). absurd (omega (arith, g .unbroken, broken)))
-      (λ b. broken-shut c (r .now .broken) valid (b .first))
-      (fits .state)
+      (λ b. broken-shut c (r .now .broken) valid (b .first)) (fits .state)
 
   module _ (steps : List Step) (taken : TakesEach [] steps) (streams times : List ℕ) (kept : Kept steps streams times) (few : length steps ≤ 256)
       (start : ℕ) where
@@ -143,8 +127,7 @@ module _ (c : Constraint) (sound : Sound c) where
 
       -- nothing up to here breaks the row
       unbroken-yet : (m : ℕ) → m ≤ size → ¬ Breaks c (part m)
-      unbroken-yet m h breaks =
-          breaks .1 (subst (Open c) (take-take m size rest h) (open-prefix c (takes-valid (run .takes)) is-open m))
+      unbroken-yet m h breaks = breaks .1 (subst (Open c) (take-take m size rest h) (open-prefix c (takes-valid (run .takes)) is-open m))
 
       -- the end comes first
       pub run-end : length steps ≤ start + size → Needs c rest 257

@@ -1,22 +1,15 @@
 -- A later start has an earlier clock and fewer times, so a record that was taken in its place is in order behind a later start too: only
 -- 12 can refuse it there.
-use Rattle.constraint.proofs.Library.{ℕ, suc, _+_, _≤_, _<_, decLt, arith, _≡_, sym, ap, subst, _∙_, false, List, [], _∷_, _++_, by-cases, length}
-use Rattle.constraint.proofs.Library.{take, drop, getD, length-append, length-drop, List·getD-append, take-append-le, take-at, getD-at, take-suc}
-use Rattle.constraint.proofs.Library.{take-add, getD-drop}
-use Rattle.constraint.specs.Limits.{lastCount}
-use Rattle.constraint.specs.Steps.{Step, event, tick, close, times, clockFrom, clock, closed}
-use Rattle.constraint.specs.Continuation.{EventInOrder}
-use Rattle.constraint.specs.Questions.{Judged}
-use Rattle.constraint.specs.Run.{stepFor, Room, eventQuestions, questions}
-use Rattle.constraint.specs.Recording.{callAt, recordQuestions, ReadsRecords, no-more, record-taken, ReadsInOrder, version-taken, recording-of}
-use Rattle.constraint.specs.declared.Answer.the-variants.{Taken}
-use Rattle.constraint.specs.declared.Call.{Call}
-use Rattle.constraint.specs.declared.Constraint.{Constraint}
-use Rattle.constraint.proofs.Lists.{Each, each-right}
-use Rattle.constraint.proofs.History.{times-append, clock-append, clock-later, Valid, valid-none, valid-more}
-use Rattle.constraint.proofs.Judged.{judged-none, judged-yes, judged-all}
-use Rattle.constraint.proofs.Runs.{accepts-taken}
-use Rattle.constraint.specs.Stretches.{TakesEach, takes-none, takes-more}
+use Rattle.constraint.proofs.History.{Valid, clock-append, clock-later, times-append, valid-more, valid-none}
+use Rattle.constraint.proofs.Library.{List, List·getD-append, [], _++_, _+_, _<_, _∙_, _∷_, _≡_, _≤_, ap, arith, by-cases, decLt, drop, false, getD}
+use Rattle.constraint.proofs.Library.{getD-at, getD-drop, length, length-append, length-drop, subst, suc, sym, take, take-add, take-append-le}
+use Rattle.constraint.proofs.Library.{take-at, take-suc, ℕ}
+use Rattle.constraint.proofs.{Judged.judged-all, Judged.judged-none, Judged.judged-yes, Lists.Each, Lists.each-right, Runs.accepts-taken}
+use Rattle.constraint.specs.Recording.{ReadsInOrder, ReadsRecords, callAt, no-more, record-taken, recordQuestions, recording-of, version-taken}
+use Rattle.constraint.specs.Run.{Room, eventQuestions, questions, stepFor}
+use Rattle.constraint.specs.Steps.{Step, clock, clockFrom, close, closed, event, tick, times}
+use Rattle.constraint.specs.{Continuation.EventInOrder, Limits.lastCount, Questions.Judged, Stretches.TakesEach, Stretches.takes-more}
+use Rattle.constraint.specs.{Stretches.takes-none, declared.Answer.the-variants.Taken, declared.Call.Call, declared.Constraint.Constraint}
 
 -- ---- records that are taken
 
@@ -148,5 +141,4 @@ module _ (steps : List Step) (taken : TakesEach [] steps) (start size : ℕ) (th
 
   pub takes-next : (rows : List Constraint) → TakesEach rows part → Room rows (take (suc size) (drop start steps))
       → TakesEach rows (take (suc size) (drop start steps))
-  takes-next rows before room =
-      subst (TakesEach rows) (sym part-next) (takes-more next before (next-judged rows (subst (Room rows) part-next room)))
+  takes-next rows before room = subst (TakesEach rows) (sym part-next) (takes-more next before (next-judged rows (subst (Room rows) part-next room)))

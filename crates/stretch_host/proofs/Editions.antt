@@ -1,10 +1,8 @@
 -- §16.6: of a table of the first edition the call for both editions promises just what the one for the first does, since they read it alike.
-use Rattle.constraint.proofs.Library.{ℕ, _≤_, _≡_, arith, List, _↔_}
-use Rattle.constraint.specs.Steps.{at}
-use Rattle.constraint.specs.Stretches.{AnswersStretchUpTo, no-table, no-recording, answers}
-use Rattle.constraint.specs.declared.StretchAnswer.{StretchAnswer}
-use Rattle.constraint.proofs.Editions.{reads-same}
-use Rattle.stretch_host.specs.Stretches.{NumbersStretchUpTo, NumbersStretch}
+use Rattle.constraint.proofs.{Editions.reads-same, Library.List, Library._↔_, Library._≡_, Library._≤_, Library.arith, Library.ℕ}
+use Rattle.constraint.specs.Stretches.{AnswersStretchUpTo, answers, no-recording, no-table}
+use Rattle.constraint.specs.{Steps.at, declared.StretchAnswer.StretchAnswer}
+use Rattle.stretch_host.specs.Stretches.{NumbersStretch, NumbersStretchUpTo}
 
 module _ (one other : ℕ) (table : List ℕ) (known : at table 0 ≤ one) (known′ : at table 0 ≤ other) where
   answers-same : {recording : List ℕ} {i : ℕ} {answer : StretchAnswer} → AnswersStretchUpTo one table recording i answer

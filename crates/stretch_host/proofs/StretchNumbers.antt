@@ -1,9 +1,9 @@
 -- Each question about a stretch has a number above 0, and so has each refusal.
-use Rattle.constraint.proofs.Library.{ℕ, _<_, arith, List}
-use Rattle.constraint.specs.Stretches.{stretchQuestions, no-stretch, AnswersStretchUpTo, no-table, no-recording, answers}
+use Rattle.constraint.proofs.Library.{List, _<_, arith, ℕ}
+use Rattle.constraint.specs.Stretches.{AnswersStretchUpTo, answers, no-recording, no-stretch, no-table, stretchQuestions}
 use Rattle.constraint.specs.declared.StretchAnswer.{StretchAnswer}
-use Rattle.fresh.proofs.Refusals.{AllAbove, number-above, refused-small}
 use Rattle.delkuthi.proofs.RecordNumbers.{refusal-short}
+use Rattle.fresh.proofs.Refusals.{AllAbove, number-above, refused-small}
 
 pub stretch-above : {newest : ℕ} (table recording : List ℕ) (i n place : ℕ)
     → AnswersStretchUpTo newest table recording i (StretchAnswer.Refused n place) → 0 < n

@@ -1,16 +1,7 @@
 -- A table that was read is accepted: the questions that a fresh monitor puts to its rows were put when they were read.
-use Rattle.constraint.proofs.Library.{ℕ, _+_, _≤_, _<_, _≡_, ap, List, []}
-use Rattle.constraint.specs.Limits.{rowLimit}
-use Rattle.constraint.specs.Questions.{Judged}
-use Rattle.constraint.specs.Accepted.{rowQuestionsIn, rowsQuestions, AcceptedIn}
-use Rattle.constraint.specs.Steps.{at}
-use Rattle.constraint.specs.Types.{typeOf, lastType}
-use Rattle.constraint.specs.Table.{rowBody, ShapeFits, StandsFor, bodyAt, TableRead, table-of, table-refused, rowThen}
-use Rattle.constraint.specs.Table.{ReadsRows, no-more, row-refused, row-taken, ReadsTableUpTo, version-taken}
-use Rattle.constraint.specs.declared.Answer.the-variants.{Taken}
-use Rattle.constraint.specs.declared.Constraint.{Constraint}
-use Rattle.constraint.proofs.Judged.{judged-none, judged-yes}
-use Rattle.constraint.proofs.Accepted.{rows-taken}
+use Rattle.table.proofs.Names.{AcceptedIn, Constraint, Judged, List, ReadsRows, ReadsTableUpTo, ShapeFits, StandsFor, TableRead, Taken, []}
+use Rattle.table.proofs.Names.{_+_, _<_, _≡_, _≤_, ap, at, bodyAt, judged-none, judged-yes, lastType, no-more, row-refused, row-taken, rowBody}
+use Rattle.table.proofs.Names.{rowLimit, rowQuestionsIn, rowThen, rows-taken, rowsQuestions, table-of, table-refused, typeOf, version-taken, ℕ}
 use Rattle.table.proofs.Places.{place-taken}
 
 -- the rows that were read, with i rows before them, are accepted

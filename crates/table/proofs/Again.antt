@@ -1,28 +1,11 @@
 -- §4.9 and §4.10 of the functions: what `read` accepted `write` writes back to the same bytes, and what `write` has written `read` reads back
 -- to the same rows.
-use Rattle.constraint.proofs.Library.{ℕ, _+_, _*_, _≤_, _<_, _≡_, refl, sym, ap, subst, _∙_, List, [], _∷_, _++_, arith, length, take, drop}
-use Rattle.constraint.proofs.Library.{take-append-seam}
-use Rattle.constraint.specs.Bytes.{Bytes}
-use Rattle.constraint.specs.Questions.{Question, Judged}
-use Rattle.constraint.specs.Accepted.{rowsQuestions, AcceptedIn}
-use Rattle.constraint.specs.Records.{rowsOf}
-use Rattle.constraint.specs.Table.{tableBytesIn, writerQuestions, table-of, ReadsTableUpTo}
-use Rattle.constraint.specs.Steps.{at}
-use Rattle.constraint.specs.declared.Answer.the-variants.{Taken, Refused}
-use Rattle.constraint.specs.declared.Constraint.{Constraint}
-use Rattle.constraint.specs.declared.Table.{Table}
-use Rattle.constraint.proofs.Judged.{never, judged-none, judged-yes, judged-later, judged-parts, judged-once}
-use Rattle.constraint.proofs.Accepted.{rows-then}
-use Rattle.table.specs.Reading.{readAs, ReadsInto}
-use Rattle.table.specs.Writing.{Writes}
-use Rattle.table.specs.Raw.{rawSize, RawRows, WritesRaw, all-read, stopped-at}
-use Rattle.table.specs.declared.ReadAnswer.{ReadAnswer}
-use Rattle.table.specs.declared.Reading.{Reading}
-use Rattle.table.specs.declared.WriteAnswer.{WriteAnswer}
-use Rattle.table.proofs.Answers.{reads-as}
-use Rattle.table.proofs.AcceptedRows.{read-accepted}
-use Rattle.table.proofs.Once.{reads-once}
-use Rattle.table.proofs.RoundTrip.{read-then-write, write-then-read}
+use Rattle.table.proofs.Names.{AcceptedIn, Bytes, Constraint, Judged, List, Question, RawRows, ReadAnswer, Reading, ReadsInto, ReadsTableUpTo}
+use Rattle.table.proofs.Names.{Refused, Table, Taken, WriteAnswer, Writes, WritesRaw, [], _*_, _++_, _+_, _<_, _∙_, _∷_, _≡_, _≤_, all-read}
+use Rattle.table.proofs.Names.{ap, arith, at, drop, judged-later, judged-none, judged-once, judged-parts, judged-yes, length, never, rawSize}
+use Rattle.table.proofs.Names.{readAs, refl, rows-then, rowsOf, rowsQuestions, stopped-at, subst, sym, table-of, tableBytesIn, take}
+use Rattle.table.proofs.Names.{take-append-seam, writerQuestions, ℕ}
+use Rattle.table.proofs.{AcceptedRows.read-accepted, Answers.reads-as, Once.reads-once, RoundTrip.read-then-write, RoundTrip.write-then-read}
 
 -- accepted rows, and room for them
 room : (edition : ℕ) (rows : List Constraint) (before : List ℕ) → AcceptedIn edition rows → length (tableBytesIn edition rows) ≤ length before

@@ -1,12 +1,8 @@
 -- Fields and their bytes say the same: each field stands in a body behind those before it, in one byte or in eight.
-use Rattle.constraint.proofs.Library.{ℕ, _+_, _^_, _≤_, _<_, _≡_, sym, ap, subst⁻¹, _∙_, List, [], _∷_, ⊎-elim, arith, length, drop, length-append}
-use Rattle.constraint.proofs.Library.{length-take, length-drop, length-take-le, getD-take, getD-drop}
-use Rattle.constraint.specs.Bytes.{Bytes, bytesOf, bytesAt, numberAt}
-use Rattle.constraint.specs.Types.{kind, coloured, count, span, plain, lower, upper, upper-or-none, Field, byte, time}
-use Rattle.constraint.specs.Accepted.{FieldsInRange}
-use Rattle.constraint.specs.Table.{rowBody, rowBytes, TimesFit}
-use Rattle.constraint.specs.declared.Constraint.{Constraint}
-use Rattle.number.proofs.Numbers.{bytes-length, bytes-of-number, number-below}
+use Rattle.table.proofs.Names.{Bytes, Constraint, Field, FieldsInRange, List, TimesFit, [], _+_, _<_, _^_, _∙_, _∷_, _≡_, _≤_, ap, arith, byte}
+use Rattle.table.proofs.Names.{bytes-length, bytes-of-number, bytesAt, bytesOf, coloured, count, drop, getD-drop, getD-take, kind, length}
+use Rattle.table.proofs.Names.{length-append, length-drop, length-take, length-take-le, lower, number-below, numberAt, plain, rowBody}
+use Rattle.table.proofs.Names.{rowBytes, span, subst⁻¹, sym, time, upper, upper-or-none, ℕ, ⊎-elim}
 
 -- a part of some bytes
 pub bytes-part : (bytes : List ℕ) (n place : ℕ) → Bytes bytes → Bytes (bytesAt n bytes place)

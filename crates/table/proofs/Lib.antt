@@ -1,4 +1,5 @@
 -- The laws of the table's bytes.
+mod Names
 pub mod Bodies
 pub mod Standing
 pub mod Shapes

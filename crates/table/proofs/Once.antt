@@ -1,11 +1,7 @@
 -- Bytes have one reading, since each question has one answer and a body stands for one row.
-use Rattle.constraint.proofs.Library.{ℕ, _≡_, refl, ap₂, List, arith}
-use Rattle.constraint.specs.Table.{TableRead, rowThen, ReadsRows, no-more, row-refused, row-taken, ReadsTableUpTo, version-refused, version-taken}
-use Rattle.constraint.specs.Table.{bodyAt}
-use Rattle.constraint.specs.declared.Answer.the-variants.{Taken, Refused}
-use Rattle.constraint.proofs.Judged.{never}
-use Rattle.table.proofs.Places.{place-taken, place-once}
-use Rattle.table.proofs.Standing.{stands-once}
+use Rattle.table.proofs.Names.{List, ReadsRows, ReadsTableUpTo, Refused, TableRead, Taken, _≡_, ap₂, arith, bodyAt, never, no-more, refl}
+use Rattle.table.proofs.Names.{row-refused, row-taken, rowThen, version-refused, version-taken, ℕ}
+use Rattle.table.proofs.{Places.place-once, Places.place-taken, Standing.stands-once}
 
 rows-once : {edition : ℕ} (bytes : List ℕ) {i place : ℕ} {x y : TableRead} → ReadsRows edition bytes i place x → ReadsRows edition bytes i place y
     → x ≡ y

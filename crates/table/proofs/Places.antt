@@ -1,20 +1,9 @@
 -- The questions of the row at a place are put in their order, so each "no" needs the earlier ones answered "yes".
-use Rattle.constraint.proofs.Library.{ℕ, _+_, _-_, _≤_, _<_, _≡_, ap, List, [], _∷_, add-sub-cancel-left, arith, leb, length, take, drop}
-use Rattle.constraint.specs.Limits.{rowLimit}
-use Rattle.constraint.specs.Steps.{at}
-use Rattle.constraint.specs.Bytes.{Bytes}
-use Rattle.constraint.specs.Questions.{Judged}
-use Rattle.constraint.specs.Records.{Decides}
-use Rattle.constraint.specs.Accepted.{rowQuestions}
-use Rattle.constraint.specs.Table.{ShapeFits, lengthAt, bodyAt, WholeAt, RowAt, placeQuestions, VersionUpTo}
-use Rattle.constraint.specs.declared.Answer.{Answer}
-use Rattle.constraint.specs.declared.Answer.the-variants.{Taken, Refused}
-use Rattle.constraint.specs.declared.Constraint.{Constraint}
-use Rattle.constraint.proofs.Judged.{same-test, test-le, judged-yes, judged-no, judged-all, judged-once-on}
-use Rattle.table.specs.Rows.{constraintOf}
-use Rattle.table.proofs.Bodies.{bytes-part}
-use Rattle.table.proofs.Standing.{row-stands, stands-once}
-use Rattle.table.proofs.Shapes.{there}
+use Rattle.table.proofs.Names.{Answer, Bytes, Constraint, Decides, Judged, List, Refused, RowAt, ShapeFits, Taken, VersionUpTo, WholeAt, []}
+use Rattle.table.proofs.Names.{_+_, _-_, _<_, _∷_, _≡_, _≤_, add-sub-cancel-left, ap, arith, at, bodyAt, constraintOf, drop, judged-all}
+use Rattle.table.proofs.Names.{judged-no, judged-once-on, judged-yes, leb, length, lengthAt, placeQuestions, rowLimit, rowQuestions, same-test}
+use Rattle.table.proofs.Names.{take, test-le, ℕ}
+use Rattle.table.proofs.{Bodies.bytes-part, Shapes.there, Standing.row-stands, Standing.stands-once}
 
 -- a row is whole where its length is no more than what is left behind the length field
 pub whole-asked : (bytes : List ℕ) (place size : ℕ) → size ≡ lengthAt bytes place → place + 2 ≤ length bytes

@@ -1,13 +1,8 @@
 -- Rows are read one after the other: what reading gives from a place on, behind the rows read before it, is what it gives from the start.
-use Rattle.constraint.proofs.Library.{ℕ, _≤_, _<_, _≡_, refl, sym, ap, subst, subst₂, _∙_, List, [], _∷_, _++_, arith, length, length-append}
-use Rattle.constraint.specs.Records.{rowsOf, tableOf, withOneMore}
-use Rattle.constraint.specs.Table.{TableRead, table-of, table-refused, rowThen, ReadsRows, no-more, row-refused, row-taken}
-use Rattle.constraint.specs.declared.Constraint.{Constraint}
-use Rattle.constraint.specs.declared.Table.{Table}
-use Rattle.table.specs.declared.reader.RowRead.{RowRead}
+use Rattle.table.proofs.Names.{Constraint, List, ReadsAt, ReadsRows, RowRead, Table, TableRead, [], _++_, _<_, _∙_, _∷_, _≡_, _≤_, ap, arith}
+use Rattle.table.proofs.Names.{length, length-append, no-more, record-count, record-more, record-rows, refl, row-refused, row-taken, rowThen}
+use Rattle.table.proofs.Names.{rowsOf, subst, subst₂, sym, table-of, table-refused, tableOf, withOneMore, ℕ}
 use Rattle.table.proofs.Places.{place-taken}
-use Rattle.constraint.proofs.Records.{record-count, record-more, record-rows}
-use Rattle.table.specs.Rows.{ReadsAt}
 
 -- what is read behind some rows
 unfoldable pub rowsThen : List Constraint → TableRead → TableRead

@@ -1,27 +1,13 @@
 -- Rows as raw bytes are the rows that their bodies stand for, and a body stands for one row: so an accepted table whose rows are given as raw
 -- bytes is written as the table that it was.
-use Rattle.constraint.proofs.Library.{ℕ, zero, suc, _+_, _*_, _≤_, _<_, _≡_, refl, sym, ap, subst, _∙_, List, [], _∷_, _++_, add-zero, arith}
-use Rattle.constraint.proofs.Library.{length, getD, take, drop, length-take, take-append-drop, ext-getD, getD-take, getD-drop, length-take-le}
-use Rattle.constraint.proofs.Library.{take-all, some, getElem?}
-use Rattle.constraint.specs.Limits.{rowLimit}
-use Rattle.constraint.specs.Steps.{at}
-use Rattle.constraint.specs.Bytes.{Bytes}
-use Rattle.constraint.specs.Questions.{Question, Judged}
-use Rattle.constraint.specs.Types.{typeOf, lastType, takesCount, lengthOf}
-use Rattle.constraint.specs.Accepted.{rowQuestionsIn, rowsQuestions, AcceptedIn}
-use Rattle.constraint.specs.Records.{filler}
-use Rattle.constraint.specs.Table.{ShapeFits, StandsFor, ReadsTableUpTo, table-of}
-use Rattle.constraint.specs.declared.Answer.the-variants.{Taken, Refused}
-use Rattle.constraint.specs.declared.Constraint.{Constraint}
-use Rattle.constraint.proofs.Judged.{never, judged-none, judged-yes, judged-later, judged-all, judged-parts, judged-once}
-use Rattle.constraint.proofs.Accepted.{rows-then, rows-room, row-accepted}
-use Rattle.table.specs.Raw.{rawSize, rawBody, RawRows, KnownAt, WritesRaw, all-read, stopped-at}
-use Rattle.table.specs.Writing.{Writes}
-use Rattle.table.specs.declared.WriteAnswer.{WriteAnswer}
-use Rattle.constraint.proofs.Lengths.{row-fits}
-use Rattle.table.proofs.Standing.{stands-once}
-use Rattle.table.proofs.AcceptedRows.{read-accepted}
-use Rattle.table.proofs.Again.{rows-write}
+use Rattle.table.proofs.Names.{AcceptedIn, Bytes, Constraint, Judged, KnownAt, List, Question, RawRows, ReadsTableUpTo, Refused, ShapeFits}
+use Rattle.table.proofs.Names.{StandsFor, Taken, WriteAnswer, Writes, WritesRaw, [], _*_, _++_, _+_, _<_, _∙_, _∷_, _≡_, _≤_, add-zero}
+use Rattle.table.proofs.Names.{all-read, ap, arith, at, drop, ext-getD, filler, getD, getD-drop, getD-take, getElem?, judged-all, judged-later}
+use Rattle.table.proofs.Names.{judged-none, judged-once, judged-parts, judged-yes, lastType, length, length-take, length-take-le, lengthOf}
+use Rattle.table.proofs.Names.{never, rawBody, rawSize, refl, row-accepted, row-fits, rowLimit, rowQuestionsIn, rows-room, rows-then}
+use Rattle.table.proofs.Names.{rowsQuestions, some, stopped-at, subst, suc, sym, table-of, take, take-all, take-append-drop, takesCount}
+use Rattle.table.proofs.Names.{typeOf, zero, ℕ}
+use Rattle.table.proofs.{AcceptedRows.read-accepted, Again.rows-write, Standing.stands-once}
 
 -- ---- the rows of some raw bytes
 
@@ -98,8 +84,7 @@ module _ {newest : ℕ} (raw bytes before : List ℕ) (rows : List Constraint) (
       let edition = at bytes 0 in
       let taken = subst (AcceptedIn edition) (sym same) (first-accepted edition rows (length others) accepted) in
       let known = stands-known edition raw (length others) (getD rows (length others) filler)
-      (row-typed edition rows accepted (length others) fewer)
-      (given .stand (length others) fewer) in
+      (row-typed edition rows accepted (length others) fewer) (given .stand (length others) fewer) in
       let all : Judged (rowsQuestions edition 0 others ((3, length others < rowLimit) ∷ (4, KnownAt edition raw (length others)) ∷ [])) Taken =
       rw (rows-then edition) (judged-later (rowsQuestions edition 0 others []) _ Taken taken
       (judged-yes 3 _ _ Taken (omega arith) (judged-yes 4 _ _ Taken known judged-none))) in

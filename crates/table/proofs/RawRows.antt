@@ -1,34 +1,14 @@
 -- A row's first bytes, as many as its type has, are a body of fitting shape, so they stand for the row that is read from them; and where the
 -- next row is a 33rd or of no known type, 3 and 4 are asked after the rows before it.
-use Rattle.constraint.proofs.Library.{ℕ, _+_, _-_, _*_, _≤_, _<_, _≡_, refl, sym, ap, ap₂, subst, _∙_, Bool, true, List, [], _∷_, _++_}
-use Rattle.constraint.proofs.Library.{add-zero}
-use Rattle.constraint.proofs.Library.{add-sub-cancel-left, arith, eqb-true, eqb-false, ltb-true, ltb-false, eq-eqb, eqb, ltb, length, getD, take}
-use Rattle.constraint.proofs.Library.{drop, length-append, length-drop, List·getD-append, length-take-le, getD-take, getD-drop, getD-append-add}
-use Rattle.constraint.specs.Limits.{rowLimit}
-use Rattle.constraint.specs.Steps.{at}
-use Rattle.constraint.specs.Bytes.{Bytes}
-use Rattle.constraint.specs.Questions.{Judged}
-use Rattle.constraint.specs.Records.{Decides, filler, rowsOf, tableOf, withOneMore, Adds}
-use Rattle.constraint.specs.Types.{lengths, takesCount, lengthOf}
-use Rattle.constraint.specs.Accepted.{rowsQuestions}
-use Rattle.constraint.specs.Table.{ShapeFits, StandsFor}
-use Rattle.constraint.specs.declared.Answer.{Answer}
-use Rattle.constraint.specs.declared.Answer.the-variants.{Taken, Refused}
-use Rattle.constraint.specs.declared.Constraint.{Constraint}
-use Rattle.constraint.specs.declared.Table.{Table}
-use Rattle.constraint.proofs.Lists.{split}
-use Rattle.constraint.proofs.Judged.{yes-of, judged-first, judged-later, judged-no, judged-yes}
-use Rattle.constraint.proofs.Accepted.{rows-then}
-use Rattle.constraint.proofs.Records.{record-count, record-more, record-rows}
-use Rattle.table.specs.Rows.{constraintOf}
-use Rattle.table.specs.Raw.{rawSize, rawBody, RawRows, TypeKnown, KnownAt, RowTaken, RawTable, WritesRaw, all-read, stopped-at}
-use Rattle.table.specs.Writing.{Writes}
-use Rattle.table.specs.declared.WriteAnswer.{WriteAnswer}
-use Rattle.table.proofs.Bodies.{bytes-part}
-use Rattle.table.proofs.Standing.{row-stands}
-use Rattle.constraint.proofs.Types.{read-back}
-use Rattle.constraint.proofs.Lengths.{last-listed, length-plain, length-short}
-use Rattle.table.proofs.Shapes.{shape-asked}
+use Rattle.table.proofs.Names.{Adds, Answer, Bool, Bytes, Constraint, Decides, Judged, KnownAt, List, List·getD-append, RawRows, RawTable}
+use Rattle.table.proofs.Names.{Refused, RowTaken, ShapeFits, StandsFor, Table, Taken, TypeKnown, WriteAnswer, Writes, WritesRaw, [], _*_, _++_}
+use Rattle.table.proofs.Names.{_+_, _-_, _<_, _∙_, _∷_, _≡_, _≤_, add-sub-cancel-left, add-zero, all-read, ap, ap₂, arith, at, constraintOf}
+use Rattle.table.proofs.Names.{drop, eq-eqb, eqb, eqb-false, eqb-true, filler, getD, getD-append-add, getD-drop, getD-take, judged-first}
+use Rattle.table.proofs.Names.{judged-later, judged-no, judged-yes, last-listed, length, length-append, length-drop, length-plain}
+use Rattle.table.proofs.Names.{length-short, length-take-le, lengthOf, lengths, ltb, ltb-false, ltb-true, rawBody, rawSize, read-back}
+use Rattle.table.proofs.Names.{record-count, record-more, record-rows, refl, rowLimit, rows-then, rowsOf, rowsQuestions, split, stopped-at}
+use Rattle.table.proofs.Names.{subst, sym, tableOf, take, takesCount, true, withOneMore, yes-of, ℕ}
+use Rattle.table.proofs.{Bodies.bytes-part, Shapes.shape-asked, Standing.row-stands}
 
 -- The test of a row's type
 

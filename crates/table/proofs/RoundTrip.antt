@@ -1,24 +1,12 @@
 -- What is read from bytes is written back to those bytes, and what is written is read back, since a row and its body say the same.
-use Rattle.constraint.proofs.Library.{ℕ, _+_, _≤_, _<_, _≡_, sym, ap, ap₂, subst₂, _∙_, List, [], _∷_, _++_, append-assoc, arith, length, drop}
-use Rattle.constraint.proofs.Library.{length-append, length-drop, take-append-drop, drop-of-length-le, take-at, drop-at, take-append-seam}
-use Rattle.constraint.proofs.Library.{drop-append-seam, length-take-le, drop-drop, drop-cons}
-use Rattle.constraint.specs.Limits.{rowLimit}
-use Rattle.constraint.specs.Bytes.{Bytes, bytesOf, bytesAt}
-use Rattle.constraint.specs.Questions.{Judged}
-use Rattle.constraint.specs.Accepted.{kinds, KindsFit, KindsSuit, InRange, rowQuestions, rowsQuestions, AcceptedIn}
-use Rattle.constraint.specs.Types.{typeOf, fieldsOf, lastType}
-use Rattle.constraint.specs.Steps.{at}
-use Rattle.constraint.specs.Table.{rowBody, rowBytes, rowsBytes, tableBytesIn, StandsFor, lengthAt, bodyAt, WholeAt, RowAt, placeQuestions}
-use Rattle.constraint.specs.Table.{TableRead, table-of, table-refused, rowThen, ReadsRows, no-more, row-refused, row-taken, ReadsTableUpTo}
-use Rattle.constraint.specs.Table.{version-taken}
-use Rattle.constraint.specs.declared.Answer.the-variants.{Taken}
-use Rattle.constraint.specs.declared.Constraint.{Constraint}
-use Rattle.constraint.proofs.Judged.{judged-all, judged-parts}
-use Rattle.number.proofs.Numbers.{bytes-length, number-of-bytes}
-use Rattle.table.proofs.Bodies.{number-back, range-fits, row-length}
-use Rattle.constraint.proofs.Lengths.{row-fits}
-use Rattle.table.proofs.Standing.{body-short}
-use Rattle.table.proofs.Places.{place-row, place-taken}
+use Rattle.table.proofs.Names.{AcceptedIn, Bytes, Constraint, InRange, Judged, KindsFit, KindsSuit, List, ReadsRows, ReadsTableUpTo, RowAt}
+use Rattle.table.proofs.Names.{StandsFor, TableRead, Taken, WholeAt, [], _++_, _+_, _<_, _∙_, _∷_, _≡_, _≤_, ap, append-assoc, ap₂, arith, at}
+use Rattle.table.proofs.Names.{bodyAt, bytes-length, bytesAt, bytesOf, drop, drop-append-seam, drop-at, drop-cons, drop-drop}
+use Rattle.table.proofs.Names.{drop-of-length-le, fieldsOf, judged-all, judged-parts, kinds, lastType, length, length-append, length-drop}
+use Rattle.table.proofs.Names.{length-take-le, lengthAt, no-more, number-of-bytes, placeQuestions, row-fits, row-refused, row-taken, rowBody}
+use Rattle.table.proofs.Names.{rowBytes, rowLimit, rowQuestions, rowThen, rowsBytes, rowsQuestions, subst₂, sym, table-of, table-refused}
+use Rattle.table.proofs.Names.{tableBytesIn, take-append-drop, take-append-seam, take-at, typeOf, version-taken, ℕ}
+use Rattle.table.proofs.{Bodies.number-back, Bodies.range-fits, Bodies.row-length, Places.place-row, Places.place-taken, Standing.body-short}
 
 -- From bytes to rows and back
 
@@ -132,5 +120,4 @@ rows-read edition before i (c ∷ rows) judged =
 pub write-then-read : (newest edition : ℕ) (rows : List Constraint) → 1 ≤ edition → edition ≤ newest → AcceptedIn edition rows
     → ReadsTableUpTo newest (tableBytesIn edition rows) (table-of rows)
 unfolding tableBytesIn
-write-then-read newest edition rows some known accepted =
-    version-taken (omega arith, some, known) (rows-read edition (edition ∷ []) 0 rows accepted)
+write-then-read newest edition rows some known accepted = version-taken (omega arith, some, known) (rows-read edition (edition ∷ []) 0 rows accepted)

@@ -1,11 +1,5 @@
 -- Rows of the same type and fields are equal, since a row can be made again from its type and its fields.
-use Rattle.constraint.proofs.Library.{ℕ, _≡_, sym, ap₂, _∙_, List, [], _++_}
-use Rattle.constraint.specs.Types.{Field}
-use Rattle.constraint.specs.Table.{Same}
-use Rattle.constraint.specs.Records.{bytesIn, timesIn}
-use Rattle.constraint.specs.declared.Constraint.{Constraint}
-use Rattle.constraint.specs.Types.{rowRead}
-use Rattle.constraint.proofs.Types.{regular}
+use Rattle.table.proofs.Names.{Constraint, Field, List, Same, [], _++_, _∙_, _≡_, ap₂, bytesIn, regular, rowRead, sym, timesIn, ℕ}
 
 -- §4.8: rows of the same type and the same fields are equal
 pub same-equal : (c d : Constraint) → Same c d → c ≡ d

@@ -1,21 +1,10 @@
 -- A table is read again row by row: a body stands for one row only, so the row at each place is the one that was read there.
-use Rattle.constraint.proofs.Library.{ℕ, _+_, _≤_, _<_, _≡_, refl, sym, subst, subst₂, _∙_, List, [], _∷_, _++_, add-one, arith, length}
-use Rattle.constraint.proofs.Library.{length-append, drop, getD, drop-cons}
-use Rattle.constraint.specs.Limits.{rowLimit}
-use Rattle.constraint.specs.Table.{TableRead, table-of, table-refused, ReadsRows, no-more, row-refused, row-taken}
-use Rattle.constraint.specs.Table.{VersionUpTo, ReadsTableUpTo, version-taken, bodyAt}
-use Rattle.constraint.specs.Steps.{at}
-use Rattle.constraint.specs.declared.Constraint.{Constraint}
-use Rattle.constraint.proofs.Judged.{never}
-use Rattle.table.specs.declared.ReadAnswer.{ReadAnswer}
-use Rattle.table.specs.declared.reader.RowRead.{RowRead}
-use Rattle.table.specs.declared.scan.Placed.{Placed}
-use Rattle.table.specs.Rows.{ReadsAt}
-use Rattle.table.specs.Scan.{Counted, Says, PlacedAt}
-use Rattle.table.proofs.Places.{place-taken}
-use Rattle.table.proofs.Standing.{stands-once}
-use Rattle.table.proofs.AcceptedRows.{rows-accepted}
-use Rattle.table.proofs.Progress.{RowsUpTo, rows-start, rows-more, rows-refused, rows-end}
+use Rattle.table.proofs.Names.{Constraint, Counted, List, Placed, PlacedAt, ReadAnswer, ReadsAt, ReadsRows, ReadsTableUpTo, RowRead, Says}
+use Rattle.table.proofs.Names.{TableRead, VersionUpTo, [], _++_, _+_, _<_, _∙_, _∷_, _≡_, _≤_, add-one, arith, at, bodyAt, drop, drop-cons}
+use Rattle.table.proofs.Names.{getD, length, length-append, never, no-more, refl, row-refused, row-taken, rowLimit, subst, subst₂, sym}
+use Rattle.table.proofs.Names.{table-of, table-refused, version-taken, ℕ}
+use Rattle.table.proofs.Progress.{RowsUpTo, rows-end, rows-more, rows-refused, rows-start}
+use Rattle.table.proofs.{AcceptedRows.rows-accepted, Places.place-taken, Standing.stands-once}
 
 -- Judging
 

@@ -1,11 +1,6 @@
 -- A body's shape fits where its type is known and its length is the one that the list has for it, to which its n is added where it has one.
-use Rattle.constraint.proofs.Library.{ℕ, zero, suc, _<_, _≡_, sym, ap, ap₂, _∙_, List, [], _∷_, arith, eqb, length}
-use Rattle.constraint.specs.Steps.{at}
-use Rattle.constraint.specs.Records.{Decides}
-use Rattle.constraint.specs.Types.{takesCount, lengthOf}
-use Rattle.constraint.specs.Table.{ShapeFits}
-use Rattle.constraint.proofs.Judged.{same-test, test-equal}
-use Rattle.table.specs.Raw.{TypeKnown}
+use Rattle.table.proofs.Names.{Decides, List, ShapeFits, TypeKnown, [], _<_, _∙_, _∷_, _≡_, ap, ap₂, arith, at, eqb, length, lengthOf}
+use Rattle.table.proofs.Names.{same-test, suc, sym, takesCount, test-equal, zero, ℕ}
 
 -- past the end of a list stands 0
 pub there : (list : List ℕ) (i : ℕ) → 0 < at list i → i < length list

@@ -1,17 +1,10 @@
 -- A body stands for one row: its type byte says which bytes and times to read, and the row is made of them again.
-use Rattle.constraint.proofs.Library.{ℕ, zero, suc, _+_, _*_, _/_, _%_, _^_, _≤_, _<_, _≡_, refl, sym, ap, ap₂, _∙_, List, [], _∷_, _++_, add-zero}
-use Rattle.constraint.proofs.Library.{one-add, arith, length, take, drop, length-append, length-take, length-drop, take-append-drop, List·getD-append}
-use Rattle.constraint.proofs.Library.{take-all, take-add, take-at, drop-at, drop-append-add, drop-cons, drop-drop, getD-take, ext-getD}
-use Rattle.constraint.specs.Steps.{at}
-use Rattle.constraint.specs.Bytes.{Bytes, bytesOf, bytesAt, numberAt}
-use Rattle.constraint.specs.Types.{Field, byte, time, typeOf, fieldsOf, rowRead, lengthOf}
-use Rattle.constraint.specs.Table.{rowBody, ShapeFits, TimesFit, StandsFor}
-use Rattle.constraint.specs.Records.{bytesIn, timesIn, timesBytes}
-use Rattle.constraint.specs.declared.Constraint.{Constraint}
-use Rattle.constraint.proofs.Lengths.{last-listed}
-use Rattle.constraint.proofs.Types.{regular, ReadBack, read-back}
-use Rattle.number.proofs.Numbers.{bytes-length, number-of-bytes}
-use Rattle.table.specs.Rows.{timesStart, bytesRead, timesRead, constraintOf}
+use Rattle.table.proofs.Names.{Bytes, Constraint, Field, List, List·getD-append, ReadBack, ShapeFits, StandsFor, TimesFit, [], _%_, _*_, _++_}
+use Rattle.table.proofs.Names.{_+_, _/_, _<_, _^_, _∙_, _∷_, _≡_, _≤_, add-zero, ap, ap₂, arith, at, byte, bytes-length, bytesAt, bytesIn}
+use Rattle.table.proofs.Names.{bytesOf, bytesRead, constraintOf, drop, drop-append-add, drop-at, drop-cons, drop-drop, ext-getD, fieldsOf}
+use Rattle.table.proofs.Names.{getD-take, last-listed, length, length-append, length-drop, length-take, lengthOf, number-of-bytes, numberAt}
+use Rattle.table.proofs.Names.{one-add, read-back, refl, regular, rowBody, rowRead, suc, sym, take, take-add, take-all, take-append-drop}
+use Rattle.table.proofs.Names.{take-at, time, timesBytes, timesIn, timesRead, timesStart, typeOf, zero, ℕ}
 use Rattle.table.proofs.Bodies.{number-back, number-small}
 
 -- The bytes of some times
@@ -127,8 +120,7 @@ row-stands {edition} body all fits =
     }
   where
     back : ReadBack (at body 0) (bytesRead 5 body 1) (timesRead 4 body (timesStart body)) (constraintOf body)
-    back =
-        read-back _ _ _ _ _ _ _ _ _ (at body 0) (fits .type-known .0, omega (arith, fits .type-known .1, last-listed edition)) (fits .n-known)
+    back = read-back _ _ _ _ _ _ _ _ _ (at body 0) (fits .type-known .0, omega (arith, fits .type-known .1, last-listed edition)) (fits .n-known)
 
 -- A row that stands in a body
 
@@ -171,8 +163,7 @@ module _ (c : Constraint) (fit : TimesFit (fieldsOf c)) where
   row-again : constraintOf (rowBody c) ≡ c
   unfolding constraintOf rowBody
   row-again =
-      ap₂ (rowRead (typeOf c))
-      (begins (bytesIn (fieldsOf c)) (bytesRead 5 (rowBody c) 1) (regular c .sized .few) byte-there)
+      ap₂ (rowRead (typeOf c)) (begins (bytesIn (fieldsOf c)) (bytesRead 5 (rowBody c) 1) (regular c .sized .few) byte-there)
       (begins (timesIn (fieldsOf c)) (timesRead 4 (rowBody c) (timesStart (rowBody c))) (regular c .sized .few-times) time-there)
       ∙ regular c .again _ _
 

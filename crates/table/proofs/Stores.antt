@@ -1,22 +1,9 @@
 -- A row's bytes are its length field, its type byte, the other bytes and its times, so storing these one after the other stores the row.
-use Rattle.constraint.proofs.Library.{ℕ, suc, _+_, _≤_, _<_, _≡_, sym, ap, ap₂, _∙_, List, [], _∷_, _++_, add-one, arith, length, getD, drop}
-use Rattle.constraint.proofs.Library.{length-append, length-take, List·getD-append, sets, drop-cons, getD-take}
-use Rattle.constraint.specs.Bytes.{bytesOf}
-use Rattle.constraint.specs.Steps.{at}
-use Rattle.constraint.specs.Types.{typeOf, fieldsOf, lengthOf}
-use Rattle.constraint.specs.Records.{bytesIn, timesIn, HoldsRow, rowsOf}
-use Rattle.constraint.specs.declared.fields.Fields.{Fields}
-use Rattle.constraint.specs.Table.{rowBody, rowBytes, rowsBytes}
-use Rattle.constraint.specs.declared.Entry.{Entry}
-use Rattle.constraint.specs.declared.Table.{Table}
-use Rattle.constraint.specs.declared.Constraint.{Constraint}
-use Rattle.constraint.proofs.Rows.{rows-from}
-use Rattle.number.proofs.Numbers.{bytes-length}
-use Rattle.number.proofs.Stores.{stores-append}
-use Rattle.table.proofs.Bodies.{row-length}
-use Rattle.constraint.proofs.Types.{regular}
-use Rattle.table.proofs.Standing.{body-parts, body-expected}
-use Rattle.constraint.specs.Records.{timesBytes}
+use Rattle.table.proofs.Names.{Constraint, Entry, Fields, HoldsRow, List, List·getD-append, Table, [], _++_, _+_, _<_, _∙_, _∷_, _≡_, _≤_}
+use Rattle.table.proofs.Names.{add-one, ap, ap₂, arith, at, bytes-length, bytesIn, bytesOf, drop, drop-cons, fieldsOf, getD, getD-take, length}
+use Rattle.table.proofs.Names.{length-append, length-take, lengthOf, regular, rowBody, rowBytes, rows-from, rowsBytes, rowsOf, sets}
+use Rattle.table.proofs.Names.{stores-append, suc, sym, timesBytes, timesIn, typeOf, ℕ}
+use Rattle.table.proofs.{Bodies.row-length, Standing.body-expected, Standing.body-parts}
 
 -- A row's numbers
 
@@ -88,8 +75,7 @@ module _ (table : Table) (i : ℕ) (other : Entry) (counted : i < table .count) 
 
   pub rows-more : (buffer : List ℕ) (place : ℕ) → sets buffer place (rowsBytes (drop i (rowsOf table)))
       ≡ sets (sets buffer place (rowBytes (getD (table .rows) i other .constraint)))
-      (place + (2 + length (rowBody (getD (table .rows) i other .constraint))))
-      (rowsBytes (drop (i + 1) (rowsOf table)))
+      (place + (2 + length (rowBody (getD (table .rows) i other .constraint)))) (rowsBytes (drop (i + 1) (rowsOf table)))
   rows-more buffer place =
       let row = getD (table .rows) i other .constraint in
       ap (sets buffer place) rows-next

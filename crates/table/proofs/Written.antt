@@ -1,19 +1,10 @@
 -- The writer's questions are the rows' and then the room's, and storing a table at the front of a buffer leaves what stands behind it.
-use Rattle.constraint.proofs.Library.{ℕ, _≤_, _<_, _≡_, refl, _∙_, List, [], _∷_, arith, length, sets}
-use Rattle.constraint.specs.Questions.{Judged}
-use Rattle.constraint.specs.Accepted.{rowsQuestions}
-use Rattle.constraint.specs.Table.{rowsBytes, tableBytesIn}
-use Rattle.constraint.specs.declared.Answer.the-variants.{Taken, Refused}
-use Rattle.constraint.specs.declared.Constraint.{Constraint}
-use Rattle.constraint.proofs.Judged.{never, judged-none, judged-yes, judged-no, judged-later, judged-first}
-use Rattle.constraint.proofs.Accepted.{rows-then}
-use Rattle.number.proofs.Stores.{stores-front}
-use Rattle.table.specs.Writing.{Writes}
-use Rattle.table.specs.declared.WriteAnswer.{WriteAnswer}
+use Rattle.table.proofs.Names.{Constraint, Judged, List, Refused, Taken, WriteAnswer, Writes, [], _<_, _∙_, _∷_, _≡_, _≤_, arith, judged-first}
+use Rattle.table.proofs.Names.{judged-later, judged-no, judged-none, judged-yes, length, never, refl, rows-then, rowsBytes, rowsQuestions}
+use Rattle.table.proofs.Names.{sets, stores-front, tableBytesIn, ℕ}
 
 module _ (edition : ℕ) (rows : List Constraint) (before : List ℕ) where
-  pub written-refused : (n : ℕ) → Judged (rowsQuestions edition 0 rows []) (Refused n)
-      → Writes edition rows before (WriteAnswer.Refused n) before
+  pub written-refused : (n : ℕ) → Judged (rowsQuestions edition 0 rows []) (Refused n) → Writes edition rows before (WriteAnswer.Refused n) before
   written-refused n judged =
       record {
         judged = rw rows-then (judged-first (rowsQuestions edition 0 rows []) _ n judged);

@@ -1,13 +1,11 @@
 -- A report's text line by line, its length, and what copying it out says of the report.
-use Rattle.constraint.proofs.Library.{ℕ, suc, _+_, _*_, _≤_, _<_, _≡_, ap, List, [], _∷_, _++_, append-assoc, decLt, add-zero, arith, length}
-use Rattle.constraint.proofs.Library.{length-append}
-use Rattle.constraint.specs.Limits.{rowLimit}
-use Rattle.constraint.specs.Report.{verdictText, rowLines, closedText, refusedText, ReportOfUpTo, ReportsUpTo, written, too-short}
-use Rattle.constraint.specs.declared.Verdict.{Verdict}
-use Rattle.constraint.specs.declared.Verdict.the-variants.{Open, Kept, Broken}
-use Rattle.text.specs.Content.{Copied}
-use Rattle.text.specs.Lines.{closedLine, rowLine}
-use Rattle.text.proofs.Decimals.{decimal-length, decimal-few}
+use Rattle.constraint.proofs.Library.{List, [], _*_, _++_, _+_, _<_, _∷_, _≡_, _≤_, add-zero, ap, append-assoc, arith, decLt, length, length-append}
+use Rattle.constraint.proofs.Library.{suc, ℕ}
+use Rattle.constraint.specs.Report.{ReportOfUpTo, ReportsUpTo, closedText, refusedText, rowLines, too-short, verdictText, written}
+use Rattle.constraint.specs.declared.Verdict.the-variants.{Broken, Kept, Open}
+use Rattle.constraint.specs.{Limits.rowLimit, declared.Verdict.Verdict}
+use Rattle.text.proofs.Decimals.{decimal-few, decimal-length}
+use Rattle.text.specs.{Content.Copied, Lines.closedLine, Lines.rowLine}
 
 -- Line by line
 

@@ -1,15 +1,13 @@
 -- One colour of a Reaction: its words say where the first response may still come, which is from minimum after the newest stimulus to maximum
 -- after the oldest, or when it came. A response to come can be at any time from the clock on, as its stream is empty.
-use Rattle.constraint.proofs.Library.{ℕ, _+_, _≤_, _<_, arith, _≡_, refl, sym, ap, _∙_, cond, List, [], _∷_, _++_, length, length-append, ltb}
-use Rattle.constraint.proofs.Library.{ltb-true, ltb-false, ne-eqb}
-use Rattle.constraint.specs.Limits.{lastTime, noLimit}
-use Rattle.constraint.specs.Steps.{at}
-use Rattle.constraint.specs.Meets.{Between, MeetsReaction}
-use Rattle.constraint.proofs.Lists.{split, at-left, at-next, Each, each-none, each-cons, each-append}
-use Rattle.machine.specs.Parts.{plus}
-use Rattle.chains.specs.Reaction.{pairOf, noPair, afterStimulus, afterResponse, latest}
-use Rattle.chains.specs.declared.reaction.Pair.{Pair}
 use Rattle.chains.proofs.Laws.Words.{latest-none, latest-some}
+use Rattle.chains.specs.Reaction.{afterResponse, afterStimulus, latest, noPair, pairOf}
+use Rattle.chains.specs.declared.reaction.Pair.{Pair}
+use Rattle.constraint.proofs.Library.{List, [], _++_, _+_, _<_, _∙_, _∷_, _≡_, _≤_, ap, arith, cond, length, length-append, ltb, ltb-false, ltb-true}
+use Rattle.constraint.proofs.Library.{ne-eqb, refl, sym, ℕ}
+use Rattle.constraint.proofs.Lists.{Each, at-left, at-next, each-append, each-cons, each-none, split}
+use Rattle.constraint.specs.{Limits.lastTime, Limits.noLimit, Meets.Between, Meets.MeetsReaction, Steps.at}
+use Rattle.machine.specs.Parts.{plus}
 
 plus-is : (t x : ℕ) → t ≤ lastTime → x ≤ lastTime → plus t x ≡ t + x
 plus-is t x h k = omega arith
@@ -219,8 +217,7 @@ module _ (minimum maximum : ℕ) where
       → MeetsReaction minimum maximum stimuli responses
   unfolding MeetsReaction
   colour-kept stimuli responses low high (quiet q) none = λ i h. absurd (omega (arith, q .no-stimulus))
-  colour-kept stimuli responses low high (pending p) none =
-      absurd (omega (arith, p .small, p .room, latest-some high (λ e. omega (arith, p .room))))
+  colour-kept stimuli responses low high (pending p) none = absurd (omega (arith, p .small, p .room, latest-some high (λ e. omega (arith, p .room))))
   colour-kept stimuli responses low high (answered a) none = λ i h. (a .some, a .suits i h)
 
   pub colour-unkept : (stimuli responses : List ℕ) (low high : ℕ) → Pending stimuli responses low high

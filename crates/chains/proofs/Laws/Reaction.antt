@@ -1,38 +1,27 @@
 -- A Reaction is exact: the colours do not disturb each other, and where each that waits still has a time left, the one with the first last
 -- moment can be answered then, which leaves one fewer that waits.
-use Rattle.constraint.proofs.Library.{ℕ, zero, suc, _+_, _-_, _*_, _%_, _≤_, _<_, decLt, ℕ-discrete, arith, _≡_, refl, sym, ap, _∙_, subst, subst₂}
-use Rattle.constraint.proofs.Library.{Bool, true, false, cond, List, [], _∷_, _++_, append-assoc, by-cases, length, replicate, eqb, eqb-true, getD}
-use Rattle.constraint.proofs.Library.{eqb-false, eq-eqb, ne-eqb}
-use Rattle.constraint.specs.Limits.{lastKind, firstColoured, lastColour, lastTime, noLimit}
-use Rattle.constraint.specs.Streams.{stream, kindOf}
-use Rattle.constraint.proofs.Streams.{colours, streams}
-use Rattle.constraint.specs.Steps.{Step, event, tick, at, times, own, clock, closed}
-use Rattle.constraint.specs.Meets.{Meets, MeetsReaction}
-use Rattle.constraint.specs.Continuation.{more, Open}
-use Rattle.constraint.specs.Waiting.{waiting}
-use Rattle.constraint.specs.Accepted.{KindsSuit, InRange, LowerFirst}
-use Rattle.constraint.specs.declared.Constraint.{Constraint}
-use Rattle.constraint.specs.declared.Constraint.the-variants.{Reaction}
-use Rattle.constraint.proofs.Lists.{split, at-left, at-right, each-left, each-right}
-use Rattle.constraint.proofs.Streams.{stream-below, streams-apart, stream-kind, colour-at}
-use Rattle.constraint.proofs.History.{Accepts, Past, times-append, times-own, times-other, times-tick, clock-event, clock-tick, closed-event}
-use Rattle.constraint.proofs.Continuations.{SameTimes, same-times, of-colour, continues-late}
-use Rattle.constraint.proofs.Verdicts.{open-of-meets}
-use Rattle.machine.specs.Rule.{ruleOf}
-use Rattle.machine.specs.Parts.{continuesWith, breaking}
-use Rattle.queue.specs.declared.Edit.the-variants.{Store}
-use Rattle.machine.specs.declared.Marks.{Marks}
-use Rattle.machine.specs.declared.Rule.{Rule}
-use Rattle.machine.specs.Words.{noneKept}
-use Rattle.machine.proofs.Exact.{Sound, OfStream, Starts, GoesOn, ByOutcome, Exact}
-use Rattle.machine.proofs.SeveralKinds.{kinds-small, kinds-apart, by-place}
-use Rattle.machine.proofs.FitsRow.{FitsRow, Steady, keeping-none, steady-by, steady-breaking, steady-store, fits-steady}
-use Rattle.chains.specs.Reaction.{latest, dueBut, afterStimulus, afterResponse, paired, decideReaction, machineReaction}
+use Rattle.chains.proofs.Laws.Colour.{ByPair, GoesAt, LiveColour, LostColour, Pending, Quiet, answered, answers, colour-kept, colour-late}
+use Rattle.chains.proofs.Laws.Colour.{colour-unkept, quiet, response-does, stimulus-does, waits}
+use Rattle.chains.proofs.Laws.Words.{due-above, due-found, due-least, due-limit, due-stored, dueOf, highOf, lowOf, other-high, other-low}
+use Rattle.chains.proofs.Laws.Words.{stored, stored-high, stored-low, stored-whole, waiting-few, waiting-fewer, waitingIn}
+use Rattle.chains.specs.Reaction.{afterResponse, afterStimulus, decideReaction, dueBut, latest, machineReaction, paired}
 use Rattle.chains.specs.declared.reaction.Pair.{Pair}
-use Rattle.chains.proofs.Laws.Words.{lowOf, highOf, stored, dueOf, stored-whole, stored-low, stored-high, other-low, other-high}
-use Rattle.chains.proofs.Laws.Words.{due-stored, due-least, due-found, due-above, due-limit, waitingIn, waiting-few, waiting-fewer}
-use Rattle.chains.proofs.Laws.Colour.{ByPair, Quiet, Pending, LiveColour, quiet, answered, LostColour, GoesAt, stimulus-does}
-use Rattle.chains.proofs.Laws.Colour.{answers, response-does, colour-late, colour-kept, colour-unkept, waits}
+use Rattle.constraint.proofs.History.{Accepts, Past, clock-event, clock-tick, closed-event, times-append, times-other, times-own, times-tick}
+use Rattle.constraint.proofs.Library.{Bool, List, [], _%_, _*_, _++_, _+_, _-_, _<_, _∙_, _∷_, _≡_, _≤_, ap, append-assoc, arith, by-cases, cond}
+use Rattle.constraint.proofs.Library.{decLt, eq-eqb, eqb, eqb-false, eqb-true, false, getD, length, ne-eqb, refl, replicate, subst, subst₂, suc, sym}
+use Rattle.constraint.proofs.Library.{true, zero, ℕ, ℕ-discrete}
+use Rattle.constraint.proofs.Streams.{colour-at, colours, stream-below, stream-kind, streams, streams-apart}
+use Rattle.constraint.proofs.{Continuations.SameTimes, Continuations.continues-late, Continuations.of-colour, Continuations.same-times, Lists.at-left}
+use Rattle.constraint.proofs.{Lists.at-right, Lists.each-left, Lists.each-right, Lists.split, Verdicts.open-of-meets}
+use Rattle.constraint.specs.Steps.{Step, at, clock, closed, event, own, tick, times}
+use Rattle.constraint.specs.{Accepted.InRange, Accepted.KindsSuit, Accepted.LowerFirst, Continuation.Open, Continuation.more, Limits.firstColoured}
+use Rattle.constraint.specs.{Limits.lastColour, Limits.lastKind, Limits.lastTime, Limits.noLimit, Meets.Meets, Meets.MeetsReaction, Streams.kindOf}
+use Rattle.constraint.specs.{Streams.stream, Waiting.waiting, declared.Constraint.Constraint, declared.Constraint.the-variants.Reaction}
+use Rattle.machine.proofs.Exact.{ByOutcome, Exact, GoesOn, OfStream, Sound, Starts}
+use Rattle.machine.proofs.FitsRow.{FitsRow, Steady, fits-steady, keeping-none, steady-breaking, steady-by, steady-store}
+use Rattle.machine.proofs.SeveralKinds.{by-place, kinds-apart, kinds-small}
+use Rattle.machine.specs.{Parts.breaking, Parts.continuesWith, Rule.ruleOf, Words.noneKept, declared.Marks.Marks, declared.Rule.Rule}
+use Rattle.queue.specs.declared.Edit.the-variants.{Store}
 
 -- the remainder of a coloured stream by eight is its colour
 colour-of : (k d : ℕ) → d ≤ lastColour → stream k d % 8 ≡ d
@@ -126,8 +115,7 @@ module _ (stimulus response minimum maximum : ℕ) (sound : Sound (Reaction stim
       → LostColour minimum maximum t (times (stream stimulus d) steps) (times (stream response d) steps) → ¬ Open c steps
   unfolding Meets
   shut t steps now d few lost (further, follows, meets) =
-      lost (times (stream stimulus d) further) (times (stream response d) further)
-      (rw now at (continues-late follows (stream response d)))
+      lost (times (stream stimulus d) further) (times (stream response d) further) (rw now at (continues-late follows (stream response d)))
       (subst₂ (MeetsReaction minimum maximum) (times-append (stream stimulus d) steps further) (times-append (stream response d) steps further)
       (meets d few))
 
@@ -166,8 +154,7 @@ module _ (stimulus response minimum maximum : ℕ) (sound : Sound (Reaction stim
         (GoesAt minimum maximum t (times (stream stimulus d) after) (times (stream response d) after)) pair
         → ByOutcome (¬ Open c after) (GoesOn (λ m. Live after) due kept words t) (paired marks words d pair)
     pair-does marks pair soon small =
-        let low = pair .low in
-        let high = pair .high in
+        let low = pair .low in let high = pair .high in
         let now = dueBut 8 d high words in
         let same : now ≡ dueOf (stored words d low high) = due-stored words (live .whole) d low high (omega arith) 8 (omega arith) in
         split (pair .breaks)
@@ -187,8 +174,7 @@ module _ (stimulus response minimum maximum : ℕ) (sound : Sound (Reaction stim
       → decideReaction rule marks words (stream stimulus d) t
       ≡ paired marks words d (afterStimulus minimum maximum (lowOf words d) (highOf words d) t)
   unfolding decideReaction
-  decides-stimulus marks words d t few =
-      rw (colour-of stimulus d few, stream-kind stimulus d stimulus-coloured few, eq-eqb stimulus stimulus refl)
+  decides-stimulus marks words d t few = rw (colour-of stimulus d few, stream-kind stimulus d stimulus-coloured few, eq-eqb stimulus stimulus refl)
 
   decides-response : (marks : Marks) (words : List ℕ) (d t : ℕ) → d ≤ lastColour
       → decideReaction rule marks words (stream response d) t ≡ paired marks words d (afterResponse (lowOf words d) (highOf words d) t)
@@ -275,8 +261,7 @@ module _ (stimulus response minimum maximum : ℕ) (sound : Sound (Reaction stim
   unfolding Meets
   met steps words live none d few =
       colour-kept minimum maximum (times (stream stimulus d) steps) (times (stream response d) steps) (lowOf words d) (highOf words d)
-      (live .each d few)
-      (omega (arith, due-least words d (omega arith)))
+      (live .each d few) (omega (arith, due-least words d (omega arith)))
 
   not-met : (steps : List Step) (words : List ℕ) → Live steps words → dueOf words < noLimit → ¬ Meets c steps
   unfolding Meets

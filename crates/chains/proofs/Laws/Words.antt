@@ -1,9 +1,9 @@
 -- The words of each colour: new words of one leave the others, and the due time is the first of the colours' last moments.
-use Rattle.constraint.proofs.Library.{ℕ, zero, suc, _+_, _-_, _*_, _≤_, _<_, min, decLt, ℕ-discrete, arith, _≡_, refl, sym, ap, ap₂, _∙_, subst, cond}
-use Rattle.constraint.proofs.Library.{List, by-cases, length, getD, set, length-set, getD-set-same, getD-set-other, eqb, eq-eqb, ne-eqb}
-use Rattle.constraint.specs.Limits.{noLimit}
+use Rattle.chains.specs.Reaction.{dueBut, highBut, latest}
+use Rattle.constraint.proofs.Library.{List, _*_, _+_, _-_, _<_, _∙_, _≡_, _≤_, ap, ap₂, arith, by-cases, cond, decLt, eq-eqb, eqb, getD}
+use Rattle.constraint.proofs.Library.{getD-set-other, getD-set-same, length, length-set, min, ne-eqb, refl, set, subst, suc, sym, zero, ℕ, ℕ-discrete}
 use Rattle.constraint.proofs.Lists.{split}
-use Rattle.chains.specs.Reaction.{latest, highBut, dueBut}
+use Rattle.constraint.specs.Limits.{noLimit}
 
 -- the words of a colour, and words with those of a colour new
 abbrev pub lowOf : List ℕ → ℕ → ℕ
@@ -136,8 +136,7 @@ waiting-few (suc n) words = omega (arith, waiting-few n words, one-few (highOf w
 waiting-same : (n : ℕ) (a b : List ℕ) → ((d : ℕ) → d < n → highOf a d ≡ highOf b d) → waitingIn n a ≡ waitingIn n b
 unfolding waitingIn
 waiting-same zero a b same = refl
-waiting-same (suc n) a b same =
-    ap₂ _+_ (waiting-same n a b (λ d h. same d (omega arith))) (ap one-waits (same n (omega arith)))
+waiting-same (suc n) a b same = ap₂ _+_ (waiting-same n a b (λ d h. same d (omega arith))) (ap one-waits (same n (omega arith)))
 
 -- one fewer once one has it
 pub waiting-fewer : (n : ℕ) (a b : List ℕ) (d : ℕ) → d < n → ¬ (highOf a d ≡ 0) → highOf b d ≡ 0

@@ -1,15 +1,7 @@
 -- A Burst looks at the times of its kind alone.
-use Prim.Native.Nat.{ℕ, zero, suc, _+_, _≤_, _<_}
-use native.Mathlib.Omega.{arith}
-use mathlib.Core.Path.{_≡_, refl, subst}
-use mathlib.Core.List.{[], _∷_}
-use mathlib.Core.Logic.{_⊎_, inl}
-use Rattle.constraint.specs.Limits.{noLimit}
-use Rattle.constraint.specs.Steps.{event, at, times}
-use Rattle.constraint.specs.Meets.{SpansApart, Meets, MeetsBurst}
-use Rattle.constraint.specs.Waiting.{waiting}
-use Rattle.constraint.specs.declared.Constraint.the-variants.{Burst}
-use Rattle.constraint.proofs.Lawful.{Lawful, Contingent}
+use Rattle.constraint.proofs.Names.{Burst, Meets, MeetsBurst, SpansApart, [], _+_, _<_, _∷_, _≡_, _≤_, _⊎_, arith, at, event, inl, noLimit}
+use Rattle.constraint.proofs.Names.{refl, subst, suc, times, waiting, zero, ℕ}
+use Rattle.constraint.proofs.Lawful.{Contingent, Lawful}
 
 pub lawfulBurst : (kind maximum len minimum : ℕ) → Lawful (Burst kind maximum len minimum)
 unfolding Meets waiting

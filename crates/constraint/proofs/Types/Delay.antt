@@ -1,15 +1,7 @@
 -- A Delay looks at the times of its two kinds, and each source without a target in its interval waits.
-use Prim.Native.Nat.{ℕ, zero, suc, _^_, _<_}
-use native.Mathlib.Omega.{arith}
-use mathlib.Core.Path.{refl, ap₂, subst₂}
-use mathlib.Core.List.{[], _∷_}
-use mathlib.Core.Logic.{inl, inr}
-use Rattle.constraint.specs.Limits.{noLimit}
-use Rattle.constraint.specs.Steps.{event, at, times}
-use Rattle.constraint.specs.Meets.{Apart, Meets, MeetsDelay}
-use Rattle.constraint.specs.Waiting.{unanswered, waiting}
-use Rattle.constraint.specs.declared.Constraint.the-variants.{Delay}
-use Rattle.constraint.proofs.Lawful.{Lawful, Contingent}
+use Rattle.constraint.proofs.Names.{Apart, Delay, Meets, MeetsDelay, [], _<_, _^_, _∷_, ap₂, arith, at, event, inl, inr, noLimit, refl, subst₂}
+use Rattle.constraint.proofs.Names.{suc, times, unanswered, waiting, zero, ℕ}
+use Rattle.constraint.proofs.Lawful.{Contingent, Lawful}
 
 pub lawfulDelay : (source target lower upper : ℕ) → Lawful (Delay source target lower upper)
 unfolding Meets waiting

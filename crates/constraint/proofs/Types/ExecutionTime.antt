@@ -1,15 +1,7 @@
 -- An ExecutionTime looks at the events of its four kinds in their order.
-use Prim.Native.Nat.{ℕ, _+_, _≤_}
-use native.Mathlib.Omega.{arith}
-use mathlib.Core.Path.{_≡_, refl, ap, subst}
-use mathlib.Core.List.{List, [], _∷_, map}
-use mathlib.Core.Option.{none, some}
-use lib.ListN.{length, drop}
-use Rattle.constraint.specs.Steps.{event, at, own}
-use Rattle.constraint.specs.Meets.{Executes, no-event, started, paused, stopped, Meets, MeetsExecutionTime}
-use Rattle.constraint.specs.Waiting.{waiting}
-use Rattle.constraint.specs.declared.Constraint.the-variants.{ExecutionTime}
-use Rattle.constraint.proofs.Lawful.{Lawful, Contingent}
+use Rattle.constraint.proofs.Names.{Executes, ExecutionTime, List, Meets, MeetsExecutionTime, [], _+_, _∷_, _≡_, _≤_, ap, arith, at, drop}
+use Rattle.constraint.proofs.Names.{event, length, map, no-event, none, own, paused, refl, some, started, stopped, subst, waiting, ℕ}
+use Rattle.constraint.proofs.Lawful.{Contingent, Lawful}
 
 pub lawfulExecutionTime : (start stop preempt resume lower upper : ℕ) → Lawful (ExecutionTime start stop preempt resume lower upper)
 unfolding Meets waiting
@@ -37,8 +29,7 @@ execution-time-contingent =
     stops-late e (stopped t before within rest) is =
         let at-stop : t ≡ e .1 = ap (λ (es : List (ℕ × ℕ)). at (map (λ x. x .1) es) 0) is in omega (arith, within .0)
 
-    starts-early : {free : ℕ} {events : List (ℕ × ℕ)} (e f : ℕ × ℕ) → Executes 0 1 2 3 2 5 none free events
-        → events ≡ e ∷ f ∷ [] → e .1 + 2 ≤ f .1
+    starts-early : {free : ℕ} {events : List (ℕ × ℕ)} (e f : ℕ × ℕ) → Executes 0 1 2 3 2 5 none free events → events ≡ e ∷ f ∷ [] → e .1 + 2 ≤ f .1
     starts-early e f no-event is = absurd (omega (arith, ap length is))
     starts-early e f (started s before rest) is =
         let at-start : s ≡ e .1 = ap (λ (es : List (ℕ × ℕ)). at (map (λ x. x .1) es) 0) is in

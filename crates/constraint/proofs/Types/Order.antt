@@ -1,13 +1,6 @@
 -- An Order looks at the times of its two kinds.
-use Prim.Native.Nat.{ℕ}
-use native.Mathlib.Omega.{arith}
-use mathlib.Core.Path.{refl, subst₂}
-use mathlib.Core.List.{[], _∷_}
-use Rattle.constraint.specs.Steps.{event, times}
-use Rattle.constraint.specs.Meets.{Meets, MeetsOrder}
-use Rattle.constraint.specs.Waiting.{waiting}
-use Rattle.constraint.specs.declared.Constraint.the-variants.{Order}
-use Rattle.constraint.proofs.Lawful.{Lawful, Contingent}
+use Rattle.constraint.proofs.Names.{Meets, MeetsOrder, Order, [], _∷_, arith, event, refl, subst₂, times, waiting, ℕ}
+use Rattle.constraint.proofs.Lawful.{Contingent, Lawful}
 
 pub lawfulOrder : (source target : ℕ) → Lawful (Order source target)
 unfolding Meets waiting

@@ -1,19 +1,7 @@
 -- A Reaction looks at the times of each colour of its two kinds.
-use Prim.Native.Nat.{ℕ, zero, suc, _≤_}
-use native.Mathlib.Omega.{arith}
-use mathlib.Core.Path.{_≡_, refl, subst₂}
-use mathlib.Core.List.{List, [], _∷_}
-use lib.ListN.{length}
-use borrow.Author.Tests.{ne-eqb}
-use Rattle.constraint.specs.Limits.{lastColour}
-use Rattle.constraint.specs.Streams.{stream}
-use Rattle.constraint.specs.Steps.{Step, event, times}
-use Rattle.constraint.specs.Meets.{Meets, MeetsReaction}
-use Rattle.constraint.specs.Waiting.{waiting}
-use Rattle.constraint.specs.declared.Constraint.the-variants.{Reaction}
-use Rattle.constraint.proofs.Lists.{each-left, each-right}
-use Rattle.constraint.proofs.Streams.{colours}
-use Rattle.constraint.proofs.Lawful.{of-colour, Lawful, Contingent}
+use Rattle.constraint.proofs.Names.{List, Meets, MeetsReaction, Reaction, Step, [], _∷_, _≡_, _≤_, arith, event, lastColour, length, ne-eqb}
+use Rattle.constraint.proofs.Names.{refl, stream, subst₂, suc, times, waiting, zero, ℕ}
+use Rattle.constraint.proofs.{Lawful.Contingent, Lawful.Lawful, Lawful.of-colour, Lists.each-left, Lists.each-right, Streams.colours}
 
 pub lawfulReaction : (stimulus response lower upper : ℕ) → Lawful (Reaction stimulus response lower upper)
 unfolding Meets waiting
@@ -21,8 +9,7 @@ lawfulReaction stimulus response lower upper =
     record {
       same = λ a b in-order same earlier m colour few. subst₂ (MeetsReaction lower upper)
           (of-colour stimulus a b (each-left (λ s. times s a ≡ times s b) (colours stimulus) (colours response) same) colour few)
-          (of-colour response a b (each-right (λ s. times s a ≡ times s b) (colours stimulus) (colours response) same) colour few)
-          (m colour few);
+          (of-colour response a b (each-right (λ s. times s a ≡ times s b) (colours stimulus) (colours response) same) colour few) (m colour few);
       waits-same = λ a b same. refl;
     }
 

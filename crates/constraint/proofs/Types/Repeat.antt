@@ -1,15 +1,7 @@
 -- A Repeat looks at the times of its kind and at the clock, which is late enough where a later one is.
-use Prim.Native.Nat.{ℕ, zero, suc, _+_, _≤_, _<_}
-use native.Mathlib.Omega.{arith}
-use mathlib.Core.Path.{_≡_, refl, subst}
-use mathlib.Core.List.{List, [], _∷_}
-use mathlib.Core.Logic.{_⊎_, inr, ⊎-elim}
-use Rattle.constraint.specs.Limits.{noLimit}
-use Rattle.constraint.specs.Steps.{event, tick, at, times, clockFrom, clock}
-use Rattle.constraint.specs.Meets.{NotLater, SpansApart, Meets, MeetsRepeat}
-use Rattle.constraint.specs.Waiting.{waiting}
-use Rattle.constraint.specs.declared.Constraint.the-variants.{Repeat}
-use Rattle.constraint.proofs.Lawful.{not-later-earlier, Lawful, Contingent}
+use Rattle.constraint.proofs.Names.{List, Meets, MeetsRepeat, NotLater, Repeat, SpansApart, [], _+_, _<_, _∷_, _≡_, _≤_, _⊎_, arith, at, clock}
+use Rattle.constraint.proofs.Names.{clockFrom, event, inr, noLimit, refl, subst, suc, tick, times, waiting, zero, ℕ, ⊎-elim}
+use Rattle.constraint.proofs.Lawful.{Contingent, Lawful, not-later-earlier}
 
 pub lawfulRepeat : (kind span lower upper : ℕ) → Lawful (Repeat kind span lower upper)
 unfolding Meets MeetsRepeat waiting

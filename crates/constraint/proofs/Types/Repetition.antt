@@ -1,15 +1,7 @@
 -- A Repetition looks at the times of its kind alone.
-use Prim.Native.Nat.{ℕ, zero, suc, _+_, _≤_, _<_}
-use native.Mathlib.Omega.{arith}
-use mathlib.Core.Path.{_≡_, refl, subst}
-use mathlib.Core.List.{[], _∷_}
-use mathlib.Core.Logic.{_⊎_, inl, inr}
-use Rattle.constraint.specs.Limits.{noLimit}
-use Rattle.constraint.specs.Steps.{event, at, times}
-use Rattle.constraint.specs.Meets.{Between, Apart, Meets, MeetsRepetition}
-use Rattle.constraint.specs.Waiting.{waiting}
-use Rattle.constraint.specs.declared.Constraint.the-variants.{Repetition}
-use Rattle.constraint.proofs.Lawful.{Lawful, Contingent}
+use Rattle.constraint.proofs.Names.{Apart, Between, Meets, MeetsRepetition, Repetition, [], _+_, _<_, _∷_, _≡_, _≤_, _⊎_, arith, at, event}
+use Rattle.constraint.proofs.Names.{inl, inr, noLimit, refl, subst, suc, times, waiting, zero, ℕ}
+use Rattle.constraint.proofs.Lawful.{Contingent, Lawful}
 
 pub lawfulRepetition : (kind span lower upper jitter : ℕ) → Lawful (Repetition kind span lower upper jitter)
 unfolding Meets waiting

@@ -1,15 +1,7 @@
 -- A Sporadic looks at the times of its kind and at the clock, for which the same points do where a later one has them.
-use Prim.Native.Nat.{ℕ, zero, suc, _+_, _≤_, _<_}
-use native.Mathlib.Omega.{arith}
-use mathlib.Core.Path.{_≡_, refl, subst}
-use mathlib.Core.List.{List, [], _∷_}
-use mathlib.Core.Logic.{_⊎_, inl, inr, ⊎-elim}
-use Rattle.constraint.specs.Limits.{noLimit}
-use Rattle.constraint.specs.Steps.{event, tick, at, times, clockFrom, clock}
-use Rattle.constraint.specs.Meets.{NotLater, SpansApart, Meets, MeetsSporadic}
-use Rattle.constraint.specs.Waiting.{waiting}
-use Rattle.constraint.specs.declared.Constraint.the-variants.{Sporadic}
-use Rattle.constraint.proofs.Lawful.{not-later-earlier, Lawful, Contingent}
+use Rattle.constraint.proofs.Names.{List, Meets, MeetsSporadic, NotLater, SpansApart, Sporadic, [], _+_, _<_, _∷_, _≡_, _≤_, _⊎_, arith, at}
+use Rattle.constraint.proofs.Names.{clock, clockFrom, event, inl, inr, noLimit, refl, subst, suc, tick, times, waiting, zero, ℕ, ⊎-elim}
+use Rattle.constraint.proofs.Lawful.{Contingent, Lawful, not-later-earlier}
 
 pub lawfulSporadic : (kind lower upper jitter minimum : ℕ) → Lawful (Sporadic kind lower upper jitter minimum)
 unfolding Meets MeetsSporadic waiting

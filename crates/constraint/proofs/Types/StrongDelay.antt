@@ -1,14 +1,7 @@
 -- A StrongDelay looks at the times of its two kinds, and the sources that have no target of their place wait.
-use Prim.Native.Nat.{ℕ, zero, suc, _+_, _-_, _≤_, _<_}
-use native.Mathlib.Omega.{arith}
-use mathlib.Core.Path.{refl, ap₂, subst₂}
-use mathlib.Core.List.{List, [], _∷_}
-use lib.ListN.{length}
-use Rattle.constraint.specs.Steps.{event, at, times}
-use Rattle.constraint.specs.Meets.{Meets, MeetsStrongDelay}
-use Rattle.constraint.specs.Waiting.{waiting}
-use Rattle.constraint.specs.declared.Constraint.the-variants.{StrongDelay}
-use Rattle.constraint.proofs.Lawful.{Lawful, Contingent}
+use Rattle.constraint.proofs.Names.{List, Meets, MeetsStrongDelay, StrongDelay, [], _+_, _-_, _<_, _∷_, _≤_, ap₂, arith, at, event, length}
+use Rattle.constraint.proofs.Names.{refl, subst₂, suc, times, waiting, zero, ℕ}
+use Rattle.constraint.proofs.Lawful.{Contingent, Lawful}
 
 pub lawfulStrongDelay : (source target lower upper : ℕ) → Lawful (StrongDelay source target lower upper)
 unfolding Meets waiting

@@ -1,15 +1,8 @@
 -- A StrongSynchronization looks at the times of each of its kinds, and the groups that are begun and not complete wait.
-use Prim.Native.Nat.{ℕ, zero, suc, _-_, _<_}
-use native.Mathlib.Omega.{arith}
-use mathlib.Core.Path.{_≡_, refl, ap, ap₂}
-use mathlib.Core.List.{List, [], _∷_, map}
-use lib.ListN.{length}
-use Rattle.constraint.specs.Steps.{Step, event, at, times}
-use Rattle.constraint.specs.Meets.{Meets, MeetsStrongSynchronization}
-use Rattle.constraint.specs.Waiting.{largest, least, begunIncomplete, waiting}
-use Rattle.constraint.specs.declared.Constraint.the-variants.{StrongSynchronization2, StrongSynchronization3, StrongSynchronization4}
-use Rattle.constraint.proofs.Lists.{each-tail}
-use Rattle.constraint.proofs.Lawful.{SameTimes, Lawful, Contingent}
+use Rattle.constraint.proofs.Names.{List, Meets, MeetsStrongSynchronization, Step, StrongSynchronization2, StrongSynchronization3}
+use Rattle.constraint.proofs.Names.{StrongSynchronization4, [], _-_, _<_, _∷_, _≡_, ap, ap₂, arith, at, begunIncomplete, event, largest, least}
+use Rattle.constraint.proofs.Names.{length, map, refl, suc, times, waiting, zero, ℕ}
+use Rattle.constraint.proofs.{Lawful.Contingent, Lawful.Lawful, Lawful.SameTimes, Lists.each-tail}
 
 group-same : (ks : List ℕ) (tolerance : ℕ) (a b : List Step) → SameTimes ks a b → MeetsStrongSynchronization ks tolerance a
     → MeetsStrongSynchronization ks tolerance b

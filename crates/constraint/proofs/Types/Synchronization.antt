@@ -1,16 +1,8 @@
 -- A Synchronization looks at the times of each of its kinds, and nothing waits in it.
-use Prim.Native.Nat.{ℕ, zero, suc, _≤_, _<_}
-use native.Mathlib.Decide.{decLt, ℕ-discrete}
-use native.Mathlib.Omega.{arith}
-use mathlib.Core.Path.{_≡_, refl, ap}
-use mathlib.Core.List.{List, [], _∷_}
-use mathlib.Core.Logic.{by-cases}
-use lib.ListN.{length}
-use Rattle.constraint.specs.Steps.{Step, event, at, times}
-use Rattle.constraint.specs.Meets.{Recorded, Meets, MeetsStrongSynchronization, MeetsSynchronization}
-use Rattle.constraint.specs.Waiting.{waiting}
-use Rattle.constraint.specs.declared.Constraint.the-variants.{Synchronization2, Synchronization3, Synchronization4}
-use Rattle.constraint.proofs.Lawful.{SameTimes, Lawful, Contingent}
+use Rattle.constraint.proofs.Names.{List, Meets, MeetsStrongSynchronization, MeetsSynchronization, Recorded, Step, Synchronization2}
+use Rattle.constraint.proofs.Names.{Synchronization3, Synchronization4, [], _<_, _∷_, _≡_, _≤_, ap, arith, at, by-cases, decLt, event, length}
+use Rattle.constraint.proofs.Names.{refl, suc, times, waiting, zero, ℕ, ℕ-discrete}
+use Rattle.constraint.proofs.Lawful.{Contingent, Lawful, SameTimes}
 
 windows-same : (ks : List ℕ) (tolerance : ℕ) (a b : List Step) → SameTimes ks a b → MeetsSynchronization ks tolerance a
     → MeetsSynchronization ks tolerance b
@@ -101,8 +93,7 @@ unfolding Meets times
 window3-contingent =
     record {
       can-be-met = windows-alike (0 ∷ 1 ∷ 2 ∷ []) 2 5 (event 0 5 ∷ event 1 5 ∷ event 2 5 ∷ []) alike;
-      can-be-missed =
-          windows-lack (0 ∷ 1 ∷ 2 ∷ []) 2 0 2 5 (event 0 5 ∷ event 1 5 ∷ []) (omega arith) (omega arith) (0, omega arith, refl) refl;
+      can-be-missed = windows-lack (0 ∷ 1 ∷ 2 ∷ []) 2 0 2 5 (event 0 5 ∷ event 1 5 ∷ []) (omega arith) (omega arith) (0, omega arith, refl) refl;
     }
   where
     alike : (j : ℕ) → j < 3 → times (at (0 ∷ 1 ∷ 2 ∷ []) j) (event 0 5 ∷ event 1 5 ∷ event 2 5 ∷ []) ≡ 5 ∷ []

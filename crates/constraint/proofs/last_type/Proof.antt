@@ -1,8 +1,5 @@
 -- The list is looked up where the definition looks it up; past its end there is no edition.
-use borrow.Author.Needs.{needs}
-use mathlib.Core.Path.{sym}
-use lib.ListN.{List·getD-eq-default}
-use Rattle.constraint.specs.Types.{lastTypes}
+use Rattle.constraint.proofs.Names.{List·getD-eq-default, lastTypes, needs, sym}
 use Rattle.constraint.proofs.last_type.Statement.{statement}
 use Rattle.constraint.proofs.last_type.Tie as tie
 

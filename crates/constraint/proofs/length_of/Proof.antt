@@ -1,11 +1,6 @@
 -- The list is looked up where the definition looks it up.
-use native.Mathlib.Omega.{arith}
-use borrow.Author.Needs.{needs}
-use mathlib.Core.Path.{sym, _∙_}
-use Rattle.constraint.specs.Types.{lengths}
-use Rattle.constraint.proofs.Lengths.{at-most, length-unknown, length-plain}
-use Rattle.constraint.proofs.Judged.{free}
-use Rattle.constraint.proofs.length_of.Statement.{statement}
+use Rattle.constraint.proofs.Names.{_∙_, arith, lengths, needs, sym}
+use Rattle.constraint.proofs.{Judged.free, Lengths.at-most, Lengths.length-plain, Lengths.length-unknown, length_of.Statement.statement}
 use Rattle.constraint.proofs.length_of.Tie as tie
 
 pub length-of-spec : {M : Type 1} → statement M

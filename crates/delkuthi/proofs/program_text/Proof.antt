@@ -1,8 +1,6 @@
 -- The two sizes are asked for first, and then the report.
-use Rattle.constraint.proofs.Library.{arith, needs, ltb-true, ltb-false, ⊎-elim}
-use Rattle.delkuthi.specs.Program.{too-large, fits}
-use Rattle.delkuthi.proofs.Reports.{holds-refusal, summary-report}
-use Rattle.delkuthi.proofs.program_text.Statement.{statement}
+use Rattle.delkuthi.proofs.Names.{arith, fits, ltb-false, ltb-true, needs, too-large, ⊎-elim}
+use Rattle.delkuthi.proofs.{Reports.holds-refusal, Reports.summary-report, program_text.Statement.statement}
 use Rattle.delkuthi.proofs.program_text.Tie as tie
 
 returns : tie.Need-returns

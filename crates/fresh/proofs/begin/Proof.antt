@@ -1,16 +1,11 @@
 -- The words are cleared, the two numbers are stored that are not 0, and then the rows.
-use Rattle.constraint.proofs.Library.{ℕ, _≡_, refl, ap, subst, _∙_, [], length, replicate, needs}
-use Rattle.monitor.specs.Contract.{after}
-use Rattle.lent.specs.Layout.{Words}
-use Rattle.fresh.specs.Fresh.{noWords, RowsPut}
-use Rattle.fresh.proofs.Freshness.{numbered, begun-words}
-use Rattle.fresh.proofs.begin.Statement.{statement}
+use Rattle.fresh.proofs.Names.{RowsPut, Words, [], _∙_, _≡_, after, ap, length, needs, noWords, refl, replicate, subst, ℕ}
+use Rattle.fresh.proofs.{Freshness.begun-words, Freshness.numbered, begin.Statement.statement}
 use Rattle.fresh.proofs.begin.Tie as tie
 
 returns : tie.Need-returns
 returns c rows reads few n-is =
-    let d = c .before .before in
-    let a = d .before .before .before .args in
+    let d = c .before .before in let a = d .before .before .before .args in
     let words : Words = d .clear .last .0 in
     let wide : length (a .m .now) ≡ 35 = d .before .clear-arg .given .0 .1 in
     let cleared : words ≡ replicate 35 noWords = d .clear .ensures ∙ ap (λ (n : ℕ). replicate n noWords) wide in

@@ -1,8 +1,6 @@
 -- Block after block: before the turn of number i the first i are cleared.
-use Rattle.constraint.proofs.Library.{ℕ, _-_, _≤_, arith, add-one, _≡_, refl, sym, ap, _∙_, [], _∷_, _++_, length, set, take, replicate, length-set}
-use Rattle.constraint.proofs.Library.{replicate-append-replicate, take-all, take-suc-set}
-use Rattle.lent.specs.Layout.{Words}
-use Rattle.fresh.specs.Fresh.{noWords}
+use Rattle.fresh.proofs.Names.{Words, [], _++_, _-_, _∙_, _∷_, _≡_, _≤_, add-one, ap, arith, length, length-set, noWords, refl, replicate}
+use Rattle.fresh.proofs.Names.{replicate-append-replicate, set, sym, take, take-all, take-suc-set, ℕ}
 use Rattle.fresh.proofs.clear.Statement.{statement}
 use Rattle.fresh.proofs.clear.Tie as tie
 
@@ -12,22 +10,9 @@ Inv-loop blocks₀ i₀ blocks i = (i ≤ length blocks₀) × ((length blocks �
 abbrev μ-loop : tie.MeasureT-loop
 μ-loop blocks₀ i₀ blocks i = length blocks₀ - i
 
-loop-holds : tie.Need-loop-holds Inv-loop μ-loop
-loop-holds c = (omega arith, (refl, refl))
-
-mul-t3 : tie.Need-mul-t3 Inv-loop μ-loop
-mul-t3 c = omega (arith, c .before .before .good .0 .1)
-
-slice-set-from-blocks : tie.Need-slice-set-from-blocks Inv-loop μ-loop
-slice-set-from-blocks c = c .loop-test .taken
-
-add-i : tie.Need-add-i Inv-loop μ-loop
-add-i c = omega (arith, c .before .before .good .0 .0)
-
 loop-again : tie.Need-loop-again Inv-loop μ-loop
 loop-again c =
-    let l = c .before .loop in
-    let i = l .i in (
+    let l = c .before .loop in let i = l .i in (
       omega (arith, l .inv .1 .0),
       (
         length-set (l .blocks) i noWords ∙ l .inv .1 .0,
@@ -35,9 +20,6 @@ loop-again c =
             ∙ ap (λ (front : Words). front ++ (noWords ∷ [])) (l .inv .1 .1) ∙ replicate-append-replicate i 1 noWords,
       ),
     )
-
-same-length : tie.Need-same-length Inv-loop μ-loop
-same-length c = c .before .loop .inv .1 .0
 
 returns : tie.Need-returns Inv-loop μ-loop
 returns c =
@@ -48,4 +30,6 @@ returns c =
 
 pub clear-spec : {M : Type 1} → statement M
 clear-spec =
-    tie.close (tie.spec Inv-loop μ-loop loop-holds mul-t3 slice-set-from-blocks add-i (λ c. omega arith) loop-again same-length returns)
+    tie.close (tie.spec Inv-loop μ-loop (λ c. (omega arith, (refl, refl))) (λ c. omega (arith, c .before .before .good .0 .1))
+    (λ c. c .loop-test .taken) (λ c. omega (arith, c .before .before .good .0 .0)) (λ c. omega arith) loop-again (λ c. c .before .loop .inv .1 .0)
+    returns)

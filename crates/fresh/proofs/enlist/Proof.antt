@@ -1,10 +1,7 @@
 -- Kind after kind: before the turn of a kind the rows of those before it are entered, and their ends are stored.
-use Rattle.constraint.proofs.Library.{ℕ, suc, _-_, _*_, _≤_, arith, add-one, _≡_, sym, ap, subst, _∙_, List, []}
-use Rattle.lent.specs.Layout.{Lent, wordsOf, Shaped}
-use Rattle.fresh.specs.Fresh.{listedTo, endsTo, padded, withLists, ListsLie}
-use Rattle.fresh.proofs.Lists.{shaped-lists}
-use Rattle.fresh.proofs.Freshness.{ends-next, ends-whole}
-use Rattle.fresh.proofs.enlist.Statement.{statement}
+use Rattle.fresh.proofs.Names.{Lent, List, ListsLie, Shaped, [], _*_, _-_, _∙_, _≡_, _≤_, add-one, ap, arith, endsTo, listedTo, padded, subst}
+use Rattle.fresh.proofs.Names.{suc, sym, withLists, wordsOf, ℕ}
+use Rattle.fresh.proofs.{Freshness.ends-next, Freshness.ends-whole, Lists.shaped-lists, enlist.Statement.statement}
 use Rattle.fresh.proofs.enlist.Tie as tie
 
 abbrev Inv-loop : tie.InvT-loop
@@ -19,16 +16,10 @@ loop-holds : tie.Need-loop-holds Inv-loop μ-loop
 unfolding listedTo endsTo
 loop-holds c = (omega arith, (omega arith, λ h s lies. lies))
 
-enlist-kind-requires : tie.Need-enlist-kind-requires Inv-loop μ-loop
-enlist-kind-requires c κs = (c .before .before .before .pre, omega arith)
-
 loop-again : tie.Need-loop-again Inv-loop μ-loop
 unfolding listedTo
 loop-again c =
-    let d = c .before .before in
-    let l = d .before .before .before in
-    let n = l .before .args .n in
-    let kind = l .loop .kind in (
+    let d = c .before .before in let l = d .before .before .before in let n = l .before .args .n in let kind = l .loop .kind in (
       omega arith,
       (
         omega (arith, d .enlist-kind .ensures .0),
@@ -47,13 +38,12 @@ loop-again c =
 
 returns : tie.Need-returns Inv-loop μ-loop
 returns c h s lies =
-    let l = c .before .loop in
-    let n = c .before .before .args .n in
+    let l = c .before .loop in let n = c .before .before .args .n in
     let at-end : l .kind ≡ 64 = omega arith in
     subst (λ (k : ℕ). ListsLie h (endsTo (h .monitor) n k) (listedTo (h .monitor) n k) (l .place) (l .m)) at-end (l .inv .1 .1 h s lies) .1
     ∙ ap (λ (ends : List ℕ). wordsOf (withLists h ends (padded 128 (listedTo (h .monitor) n 64)))) (ends-whole (h .monitor) n)
 
 pub enlist-spec : {M : Type 1} → statement M
 enlist-spec =
-    tie.close (tie.spec Inv-loop μ-loop loop-holds enlist-kind-requires (λ c κs. omega arith) (λ c. omega arith) (λ c. omega arith) loop-again
-    returns)
+    tie.close (tie.spec Inv-loop μ-loop loop-holds (λ c κs. (c .before .before .before .pre, omega arith)) (λ c κs. omega arith) (λ c. omega arith)
+    (λ c. omega arith) loop-again returns)

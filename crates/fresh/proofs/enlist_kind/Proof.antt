@@ -1,8 +1,6 @@
 -- Row after row: before the turn of number i those of the first i are entered that the kind concerns.
-use Rattle.constraint.proofs.Library.{ℕ, _+_, _-_, _≤_, arith, add-one, _≡_, sym, ap, subst, _∙_, cond, List, [], _∷_, _++_, append-nil, append-assoc}
-use Rattle.lent.specs.Layout.{Lent, Shaped}
-use Rattle.lent.specs.Contract.{numbers, isOf}
-use Rattle.fresh.specs.Fresh.{ListsLie}
+use Rattle.fresh.proofs.Names.{Lent, List, ListsLie, Shaped, [], _++_, _+_, _-_, _∙_, _∷_, _≡_, _≤_, add-one, ap, append-assoc, append-nil}
+use Rattle.fresh.proofs.Names.{arith, cond, isOf, numbers, subst, sym, ℕ}
 use Rattle.fresh.proofs.enlist_kind.Statement.{statement}
 use Rattle.fresh.proofs.enlist_kind.Tie as tie
 
@@ -19,14 +17,9 @@ loop-holds c =
     let a = c .args in
     (omega arith, (omega arith, λ h ends entries s. subst (λ (l : List ℕ). ListsLie h ends l (a .first) (a .m .now)) (sym (append-nil entries))))
 
-enter-requires : tie.Need-enter-requires Inv-loop μ-loop
-enter-requires c κs = (omega arith, omega arith)
-
 loop-again : tie.Need-loop-again Inv-loop μ-loop
 loop-again c =
-    let l = c .before .before .before in
-    let a = l .before .args in
-    let i = l .loop .i in (
+    let l = c .before .before .before in let a = l .before .args in let i = l .loop .i in (
       omega arith,
       (
         omega (arith, c .enter .ensures .0),
@@ -40,8 +33,7 @@ loop-again c =
 
 returns : tie.Need-returns Inv-loop μ-loop
 returns c =
-    let l = c .before .loop in
-    let a = c .before .before .args in
+    let l = c .before .loop in let a = c .before .before .args in
     let at-end : l .i ≡ a .n = omega arith in (
       omega (arith, l .inv .1 .0, at-end),
       λ h ends entries s lies.
@@ -51,4 +43,4 @@ returns c =
 
 pub enlist-kind-spec : {M : Type 1} → statement M
 enlist-kind-spec =
-    tie.close (tie.spec Inv-loop μ-loop loop-holds enter-requires (λ c. omega arith) (λ c. omega arith) loop-again returns)
+    tie.close (tie.spec Inv-loop μ-loop loop-holds (λ c κs. (omega arith, omega arith)) (λ c. omega arith) (λ c. omega arith) loop-again returns)

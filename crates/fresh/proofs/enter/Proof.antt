@@ -1,16 +1,12 @@
 -- An entry at the place behind the others makes the entries one longer.
-use Rattle.constraint.proofs.Library.{ℕ, _+_, arith, sym, ap, subst, _∙_, Bool, cond, List, [], _∷_, _++_, append-nil, set, length-append, needs}
-use Rattle.lent.specs.Layout.{wordsOf}
-use Rattle.fresh.specs.Fresh.{padded, withLists, ListsLie}
-use Rattle.fresh.proofs.Padding.{padded-next}
-use Rattle.fresh.proofs.Lists.{shaped-lists}
-use Rattle.fresh.proofs.enter.Statement.{statement}
+use Rattle.fresh.proofs.Names.{Bool, List, ListsLie, [], _++_, _+_, _∙_, _∷_, ap, append-nil, arith, cond, length-append, needs, padded, set}
+use Rattle.fresh.proofs.Names.{subst, sym, withLists, wordsOf, ℕ}
+use Rattle.fresh.proofs.{Lists.shaped-lists, Padding.padded-next, enter.Statement.statement}
 use Rattle.fresh.proofs.enter.Tie as tie
 
 returns : tie.Need-returns
 returns c =
-    let t = c .before .before in
-    let a = t .before .before .before .args in (
+    let t = c .before .before in let a = t .before .before .before .args in (
       omega arith,
       λ h ends entries s lies.
           let h′ = withLists h (padded 64 ends) (padded 128 entries) in
@@ -26,8 +22,7 @@ returns c =
 
 returns-2 : tie.Need-returns-2
 returns-2 c =
-    let st = c .before .before .before in
-    let a = st .args in (
+    let st = c .before .before .before in let a = st .args in (
       omega arith,
       λ h ends entries s lies.
           let h′ = withLists h (padded 64 ends) (padded 128 entries) in

@@ -1,12 +1,7 @@
 -- The bytes are judged before anything is stored; where they are accepted, every word is stored, those of the lists last.
-use Rattle.constraint.proofs.Library.{ℕ, arith, _≡_, sym, ap, subst, subst₂, _∙_, List, [], now, needs}
-use Rattle.constraint.specs.declared.Constraint.{Constraint}
-use Rattle.table.proofs.Scanning.{scan-start}
-use Rattle.monitor.specs.Contract.{after}
-use Rattle.lent.specs.Layout.{Words, wordsOf}
-use Rattle.fresh.specs.Fresh.{listedTo, endsTo, padded, withLists, freshLent, BeginsUpTo, begun, refused}
-use Rattle.fresh.proofs.Freshness.{fresh-shaped, fresh-indexes}
-use Rattle.fresh.proofs.fresh.Statement.{statement}
+use Rattle.fresh.proofs.Names.{BeginsUpTo, Constraint, List, Words, [], _∙_, _≡_, after, ap, arith, begun, endsTo, freshLent, listedTo, needs}
+use Rattle.fresh.proofs.Names.{now, padded, refused, scan-start, subst, subst₂, sym, withLists, wordsOf, ℕ}
+use Rattle.fresh.proofs.{Freshness.fresh-indexes, Freshness.fresh-shaped, fresh.Statement.statement}
 use Rattle.fresh.proofs.fresh.Tie as tie
 
 enlist-requires : tie.Need-enlist-requires
@@ -17,10 +12,7 @@ enlist-requires c κs =
 
 returns : tie.Need-returns
 returns c =
-    let b = c .before .before in
-    let t = b .before .before in
-    let j = t .before in
-    let a = j .before .before .args in
+    let b = c .before .before in let t = b .before .before in let j = t .before in let a = j .before .before .args in
     let counted = j .judge .ensures .accepted (t .if1 .taken) in
     let rows : List Constraint = counted .rows in
     let lies = b .begin .ensures rows (scan-start (now (a .table)) rows (counted .reads)) (counted .room) (counted .counted) in
@@ -33,8 +25,7 @@ returns c =
 
 returns-2 : tie.Need-returns-2
 returns-2 c =
-    let j = c .before in
-    let a = j .before .before .args in
+    let j = c .before in let a = j .before .before .args in
     let refusal = j .judge .ensures .refused (c .if1 .left) in
     subst (λ (number : ℕ). BeginsUpTo (a .newest) (now (a .table)) (now (a .m)) number (now (a .m))) (sym (refusal .numbered))
     (refused (refusal .question) (refusal .place) (refusal .reads) (refusal .above) (refusal .below))

@@ -1,8 +1,6 @@
 -- The answer is numbered; a refusal's place is small enough for the number to hold it.
-use Rattle.constraint.proofs.Library.{arith, needs, _≤_, _<_, refl, now}
-use Rattle.constraint.specs.Table.{ReadsTableUpTo, table-refused}
-use Rattle.fresh.proofs.Refusals.{refused-small}
-use Rattle.fresh.proofs.judge.Statement.{statement}
+use Rattle.fresh.proofs.Names.{ReadsTableUpTo, _<_, _≤_, arith, needs, now, refl, table-refused}
+use Rattle.fresh.proofs.{Refusals.refused-small, judge.Statement.statement}
 use Rattle.fresh.proofs.judge.Tie as tie
 
 -- the refusal that was read
@@ -13,12 +11,6 @@ refusal c = (rw (c .answer .given .1) at (c .before .before .judge .ensures)) .0
 
 small : (c : tie.After-answer) → (0 < c .answer .given .0 .0) × (c .answer .given .0 .1 .0 ≤ 1153)
 small c = refused-small (now (c .before .before .before .before .args .table)) _ _ (refusal c)
-
-mul-t9 : tie.Need-mul-t9
-mul-t9 c = omega (arith, small (c .before) .1)
-
-add-t11 : tie.Need-add-t11
-add-t11 c = omega (arith, small (c .before) .1)
 
 returns : tie.Need-returns
 returns c = record { accepted = λ _. rw (c .enum-told .given .1) at (c .before .before .judge .ensures); refused = λ other. absurd (other refl) }
@@ -33,4 +25,5 @@ returns-2 c =
 
 pub judge-spec : {M : Type 1} → statement M
 judge-spec =
-    tie.close (tie.spec (λ c κs. search needs) (λ c. search needs) (λ c. search needs) mul-t9 (λ c. search needs) add-t11 returns returns-2)
+    tie.close (tie.spec (λ c κs. search needs) (λ c. search needs) (λ c. search needs) (λ c. omega (arith, small (c .before) .1)) (λ c. search needs)
+    (λ c. omega (arith, small (c .before) .1)) returns returns-2)

@@ -1,7 +1,6 @@
 -- The end is stored at the kind's place.
-use Rattle.constraint.proofs.Library.{ap, _∙_, [], getD, set, needs}
-use Rattle.fresh.proofs.Lists.{end-written}
-use Rattle.fresh.proofs.put_end.Statement.{statement}
+use Rattle.fresh.proofs.Names.{[], _∙_, ap, getD, needs, set}
+use Rattle.fresh.proofs.{Lists.end-written, put_end.Statement.statement}
 use Rattle.fresh.proofs.put_end.Tie as tie
 
 returns : tie.Need-returns

@@ -1,10 +1,6 @@
 -- The entry is stored at its place, in the one half or the other; there is no place 128.
-use Rattle.constraint.proofs.Library.{ℕ, _/_, _%_, arith, sym, ap, _∙_, List, [], getD, set, needs}
-use Rattle.lent.specs.Layout.{wordsOf}
-use Rattle.fresh.specs.Fresh.{withLists}
-use Rattle.fresh.proofs.Padding.{set-past}
-use Rattle.fresh.proofs.Lists.{entry-written}
-use Rattle.fresh.proofs.put_entry.Statement.{statement}
+use Rattle.fresh.proofs.Names.{List, [], _%_, _/_, _∙_, ap, arith, getD, needs, set, sym, withLists, wordsOf, ℕ}
+use Rattle.fresh.proofs.{Lists.entry-written, Padding.set-past, put_entry.Statement.statement}
 use Rattle.fresh.proofs.put_entry.Tie as tie
 
 returns : tie.Need-returns

@@ -1,16 +1,9 @@
 -- Row after row: before the turn of number i the first i are stored, and the others are read from the place on that the turn has.
-use Rattle.constraint.proofs.Library.{ℕ, _-_, _≤_, arith, _≡_, sym, ap, ap₂, subst, _∙_, List, [], length, drop}
-use Rattle.constraint.specs.Table.{ReadsRows, table-of}
-use Rattle.constraint.specs.Steps.{at}
-use Rattle.constraint.specs.declared.Constraint.{Constraint}
-use Rattle.row.specs.Machine.{rowOf}
-use Rattle.row.specs.Undo.{noBefore}
+use Rattle.fresh.proofs.Names.{Constraint, List, ReadsRows, RowsBehind, RowsPut, [], _-_, _∙_, _≡_, _≤_, after, ap, ap₂, arith, at, drop}
+use Rattle.fresh.proofs.Names.{length, noBefore, rowOf, subst, sym, table-of, ℕ}
+use Rattle.fresh.proofs.Scanned.{put-next, put-none, scan-next}
+use Rattle.fresh.proofs.{Freshness.kept-is, Freshness.row-is, put_rows.Statement.statement}
 use Rattle.row.specs.Stored as Stored
-use Rattle.monitor.specs.Contract.{after}
-use Rattle.fresh.specs.Fresh.{RowsBehind, RowsPut}
-use Rattle.fresh.proofs.Scanned.{scan-next, put-none, put-next}
-use Rattle.fresh.proofs.Freshness.{row-is, kept-is}
-use Rattle.fresh.proofs.put_rows.Statement.{statement}
 use Rattle.fresh.proofs.put_rows.Tie as tie
 
 abbrev Inv-loop : tie.InvT-loop
@@ -21,13 +14,9 @@ Inv-loop m₀ table place₀ i₀ m place i =
 abbrev μ-loop : tie.MeasureT-loop
 μ-loop m₀ table place₀ i₀ m place i = 32 - i
 
-loop-holds : tie.Need-loop-holds Inv-loop μ-loop
-loop-holds c = (omega arith, λ rows reads long. (reads, put-none _ (after rows [])))
-
 loop-again : tie.Need-loop-again Inv-loop μ-loop
 loop-again c =
-    let d = c .before .before in
-    let l = d .before .before .loop in (
+    let d = c .before .before in let l = d .before .before .loop in (
       omega arith,
       λ rows reads long.
           let so-far = l .inv .1 rows reads long in
@@ -45,5 +34,5 @@ returns c rows reads long =
 
 pub put-rows-spec : {M : Type 1} → statement M
 put-rows-spec =
-    tie.close (tie.spec Inv-loop μ-loop loop-holds (λ c κs. tt) (λ c. omega arith) (λ c. omega arith) (λ c κs. tt) (λ c. omega arith) (λ c. omega
-    arith) loop-again returns)
+    tie.close (tie.spec Inv-loop μ-loop (λ c. (omega arith, λ rows reads long. (reads, put-none _ (after rows [])))) (λ c κs. tt) (λ c. omega arith)
+    (λ c. omega arith) (λ c κs. tt) (λ c. omega arith) (λ c. omega arith) loop-again returns)

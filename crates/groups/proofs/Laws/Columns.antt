@@ -1,18 +1,15 @@
 -- The recorded events of a row's kinds as groups: some continuation completes each group at its last moment, as long as the oldest group's
 -- last moment has not passed; once it has, none does.
-use Rattle.constraint.proofs.Library.{ℕ, zero, suc, _+_, _-_, _≤_, _<_, arith, decLt, ℕ-discrete, _≡_, sym, _∙_, subst, false, List, [], _∷_, _++_}
-use Rattle.constraint.proofs.Library.{map, append-nil, append-assoc, by-cases, length, length-append}
-use Rattle.constraint.specs.Limits.{streamCount}
-use Rattle.constraint.specs.Steps.{Step, event, tick, at, times, clock, closed}
-use Rattle.constraint.specs.Meets.{MeetsStrongSynchronization}
-use Rattle.constraint.specs.Continuation.{EventInOrder, Continues, stop, more}
-use Rattle.constraint.specs.Waiting.{largest, least, begunIncomplete}
-use Rattle.constraint.specs.Accepted.{KindsFit}
-use Rattle.constraint.proofs.Lists.{at-left, at-right, Each, each-none, each-cons, each-append, each-tail, Rising, rising-snoc}
-use Rattle.constraint.proofs.History.{times-append, times-own, times-other, times-tick, clock-event, clock-tick, closed-event, with-time}
 use Rattle.constraint.proofs.Continuations.{SameTimes, continues-late}
-use Rattle.machine.proofs.SeveralKinds.{kinds-stream, kinds-apart}
-use Rattle.groups.proofs.Laws.Groups.{Groups, Behind, Added, longer-own, longer-old, groups-before, oldest-first, groups-joined, groups-left}
+use Rattle.constraint.proofs.History.{clock-event, clock-tick, closed-event, times-append, times-other, times-own, times-tick, with-time}
+use Rattle.constraint.proofs.Library.{List, [], _++_, _+_, _-_, _<_, _∙_, _∷_, _≡_, _≤_, append-assoc, append-nil, arith, by-cases, decLt, false}
+use Rattle.constraint.proofs.Library.{length, length-append, map, subst, suc, sym, zero, ℕ, ℕ-discrete}
+use Rattle.constraint.proofs.Lists.{Each, Rising, at-left, at-right, each-append, each-cons, each-none, each-tail, rising-snoc}
+use Rattle.constraint.specs.Steps.{Step, at, clock, closed, event, tick, times}
+use Rattle.constraint.specs.{Accepted.KindsFit, Continuation.Continues, Continuation.EventInOrder, Continuation.more, Continuation.stop}
+use Rattle.constraint.specs.{Limits.streamCount, Meets.MeetsStrongSynchronization, Waiting.begunIncomplete, Waiting.largest, Waiting.least}
+use Rattle.groups.proofs.Laws.Groups.{Added, Behind, Groups, groups-before, groups-joined, groups-left, longer-old, longer-own, oldest-first}
+use Rattle.machine.proofs.SeveralKinds.{kinds-apart, kinds-stream}
 
 -- the times of the j-th of these kinds
 abbrev pub column : List ℕ → List Step → ℕ → List ℕ

@@ -1,18 +1,13 @@
 -- The marks of a row as one number for each kind, a count in a StrongSynchronization: the kinds are different, so the machine's four places are
 -- those of the list of kinds, and a place without a kind never matters.
-use Rattle.constraint.proofs.Library.{ℕ, zero, suc, _+_, _-_, _≤_, _<_, arith, decLt, _≡_, refl, sym, ap, _∙_, subst, Bool, true, false, _&&_, _||_}
-use Rattle.constraint.proofs.Library.{false≢true, and-eq-true-iff, List, [], _∷_, _++_, _⊎_, inl, inr, ⊎-elim, by-cases, length, replicate}
-use Rattle.constraint.proofs.Library.{length-append, length-replicate, getD-replicate, ltb, eqb, ltb-true, ltb-false, eqb-false, eq-eqb, ne-eqb}
-use Rattle.constraint.specs.Limits.{lastKind, noLimit}
-use Rattle.constraint.specs.Steps.{at}
-use Rattle.constraint.specs.Accepted.{KindsFit}
-use Rattle.constraint.proofs.Lists.{split, at-left, at-right}
-use Rattle.machine.specs.Rule.{noKind}
-use Rattle.machine.specs.Parts.{noMarks}
-use Rattle.groups.specs.StrongSynchronization.{countOf, oneMore, counted, has, complete, withoutOldest}
-use Rattle.machine.specs.declared.Rule.{Rule}
-use Rattle.machine.specs.declared.Marks.{Marks}
-use Rattle.machine.proofs.SeveralKinds.{kinds-small, kinds-apart}
+use Rattle.constraint.proofs.Library.{Bool, List, [], _&&_, _++_, _+_, _-_, _<_, _||_, _∙_, _∷_, _≡_, _≤_, _⊎_, and-eq-true-iff, ap, arith, by-cases}
+use Rattle.constraint.proofs.Library.{decLt, eq-eqb, eqb, eqb-false, false, false≢true, getD-replicate, inl, inr, length, length-append}
+use Rattle.constraint.proofs.Library.{length-replicate, ltb, ltb-false, ltb-true, ne-eqb, refl, replicate, subst, suc, sym, true, zero, ℕ, ⊎-elim}
+use Rattle.constraint.proofs.Lists.{at-left, at-right, split}
+use Rattle.constraint.specs.{Accepted.KindsFit, Limits.lastKind, Limits.noLimit, Steps.at}
+use Rattle.groups.specs.StrongSynchronization.{complete, countOf, counted, has, oneMore, withoutOldest}
+use Rattle.machine.proofs.SeveralKinds.{kinds-apart, kinds-small}
+use Rattle.machine.specs.{Parts.noMarks, Rule.noKind, declared.Marks.Marks, declared.Rule.Rule}
 
 -- the four kinds of a rule, some of which may be absent, and the count of each
 abbrev pub fourKinds : Rule → List ℕ

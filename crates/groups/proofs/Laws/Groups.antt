@@ -1,9 +1,9 @@
 -- Groups of times by place: the i-th group has the i-th time of each column. One more time goes to the first group that its column lacks, and
 -- the oldest group leaves when no column lacks it, so first times are enough to say which times still fit.
-use Rattle.constraint.proofs.Library.{ℕ, zero, suc, _+_, _-_, _≤_, _<_, arith, decLt, ℕ-discrete, _≡_, refl, sym, ap, _∙_, List, [], _∷_, _++_, _⊎_}
-use Rattle.constraint.proofs.Library.{inl, inr, ⊎-elim, by-cases, length, drop, length-append, length-drop, getD-drop}
+use Rattle.constraint.proofs.Library.{List, [], _++_, _+_, _-_, _<_, _∙_, _∷_, _≡_, _≤_, _⊎_, ap, arith, by-cases, decLt, drop, getD-drop, inl, inr}
+use Rattle.constraint.proofs.Library.{length, length-append, length-drop, refl, suc, sym, zero, ℕ, ℕ-discrete, ⊎-elim}
+use Rattle.constraint.proofs.Lists.{Each, Rising, at-left, at-next, rising-at}
 use Rattle.constraint.specs.Steps.{at}
-use Rattle.constraint.proofs.Lists.{at-left, at-next, Each, Rising, rising-at}
 
 -- n columns whose first `done` groups are complete; the groups begun after these have the first times `firsts`, and all times of a group are
 -- within tolerance of one another
@@ -63,8 +63,7 @@ module _ {n k t : ℕ} {column longer : ℕ → List ℕ} (added : Added n k t c
 
   -- a column's length stays, or it is the k-th and has one more
   longer-length : (j : ℕ) → j < n → (length (longer j) ≡ length (column j)) ⊎ ((j ≡ k) × (length (longer j) ≡ suc (length (column j))))
-  longer-length j h =
-      by-cases (ℕ-discrete j k) (λ e. inr (e, rw e longer-own)) (λ e. inl (ap length (added .other j h e)))
+  longer-length j h = by-cases (ℕ-discrete j k) (λ e. inr (e, rw e longer-own)) (λ e. inl (ap length (added .other j h e)))
 
 module _ {n tolerance done : ℕ} {column : ℕ → List ℕ} {firsts : List ℕ} (groups : Groups n tolerance done column firsts)
     (rising : (j : ℕ) → Rising (column j)) where
@@ -82,8 +81,7 @@ module _ {n tolerance done : ℕ} {column : ℕ → List ℕ} {firsts : List ℕ
       omega (arith, groups .after p 0 in-range (omega arith), rising-at (column p) (rising p) (done + 0) (done + suc m) (omega arith) there)
 
 module _ {n tolerance done k t : ℕ} {column longer : ℕ → List ℕ} {firsts : List ℕ} (groups : Groups n tolerance done column firsts)
-    (rising : (j : ℕ) → Rising (column j))
-    (past : (j : ℕ) → Each (λ s. s ≤ t) (column j)) (own : k < n) (added : Added n k t column longer) where
+    (rising : (j : ℕ) → Rising (column j)) (past : (j : ℕ) → Each (λ s. s ≤ t) (column j)) (own : k < n) (added : Added n k t column longer) where
   -- a time that joins a group or begins the next one, not before its first time and not too late for those that the group has
   groups-longer : (newer : List ℕ) → ((i : ℕ) → i < length firsts → at newer i ≡ at firsts i) → length firsts ≤ length newer
       → length (column k) < done + length newer
@@ -104,8 +102,7 @@ module _ {n tolerance done k t : ℕ} {column longer : ℕ → List ℕ} {firsts
             (k, own, omega (arith, longer-own added), rw (added .own) (at-next (column k) t [] (done + i) last) ∙ sym is-new));
         after = λ j i h l. ⊎-elim
             (λ (old, same). omega (arith, groups .after j i h old, kept i (omega (arith, groups .begun j h))))
-            (λ (e, last, is-new). omega (arith, not-before i last))
-            (longer-cases added j (done + i) h l);
+            (λ (e, last, is-new). omega (arith, not-before i last)) (longer-cases added j (done + i) h l);
         spread = λ j x i h g l m. ⊎-elim
             (λ (old, same). ⊎-elim
             (λ (old′, same′). omega (arith, groups .spread j x i h g old old′))

@@ -1,23 +1,18 @@
 -- What a StrongSynchronization keeps, and that each event keeps it so: the event goes to the first group that lacks its kind, and the oldest
 -- group leaves once it lacks none.
-use Rattle.constraint.proofs.Library.{ℕ, suc, _+_, _-_, _≤_, _<_, arith, decLt, ℕ-discrete, _≡_, refl, ap, _∙_, Bool, true, false, cond, List, []}
-use Rattle.constraint.proofs.Library.{_∷_, _++_, by-cases, length, drop, length-drop, getD-drop, ltb, ltb-true, ltb-false}
-use Rattle.constraint.specs.Limits.{noLimit}
-use Rattle.constraint.specs.Steps.{Step, event, at, times, clock}
-use Rattle.constraint.proofs.Lists.{at-left, at-next, Each, Rising, rising-by}
-use Rattle.constraint.proofs.History.{Accepts, Past}
-use Rattle.queue.specs.declared.Edit.the-variants.{Drop, Push}
-use Rattle.machine.specs.Parts.{noMarks, waits, dueOldest, none-left}
-use Rattle.groups.specs.StrongSynchronization.{countOf, counted, complete, withoutOldest, decideStrongSynchronization}
-use Rattle.machine.specs.declared.Rule.{Rule}
-use Rattle.machine.specs.declared.Marks.{Marks}
-use Rattle.machine.specs.declared.Change.{Change}
-use Rattle.machine.proofs.Exact.{GoesOn, ByOutcome}
-use Rattle.machine.proofs.Oldest.{due-within, due-reached}
-use Rattle.groups.proofs.Laws.Groups.{Groups, Behind, groups-none, longer-own, oldest-first, groups-joined, groups-begun, groups-left}
+use Rattle.constraint.proofs.Library.{Bool, List, [], _++_, _+_, _-_, _<_, _∙_, _∷_, _≡_, _≤_, ap, arith, by-cases, cond, decLt, drop, false}
+use Rattle.constraint.proofs.Library.{getD-drop, length, length-drop, ltb, ltb-false, ltb-true, refl, suc, true, ℕ, ℕ-discrete}
+use Rattle.constraint.proofs.{History.Accepts, History.Past, Lists.Each, Lists.Rising, Lists.at-left, Lists.at-next, Lists.rising-by}
+use Rattle.constraint.specs.{Limits.noLimit, Steps.Step, Steps.at, Steps.clock, Steps.event, Steps.times}
 use Rattle.groups.proofs.Laws.Columns.{column, columns-added}
-use Rattle.groups.proofs.Laws.Counts.{fourCounts, Names, count-none, count-is, count-own, count-other, count-left, complete-has}
+use Rattle.groups.proofs.Laws.Counts.{Names, complete-has, count-is, count-left, count-none, count-other, count-own, fourCounts}
 use Rattle.groups.proofs.Laws.Counts.{incomplete-lacks}
+use Rattle.groups.proofs.Laws.Groups.{Behind, Groups, groups-begun, groups-joined, groups-left, groups-none, longer-own, oldest-first}
+use Rattle.groups.specs.StrongSynchronization.{complete, countOf, counted, decideStrongSynchronization, withoutOldest}
+use Rattle.machine.proofs.{Exact.ByOutcome, Exact.GoesOn, Oldest.due-reached, Oldest.due-within}
+use Rattle.machine.specs.Parts.{dueOldest, noMarks, none-left, waits}
+use Rattle.machine.specs.{declared.Change.Change, declared.Marks.Marks, declared.Rule.Rule}
+use Rattle.queue.specs.declared.Edit.the-variants.{Drop, Push}
 
 -- what the row keeps: the groups of the recorded events, and how many of those begun and not complete have an event of each kind
 pub record LiveGroups (ks : List ℕ) (tolerance : ℕ) (steps : List Step) (marks : Marks) (firsts : List ℕ) : Type 0 where
@@ -55,8 +50,7 @@ abbrev pub kept : Marks → List ℕ → Bool
 kept marks firsts = none-left firsts
 
 module _ {rule : Rule} {ks : List ℕ} (names : Names rule ks) (tolerance : ℕ) (steps : List Step) (marks : Marks) (firsts : List ℕ) (k t : ℕ)
-    (past : Past steps)
-    (live : LiveGroups ks tolerance steps marks firsts) (own : k < length ks) (accepts : Accepts steps (event (at ks k) t))
+    (past : Past steps) (live : LiveGroups ks tolerance steps marks firsts) (own : k < length ks) (accepts : Accepts steps (event (at ks k) t))
     (in-time : t ≤ dueOldest tolerance firsts) where
   abbrev after : List Step
   after = steps ++ (event (at ks k) t ∷ [])

@@ -1,35 +1,22 @@
 -- StrongSynchronization: the first times of the groups begun and not complete, and each kind's count of them, are enough, since an event goes
 -- to the first group that lacks its kind and the oldest group is due first.
-use Rattle.constraint.proofs.Library.{ℕ, _≤_, _<_, arith, _≡_, refl, sym, _∙_, true, false, false≢true, List, [], _∷_, _++_, ap, cond, length}
-use Rattle.constraint.proofs.Library.{ltb}
-use Rattle.constraint.specs.Limits.{lastTime, waitingLimit}
-use Rattle.constraint.specs.Steps.{Step, event, tick, at, own, clock, closed}
-use Rattle.constraint.specs.Meets.{Meets, MeetsStrongSynchronization}
-use Rattle.constraint.specs.Continuation.{Open}
-use Rattle.constraint.specs.Waiting.{waiting, begunIncomplete}
-use Rattle.constraint.specs.Accepted.{kinds}
-use Rattle.constraint.proofs.Streams.{streams}
-use Rattle.constraint.specs.declared.Constraint.{Constraint}
+use Rattle.constraint.proofs.Library.{List, [], _++_, _<_, _∙_, _∷_, _≡_, _≤_, ap, arith, cond, false, false≢true, length, ltb, refl, sym, true, ℕ}
+use Rattle.constraint.proofs.{Continuations.SameTimes, Continuations.same-times, History.Accepts, History.Past, Lists.split, Streams.streams}
+use Rattle.constraint.specs.Steps.{Step, at, clock, closed, event, own, tick}
 use Rattle.constraint.specs.declared.Constraint.the-variants.{StrongSynchronization2, StrongSynchronization3, StrongSynchronization4}
-use Rattle.constraint.proofs.History.{Accepts, Past}
-use Rattle.constraint.proofs.Continuations.{SameTimes, same-times}
-use Rattle.constraint.proofs.Lists.{split}
-use Rattle.machine.specs.Rule.{ruleOf, waitsIn, startWords}
-use Rattle.machine.specs.Parts.{dueOldest, none-left, waits}
-use Rattle.machine.specs.declared.Marks.{Marks}
-use Rattle.machine.specs.declared.Rule.{Rule}
-use Rattle.machine.specs.declared.Change.{Change}
-use Rattle.machine.specs.Words.{countsKept}
-use Rattle.machine.proofs.Exact.{Sound, OfStream, Starts, GoesOn, ByOutcome, Exact}
-use Rattle.machine.proofs.SeveralKinds.{by-place}
-use Rattle.machine.proofs.Oldest.{due-within, due-passed}
-use Rattle.machine.proofs.FitsRow.{FitsRow, Unkept, keeping-counts, places-each, crowds-of, unkept-by, calm-by, neither, dropped, pushed, free-first}
-use Rattle.queue.specs.declared.Edit.the-variants.{Drop, Push}
-use Rattle.groups.specs.StrongSynchronization.{decideStrongSynchronization, countOf, withCounts, counted, complete, withoutOldest}
-use Rattle.groups.specs.StrongSynchronization.{fillsStrongSynchronization, machineStrongSynchronization}
-use Rattle.groups.proofs.Laws.Columns.{groups-same, behind-same, groups-late, groups-meet, completes, groups-wait, groups-left-over}
+use Rattle.constraint.specs.{Accepted.kinds, Continuation.Open, Limits.lastTime, Limits.waitingLimit, Meets.Meets, Meets.MeetsStrongSynchronization}
+use Rattle.constraint.specs.{Waiting.begunIncomplete, Waiting.waiting, declared.Constraint.Constraint}
+use Rattle.groups.proofs.Laws.Columns.{behind-same, completes, groups-late, groups-left-over, groups-meet, groups-same, groups-wait}
 use Rattle.groups.proofs.Laws.Counts.{Names}
-use Rattle.groups.proofs.Laws.LiveGroups.{LiveGroups, due, kept, live-none, event-does}
+use Rattle.groups.proofs.Laws.LiveGroups.{LiveGroups, due, event-does, kept, live-none}
+use Rattle.groups.specs.StrongSynchronization.{complete, countOf, counted, decideStrongSynchronization, fillsStrongSynchronization}
+use Rattle.groups.specs.StrongSynchronization.{machineStrongSynchronization, withCounts, withoutOldest}
+use Rattle.machine.proofs.Exact.{ByOutcome, Exact, GoesOn, OfStream, Sound, Starts}
+use Rattle.machine.proofs.FitsRow.{FitsRow, Unkept, calm-by, crowds-of, dropped, free-first, keeping-counts, neither, places-each, pushed, unkept-by}
+use Rattle.machine.proofs.{Oldest.due-passed, Oldest.due-within, SeveralKinds.by-place}
+use Rattle.machine.specs.{Parts.dueOldest, Parts.none-left, Parts.waits, Rule.ruleOf, Rule.startWords, Rule.waitsIn, Words.countsKept}
+use Rattle.machine.specs.{declared.Change.Change, declared.Marks.Marks, declared.Rule.Rule}
+use Rattle.queue.specs.declared.Edit.the-variants.{Drop, Push}
 
 -- a row of a list of kinds: its rule, its definition and what waits are those of the list
 record Synchronized (c : Constraint) : Type 1 where

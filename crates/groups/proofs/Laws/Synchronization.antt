@@ -1,42 +1,31 @@
 -- Synchronization: the last time of each kind and the oldest event in no full window are enough, since an event either makes the window that ends
 -- with it full, and that holds every event in none, or it covers nothing; and one event of each kind at the clock fills the window from the oldest.
-use Rattle.constraint.proofs.Library.{ℕ, zero, suc, _+_, _-_, _≤_, _<_, arith, decLt, ℕ-discrete, _≡_, refl, sym, ap, _∙_, Bool, true, false}
-use Rattle.constraint.proofs.Library.{cond, _&&_, _||_, false≢true, and-eq-true-iff, List, [], _∷_, _++_, append-nil, _⊎_, inl, inr, by-cases}
-use Rattle.constraint.proofs.Library.{length, length-append, ltb, eqb, ltb-true, ltb-false, eqb-false, eq-eqb, ne-eqb}
-use Rattle.constraint.specs.Limits.{lastKind, lastTime, waitingLimit}
-use Rattle.constraint.specs.Steps.{Step, event, tick, at, times, own, clock, closed}
-use Rattle.constraint.specs.Meets.{Recorded, Meets, MeetsSynchronization}
-use Rattle.constraint.specs.Continuation.{Continues, stop, Open}
-use Rattle.constraint.specs.Waiting.{waiting}
-use Rattle.constraint.specs.Accepted.{kinds, KindsFit}
-use Rattle.constraint.specs.declared.Constraint.{Constraint}
-use Rattle.constraint.specs.declared.Constraint.the-variants.{Synchronization2, Synchronization3, Synchronization4}
-use Rattle.constraint.proofs.Streams.{streams}
-use Rattle.constraint.proofs.Lists.{split, at-left, at-right, at-next}
-use Rattle.constraint.proofs.Counting.{nextFree, next-above, next-least, next-snoc}
-use Rattle.constraint.proofs.History.{Accepts, Past, times-append, times-own, times-other, times-tick, clock-event, clock-tick, closed-event}
+use Rattle.constraint.proofs.Counting.{next-above, next-least, next-snoc, nextFree}
+use Rattle.constraint.proofs.History.{Accepts, Past, clock-event, clock-tick, closed-event, times-append, times-other, times-own, times-tick}
 use Rattle.constraint.proofs.History.{with-time}
-use Rattle.constraint.proofs.Continuations.{SameTimes, same-times, continues-late}
-use Rattle.queue.specs.Ring.{changed}
-use Rattle.queue.specs.declared.Edit.{Edit}
-use Rattle.queue.specs.declared.Edit.the-variants.{Drop, Push}
-use Rattle.machine.specs.Rule.{ruleOf, noKind, waitsIn, startWords}
-use Rattle.machine.specs.Parts.{plus, waits, dueOldest, none-left}
-use Rattle.machine.specs.Words.{countsKept}
-use Rattle.machine.specs.declared.Rule.{Rule}
-use Rattle.machine.specs.declared.Marks.{Marks}
-use Rattle.machine.specs.declared.Change.{Change}
-use Rattle.machine.proofs.Exact.{Sound, OfStream, Starts, GoesOn, Waits, ByOutcome, Exact}
-use Rattle.machine.proofs.FitsRow.{FitsRow, Steady, keeping-counts, steady-by, steady-drop, fits-steady}
-use Rattle.machine.proofs.SeveralKinds.{kinds-small, kinds-stream, kinds-apart, by-place}
-use Rattle.machine.proofs.Oldest.{due-passed}
-use Rattle.groups.specs.StrongSynchronization.{withCounts}
-use Rattle.groups.specs.Synchronization.{newer, latest, recent, full, afterEvent, decideSynchronization, machineSynchronization}
+use Rattle.constraint.proofs.Library.{Bool, List, [], _&&_, _++_, _+_, _-_, _<_, _||_, _∙_, _∷_, _≡_, _≤_, _⊎_, and-eq-true-iff, ap, append-nil}
+use Rattle.constraint.proofs.Library.{arith, by-cases, cond, decLt, eq-eqb, eqb, eqb-false, false, false≢true, inl, inr, length, length-append, ltb}
+use Rattle.constraint.proofs.Library.{ltb-false, ltb-true, ne-eqb, refl, suc, sym, true, zero, ℕ, ℕ-discrete}
+use Rattle.constraint.proofs.Lists.{at-left, at-next, at-right, split}
+use Rattle.constraint.proofs.{Continuations.SameTimes, Continuations.continues-late, Continuations.same-times, Streams.streams}
+use Rattle.constraint.specs.Steps.{Step, at, clock, closed, event, own, tick, times}
+use Rattle.constraint.specs.{Accepted.KindsFit, Accepted.kinds, Continuation.Continues, Continuation.Open, Continuation.stop, Limits.lastKind}
+use Rattle.constraint.specs.{Limits.lastTime, Limits.waitingLimit, Meets.Meets, Meets.MeetsSynchronization, Meets.Recorded, Waiting.waiting}
+use Rattle.constraint.specs.{declared.Constraint.Constraint, declared.Constraint.the-variants.Synchronization2}
+use Rattle.constraint.specs.{declared.Constraint.the-variants.Synchronization3, declared.Constraint.the-variants.Synchronization4}
 use Rattle.groups.proofs.Laws.Columns.{Reaches, reaches-before}
-use Rattle.groups.proofs.Laws.Counts.{fourKinds, fourCounts, Names, four-each, four-true, four-false, names-four, kind-present, kind-absent}
-use Rattle.groups.proofs.Laws.Counts.{count-none}
-use Rattle.groups.proofs.Laws.Windows.{OneMore, Lasts, Settled, SettledBefore, Owing, settled-same, owing-same, all-past, earlier-after}
-use Rattle.groups.proofs.Laws.Windows.{settled-on, owing-ends, owing-begins, owing-stays, owing-late, all-now}
+use Rattle.groups.proofs.Laws.Counts.{Names, count-none, four-each, four-false, four-true, fourCounts, fourKinds, kind-absent, kind-present}
+use Rattle.groups.proofs.Laws.Counts.{names-four}
+use Rattle.groups.proofs.Laws.Windows.{Lasts, OneMore, Owing, Settled, SettledBefore, all-now, all-past, earlier-after, owing-begins}
+use Rattle.groups.proofs.Laws.Windows.{owing-ends, owing-late, owing-same, owing-stays, settled-on, settled-same}
+use Rattle.groups.specs.StrongSynchronization.{withCounts}
+use Rattle.groups.specs.Synchronization.{afterEvent, decideSynchronization, full, latest, machineSynchronization, newer, recent}
+use Rattle.machine.proofs.Exact.{ByOutcome, Exact, GoesOn, OfStream, Sound, Starts, Waits}
+use Rattle.machine.proofs.FitsRow.{FitsRow, Steady, fits-steady, keeping-counts, steady-by, steady-drop}
+use Rattle.machine.proofs.{Oldest.due-passed, SeveralKinds.by-place, SeveralKinds.kinds-apart, SeveralKinds.kinds-small, SeveralKinds.kinds-stream}
+use Rattle.machine.specs.{Parts.dueOldest, Parts.none-left, Parts.plus, Parts.waits, Rule.noKind, Rule.ruleOf, Rule.startWords, Rule.waitsIn}
+use Rattle.machine.specs.{Words.countsKept, declared.Change.Change, declared.Marks.Marks, declared.Rule.Rule}
+use Rattle.queue.specs.{Ring.changed, declared.Edit.Edit, declared.Edit.the-variants.Drop, declared.Edit.the-variants.Push}
 
 -- ---- the marks
 
@@ -66,8 +55,7 @@ module _ {rule : Rule} {ks : List ℕ} (names : Names rule ks) (marks : Marks) w
   latest-own k t h small =
       latest-at (at ks k) t k (omega (arith, names-four names)) ∙ rw (kind-present names k h, eq-eqb (at ks k) (at ks k) refl) (omega arith)
 
-  latest-other : (k t j : ℕ) → k < length ks → j < length ks → ¬ (j ≡ k)
-      → at (fourCounts (latest rule marks (at ks k) t)) j ≡ at (fourCounts marks) j
+  latest-other : (k t j : ℕ) → k < length ks → j < length ks → ¬ (j ≡ k) → at (fourCounts (latest rule marks (at ks k) t)) j ≡ at (fourCounts marks) j
   latest-other k t j h l apart =
       latest-at (at ks k) t j (omega (arith, names-four names))
       ∙ rw (kind-present names j l, ne-eqb (at ks k) (at ks j) (kinds-apart ks (names .fit) k j h l (λ e. apart (sym e))))
@@ -471,8 +459,7 @@ steady-synchronization : (rule : Rule) (m : Marks) (times : List ℕ) (kind t : 
     → Steady countsKept m times (decideSynchronization rule m times kind t)
 unfolding decideSynchronization
 steady-synchronization rule m times kind t =
-    steady-by (full rule (latest rule m kind t) t) (steady-drop 1 (ap (withCounts _ _ _ _)))
-    (by-times times)
+    steady-by (full rule (latest rule m kind t) t) (steady-drop 1 (ap (withCounts _ _ _ _))) (by-times times)
   where
     by-times : (times : List ℕ) → Steady countsKept m times (cond (none-left times) (waits (rule .upper) times (Push 0 t) (latest rule m kind t))
         (waits (rule .upper) times (Drop 0) (latest rule m kind t)))

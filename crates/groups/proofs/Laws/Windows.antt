@@ -1,6 +1,6 @@
 -- The oldest event in no full window is enough beside the last time of each kind, since a window that is full at t holds every event that is
 -- still in none, and one that is not full holds nothing new.
-use Rattle.constraint.proofs.Library.{ℕ, suc, _+_, _-_, _≤_, _<_, arith, decLt, _≡_, _⊎_, inl, inr, by-cases}
+use Rattle.constraint.proofs.Library.{_+_, _-_, _<_, _≡_, _≤_, _⊎_, arith, by-cases, decLt, inl, inr, suc, ℕ}
 use Rattle.constraint.specs.Meets.{Covered}
 
 -- B has the events of A, and one more of the k-th kind at t; those of A are not after it
@@ -34,8 +34,7 @@ pub record Owing (Event : ℕ → ℕ → Type 0) (n tolerance u : ℕ) : Type 0
 
 -- more events cover no less
 covered-more : (A B : ℕ → ℕ → Type 0) (n tolerance e : ℕ) → ((j s : ℕ) → j < n → A j s → B j s) → Covered A n tolerance e → Covered B n tolerance e
-covered-more A B n tolerance e more (x, within, full) =
-    (x, within, λ j h. let (s, there, near) = full j h in (s, more j s h there, near))
+covered-more A B n tolerance e more (x, within, full) = (x, within, λ j h. let (s, there, near) = full j h in (s, more j s h there, near))
 
 -- a window that ends before every new event was full before
 covered-before : (A B : ℕ → ℕ → Type 0) (n tolerance t e : ℕ) → ((j s : ℕ) → j < n → B j s → s < t → A j s) → (c : Covered B n tolerance e)

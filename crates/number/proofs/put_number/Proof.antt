@@ -18,8 +18,7 @@ returns c =
 
 loop-again : tie.Need-loop-again Inv-loop μ-loop
 loop-again c =
-    let loop = c .before .before .before .loop in let x = c .before .before .before .before .before .args .x in
-    let byte = c .low-byte .result in (
+    let loop = c .before .before .before .loop in let x = c .before .before .before .before .before .args .x in let byte = c .low-byte .result in (
       omega arith,
       length-set (loop .buffer) (loop .next) byte ∙ loop .inv .1,
       sym (stores-shifted (loop .buffer) (loop .next) (loop .left) x byte (omega arith) (c .low-byte .ensures)) ∙ loop .inv .2,

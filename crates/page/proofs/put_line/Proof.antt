@@ -1,7 +1,7 @@
 -- The columns are stored one behind the other.
-use Rattle.constraint.proofs.Library.{ℕ, _<_, arith, needs, _≡_, ap, _∙_, List, _++_, take, drop, take-all, now}
 use Rattle.constraint.proofs.Judged.{free}
-use Rattle.page.proofs.Lines.{number, gap, name, word, step, end, at-gap, at-name, at-word, at-step, at-rest, last-columns, line-is, stored}
+use Rattle.constraint.proofs.Library.{List, _++_, _<_, _∙_, _≡_, ap, arith, drop, needs, now, take, take-all, ℕ}
+use Rattle.page.proofs.Lines.{at-gap, at-name, at-rest, at-step, at-word, end, gap, last-columns, line-is, name, number, step, stored, word}
 use Rattle.page.proofs.put_line.Statement.{statement}
 use Rattle.page.proofs.put_line.Tie as tie
 
@@ -13,17 +13,11 @@ add-put-5 c =
 
 returns : tie.Need-returns
 returns c =
-    let put6 = c .before .before in
-    let put5 = put6 .before .before .before .before .before in
-    let put4 = put5 .before .before .before .before .before .before in
-    let put3 = put4 .before .before .before .before .before .before in
-    let put2 = put3 .before .before .before .before .before .before in
-    let put1 = put2 .before .before .before .before .before in
-    let digits = put1 .before .before .before .before .before in
-    let args = digits .before .before .args in
-    let i = args .row in
-    let type = args .form in
-    let v = args .verdict in
+    let put6 = c .before .before in let put5 = put6 .before .before .before .before .before in
+    let put4 = put5 .before .before .before .before .before .before in let put3 = put4 .before .before .before .before .before .before in
+    let put2 = put3 .before .before .before .before .before .before in let put1 = put2 .before .before .before .before .before in
+    let digits = put1 .before .before .before .before .before in let args = digits .before .before .args in let i = args .row in
+    let type = args .form in let v = args .verdict in
     let l = now (args .buffer) in
     let place = args .place in
     let small : i < 1000 = omega arith in

@@ -1,9 +1,7 @@
 -- Targets that answer waiting sources: each comes as early as it may, and is in time since the sources rise as fast as the targets have to.
-use Rattle.constraint.proofs.Library.{ℕ, zero, suc, _+_, _≤_, _<_, max, arith, _≡_, refl, ap, List, [], _∷_, _++_, length}
-use Rattle.constraint.specs.Steps.{at}
-use Rattle.constraint.specs.Meets.{Between}
-use Rattle.constraint.proofs.Lists.{Each, each-none, each-cons, Rising, rising-append}
-use Rattle.constraint.proofs.Counting.{nextFree, next-above}
+use Rattle.constraint.proofs.Library.{List, [], _++_, _+_, _<_, _∷_, _≡_, _≤_, ap, arith, length, max, refl, suc, zero, ℕ}
+use Rattle.constraint.proofs.{Counting.next-above, Counting.nextFree, Lists.Each, Lists.Rising, Lists.each-cons, Lists.each-none, Lists.rising-append}
+use Rattle.constraint.specs.{Meets.Between, Steps.at}
 
 -- a target for each source, none before `start`
 abbrev pub answers : ℕ → ℕ → List ℕ → List ℕ

@@ -1,33 +1,25 @@
 -- Delay is exact: the times that it keeps are just the sources with no target in their interval; a target answers the oldest of them, and
 -- the oldest is the first that can no longer be answered.
-use Rattle.constraint.proofs.Library.{ℕ, suc, _+_, _≤_, _<_, arith, _≡_, refl, sym, ap, _∙_, Bool, true, false, cond, _&&_, _||_, or-true, true≢false}
-use Rattle.constraint.proofs.Library.{false≢true, List, [], _∷_, _++_, append-nil, inr, ⊎-elim, length, drop, leb, eqb, leb-true, leb-false, le-leb}
-use Rattle.constraint.proofs.Library.{lt-leb, eqb-true, eq-eqb, ne-eqb, ltb}
-use Rattle.constraint.specs.Limits.{lastTime, noLimit, waitingLimit}
-use Rattle.constraint.specs.Steps.{Step, tick, at, times, clock, closed}
-use Rattle.constraint.specs.Meets.{Meets, MeetsDelay}
-use Rattle.constraint.specs.Continuation.{Open}
-use Rattle.constraint.specs.Waiting.{answered, unanswered, waiting}
-use Rattle.constraint.specs.Accepted.{LowerFirst}
-use Rattle.constraint.specs.declared.Constraint.the-variants.{Delay}
-use Rattle.constraint.proofs.Lists.{split, Each, each-tail, each-left, Rising}
-use Rattle.constraint.proofs.Counting.{nextFree, next-above, next-least, next-snoc}
-use Rattle.constraint.proofs.History.{Accepts, Valid, valid-more, Past, past-of, closed-tick}
+use Rattle.constraint.proofs.Counting.{next-above, next-least, next-snoc, nextFree}
+use Rattle.constraint.proofs.History.{Accepts, Past, Valid, closed-tick, past-of, valid-more}
+use Rattle.constraint.proofs.Library.{Bool, List, [], _&&_, _++_, _+_, _<_, _||_, _∙_, _∷_, _≡_, _≤_, ap, append-nil, arith, cond, drop, eq-eqb, eqb}
+use Rattle.constraint.proofs.Library.{eqb-true, false, false≢true, inr, le-leb, leb, leb-false, leb-true, length, lt-leb, ltb, ne-eqb, or-true, refl}
+use Rattle.constraint.proofs.Library.{suc, sym, true, true≢false, ℕ, ⊎-elim}
+use Rattle.constraint.proofs.Lists.{Each, Rising, each-left, each-tail, split}
+use Rattle.constraint.specs.Steps.{Step, at, clock, closed, tick, times}
+use Rattle.constraint.specs.{Accepted.LowerFirst, Continuation.Open, Limits.lastTime, Limits.noLimit, Limits.waitingLimit, Meets.Meets}
+use Rattle.constraint.specs.{Meets.MeetsDelay, Waiting.answered, Waiting.unanswered, Waiting.waiting, declared.Constraint.the-variants.Delay}
+use Rattle.machine.proofs.Exact.{ByOutcome, Exact, GoesOn, Sound}
+use Rattle.machine.proofs.FitsRow.{FitsRow, Unkept, crowds-of, dropped, free-second, keeping-last, neither, places-each, pushed, unkept-by}
+use Rattle.machine.proofs.Oldest.{due-dropped, due-each, due-passed, due-pushed}
+use Rattle.machine.proofs.TwoKinds.{Further, Lost, OfTwoKinds, TwoKinds, UpTo, exactTwoKinds, pair-open, target-apart}
+use Rattle.machine.specs.Parts.{dueOldest, noMarks, none-left, plus, waits, withLast}
+use Rattle.machine.specs.{Rule.ruleOf, Words.lastKept, declared.Change.Change, declared.Marks.Marks, declared.Rule.Rule}
+use Rattle.pairs.proofs.Laws.Answers.{answers, answers-between, answers-count, answers-follow, answers-from-now, firstFree}
+use Rattle.pairs.proofs.Laws.Unmet.{Answered, answered-by, answered-true, meets-unmet, unmet, unmet-count, unmet-meets, unmet-rising}
+use Rattle.pairs.proofs.Laws.Unmet.{unmet-sources, unmet-targets, unmet-unanswered}
+use Rattle.pairs.specs.Delay.{answeredAtOnce, answeredBy, decideDelay, fillsDelay, machineDelay}
 use Rattle.queue.specs.declared.Edit.the-variants.{Drop, Push}
-use Rattle.machine.specs.Rule.{ruleOf}
-use Rattle.machine.specs.Parts.{noMarks, plus, withLast, waits, dueOldest, none-left}
-use Rattle.machine.specs.Words.{lastKept}
-use Rattle.machine.specs.declared.Rule.{Rule}
-use Rattle.machine.specs.declared.Marks.{Marks}
-use Rattle.machine.specs.declared.Change.{Change}
-use Rattle.machine.proofs.Exact.{Sound, GoesOn, ByOutcome, Exact}
-use Rattle.machine.proofs.FitsRow.{FitsRow, Unkept, keeping-last, places-each, crowds-of, unkept-by, neither, dropped, pushed, free-second}
-use Rattle.machine.proofs.TwoKinds.{UpTo, Further, Lost, TwoKinds, OfTwoKinds, target-apart, pair-open, exactTwoKinds}
-use Rattle.machine.proofs.Oldest.{due-each, due-passed, due-pushed, due-dropped}
-use Rattle.pairs.specs.Delay.{answeredBy, answeredAtOnce, fillsDelay, decideDelay, machineDelay}
-use Rattle.pairs.proofs.Laws.Answers.{answers, answers-count, answers-between, firstFree, answers-follow, answers-from-now}
-use Rattle.pairs.proofs.Laws.Unmet.{Answered, unmet, answered-true, answered-by, unmet-sources, unmet-targets, unmet-rising}
-use Rattle.pairs.proofs.Laws.Unmet.{unmet-unanswered, unmet-count, meets-unmet, unmet-meets}
 
 -- the times are the sources with no target in their interval, and `last` is one more than the last target's time
 record LiveDelay (lower upper : ℕ) (sources targets : List ℕ) (marks : Marks) (times : List ℕ) : Type 0 where
@@ -242,8 +234,7 @@ module _ (source target lower upper : ℕ) (sound : Sound (Delay source target l
     kinds-fit = sound .kinds-fit;
     no-words = refl;
     meets-are = λ steps. refl;
-    waits-are =
-        refl;
+    waits-are = refl;
     waiting-is = λ steps. refl;
   }
 
@@ -281,8 +272,7 @@ module _ (source target lower : ℕ) (sound : Sound (Delay source target lower n
   -- so no tick breaks it
   pub unlimited-delay-waits : {steps : List Step} {t : ℕ} → Valid steps → Accepts steps (tick t)
       → Open (Delay source target lower noLimit) (steps ++ (tick t ∷ []))
-  unlimited-delay-waits {steps} {t} v a =
-      unlimited-delay-open (past-of (valid-more (tick t) v a)) (closed-tick t steps ∙ a .not-closed)
+  unlimited-delay-waits {steps} {t} v a = unlimited-delay-open (past-of (valid-more (tick t) v a)) (closed-tick t steps ∙ a .not-closed)
 
 -- ---- In a row
 
@@ -290,10 +280,8 @@ module _ (source target lower : ℕ) (sound : Sound (Delay source target lower n
 unkept-delay : (rule : Rule) (m : Marks) (times : List ℕ) (kind t : ℕ) → Unkept lastKept m → Unkept lastKept (decideDelay rule m times kind t .marks)
 unfolding decideDelay
 unkept-delay rule m times kind t e =
-    unkept-by lastKept (eqb kind (rule .first))
-    (waits (rule .upper) times (cond (answeredAtOnce (rule .lower) (m .last) t) (Drop 0) (Push 0 t)) m)
-    (waits (rule .upper) times (Drop (answeredBy (rule .lower) t times)) (withLast m (plus t 1)))
-    e (ap (λ (x : Marks). withLast x (plus t 1)) e)
+    unkept-by lastKept (eqb kind (rule .first)) (waits (rule .upper) times (cond (answeredAtOnce (rule .lower) (m .last) t) (Drop 0) (Push 0 t)) m)
+    (waits (rule .upper) times (Drop (answeredBy (rule .lower) t times)) (withLast m (plus t 1))) e (ap (λ (x : Marks). withLast x (plus t 1)) e)
 
 crowding-delay : (rule : Rule) (marks : Marks) (times : List ℕ) (kind t : ℕ) → 63 ≤ length times → length times ≤ 64
     → fillsDelay rule marks (length times) kind t ≡ crowds-of (decideDelay rule marks times kind t) times

@@ -1,26 +1,20 @@
 -- Order is exact: as many sources as it counts are beyond the number of targets and may get theirs at any later time, and a target beyond the
 -- number of sources is the partner of a source at its own time only.
-use Rattle.constraint.proofs.Library.{ℕ, _+_, _-_, _≤_, _<_, arith, _≡_, refl, sym, ap, _∙_, subst, Bool, true, false, cond, _&&_, false≢true, List}
-use Rattle.constraint.proofs.Library.{[], _∷_, _++_, _⊎_, inl, inr, length, length-append, eqb, eqb-true, eq-eqb, ne-eqb}
-use Rattle.constraint.specs.Limits.{lastTime, noLimit}
-use Rattle.constraint.specs.Meets.{Meets, MeetsOrder}
-use Rattle.constraint.specs.Waiting.{waiting}
-use Rattle.constraint.specs.declared.Constraint.the-variants.{Order}
-use Rattle.constraint.proofs.Lists.{split, both, Each, each-right, Rising, rising-by}
-use Rattle.machine.specs.Rule.{ruleOf}
-use Rattle.queue.specs.declared.Edit.the-variants.{Drop}
-use Rattle.machine.specs.Parts.{noMarks, plus, earlyOf, withLast, continuesWith, marksOf}
-use Rattle.machine.specs.declared.Rule.{Rule}
-use Rattle.machine.specs.declared.Marks.{Marks}
-use Rattle.machine.specs.Words.{firstThreeKept}
-use Rattle.machine.proofs.Exact.{Sound, GoesOn, ByOutcome, Exact}
-use Rattle.machine.proofs.TwoKinds.{UpTo, Further, Lost, TwoKinds, target-apart, exactTwoKinds}
-use Rattle.machine.proofs.FitsRow.{FitsRow, Steady, keeping-first-three, steady-by, steady-drop, fits-steady}
-use Rattle.pairs.specs.Order.{aheadOf, withAhead, changesTo, decideOrder, machineOrder}
+use Rattle.constraint.proofs.Library.{Bool, List, [], _&&_, _++_, _+_, _-_, _<_, _∙_, _∷_, _≡_, _≤_, _⊎_, ap, arith, cond, eq-eqb, eqb, eqb-true}
+use Rattle.constraint.proofs.Library.{false, false≢true, inl, inr, length, length-append, ne-eqb, refl, subst, sym, true, ℕ}
+use Rattle.constraint.proofs.Lists.{Each, Rising, both, each-right, rising-by, split}
+use Rattle.constraint.specs.{Limits.lastTime, Limits.noLimit, Meets.Meets, Meets.MeetsOrder, Waiting.waiting, declared.Constraint.the-variants.Order}
+use Rattle.machine.proofs.Exact.{ByOutcome, Exact, GoesOn, Sound}
+use Rattle.machine.proofs.FitsRow.{FitsRow, Steady, fits-steady, keeping-first-three, steady-by, steady-drop}
+use Rattle.machine.proofs.TwoKinds.{Further, Lost, TwoKinds, UpTo, exactTwoKinds, target-apart}
+use Rattle.machine.specs.Parts.{continuesWith, earlyOf, marksOf, noMarks, plus, withLast}
+use Rattle.machine.specs.{Rule.ruleOf, Words.firstThreeKept, declared.Marks.Marks, declared.Rule.Rule}
 use Rattle.pairs.proofs.Laws.Answers.{firstFree}
-use Rattle.pairs.proofs.Laws.Paired.{Paired, Ahead, Pairing, dueEarly, due-ahead, due-beyond, pairing-start, beyond-each, source-waits}
-use Rattle.pairs.proofs.Laws.Paired.{source-partners, target-partners, target-beyond, beyond-late, beyond-open, ahead-open, ahead-count}
-use Rattle.pairs.proofs.Laws.Paired.{pairing-paired, paired-none-beyond}
+use Rattle.pairs.proofs.Laws.Paired.{Ahead, Paired, Pairing, ahead-count, ahead-open, beyond-each, beyond-late, beyond-open, due-ahead}
+use Rattle.pairs.proofs.Laws.Paired.{due-beyond, dueEarly, paired-none-beyond, pairing-paired, pairing-start, source-partners, source-waits}
+use Rattle.pairs.proofs.Laws.Paired.{target-beyond, target-partners}
+use Rattle.pairs.specs.Order.{aheadOf, changesTo, decideOrder, machineOrder, withAhead}
+use Rattle.queue.specs.declared.Edit.the-variants.{Drop}
 
 -- no times are kept, and `aheadOf` counts the sources beyond the number of targets
 record LiveOrder (sources targets : List ℕ) (marks : Marks) (times : List ℕ) : Type 0 where
@@ -61,8 +55,7 @@ module _ (source target : ℕ) (sound : Sound (Order source target)) where
       (λ x. eqb (earlyOf marks) 0 ≡ x → ByOutcome (Lost t (Paired _≤_) sources targets) (GoesOn (LiveOrder sources targets) due kept times t)
       (cond x (continuesWith (Drop 0) marks noLimit (eqb (aheadOf marks) 0)) (continuesWith (Drop 0) marks (earlyOf marks - 1) false)))
       (λ e f. record { live = live; due-is = rw f; kept-is = rw f; in-time = rw f at in-time })
-      (λ e f. record { live = live; due-is = rw f; kept-is = rw f; in-time = rw f at in-time })
-      refl
+      (λ e f. record { live = live; due-is = rw f; kept-is = rw f; in-time = rw f at in-time }) refl
 
   module _ (sources targets : List ℕ) (marks : Marks) (times : List ℕ) (t : ℕ) (r : UpTo t sources targets) (no-times : times ≡ [])
       (waiting : List ℕ) (count : aheadOf marks ≡ length waiting) where
@@ -102,8 +95,7 @@ module _ (source target : ℕ) (sound : Sound (Order source target)) where
   target-change : (marks : Marks) (times : List ℕ) (t : ℕ) → decideOrder rule marks times target t
       ≡ cond (eqb (aheadOf marks) 0) (changesTo (withLast marks (plus t 1))) (changesTo (withAhead marks (aheadOf marks - 1)))
   unfolding decideOrder
-  target-change marks times t =
-      rw (ne-eqb target source (target-apart (sound .kinds-fit)))
+  target-change marks times t = rw (ne-eqb target source (target-apart (sound .kinds-fit)))
 
   module _ (sources targets : List ℕ) (marks : Marks) (times : List ℕ) (t : ℕ) (r : UpTo t sources targets) (before : Each (λ y. y < t) targets)
       (no-times : times ≡ []) where
@@ -191,8 +183,7 @@ module _ (source target : ℕ) (sound : Sound (Order source target)) where
         kinds-fit = sound .kinds-fit;
         no-words = refl;
         meets-are = λ steps. refl;
-        waits-are =
-            refl;
+        waits-are = refl;
         waiting-is = λ steps. refl;
       })
       (decideOrder rule) order-laws

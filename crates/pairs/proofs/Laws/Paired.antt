@@ -1,12 +1,11 @@
 -- Sources and targets paired by their places: while every pair fits, sources beyond the number of targets may still get theirs, and one
 -- target beyond the number of sources only at its own time.
-use Rattle.constraint.proofs.Library.{ℕ, zero, suc, _+_, _-_, _≤_, _<_, arith, _≡_, refl, sym, ap, _∙_, subst, List, [], _∷_, _++_, append-nil}
-use Rattle.constraint.proofs.Library.{append-assoc, _⊎_, inl, inr, cond, length, length-append, eqb, ne-eqb}
-use Rattle.constraint.specs.Steps.{at}
-use Rattle.constraint.specs.Meets.{Between}
-use Rattle.constraint.proofs.Lists.{at-next, Each, each-none, each-cons, each-right, Rising, rising-right, rising-across, rising-snoc}
-use Rattle.pairs.proofs.Laws.Answers.{answers, answers-count, answers-between, firstFree, answers-follow, answers-from-now}
-use Rattle.machine.proofs.TwoKinds.{UpTo, Further, Lost}
+use Rattle.constraint.proofs.Library.{List, [], _++_, _+_, _-_, _<_, _∙_, _∷_, _≡_, _≤_, _⊎_, ap, append-assoc, append-nil, arith, cond, eqb, inl}
+use Rattle.constraint.proofs.Library.{inr, length, length-append, ne-eqb, refl, subst, suc, sym, zero, ℕ}
+use Rattle.constraint.proofs.Lists.{Each, Rising, at-next, each-cons, each-none, each-right, rising-across, rising-right, rising-snoc}
+use Rattle.constraint.specs.{Meets.Between, Steps.at}
+use Rattle.machine.proofs.TwoKinds.{Further, Lost, UpTo}
+use Rattle.pairs.proofs.Laws.Answers.{answers, answers-between, answers-count, answers-follow, answers-from-now, firstFree}
 
 -- as many targets as sources, and the source and the target of each place fit
 abbrev pub Paired : (ℕ → ℕ → Type 0) → List ℕ → List ℕ → Type 0

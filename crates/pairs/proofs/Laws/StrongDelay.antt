@@ -1,31 +1,21 @@
 -- StrongDelay is exact: the times that it keeps are just the sources beyond the number of targets, each pair is tested when its second event
 -- comes, and the oldest source that waits is the first that can no longer get its target.
-use Rattle.constraint.proofs.Library.{ℕ, _+_, _-_, _≤_, _<_, arith, _≡_, refl, subst, Bool, true, false, cond, _&&_, false≢true, List, [], _∷_, _++_}
-use Rattle.constraint.proofs.Library.{_⊎_, inl, inr, length, leb, eqb, leb-true, leb-false, eqb-true, eqb-false, eq-eqb, ne-eqb, sym, ap, _∙_, ltb}
-use Rattle.constraint.specs.Limits.{lastTime, waitingLimit}
-use Rattle.constraint.specs.Steps.{at}
-use Rattle.constraint.specs.Meets.{Between, Meets, MeetsStrongDelay}
-use Rattle.constraint.specs.Waiting.{waiting}
-use Rattle.constraint.specs.Accepted.{LowerFirst}
-use Rattle.constraint.specs.declared.Constraint.the-variants.{StrongDelay}
-use Rattle.constraint.proofs.Lists.{split, both, Each, Rising, rising-across}
-use Rattle.constraint.proofs.Counting.{next-least}
+use Rattle.constraint.proofs.Library.{Bool, List, [], _&&_, _++_, _+_, _-_, _<_, _∙_, _∷_, _≡_, _≤_, _⊎_, ap, arith, cond, eq-eqb, eqb, eqb-false}
+use Rattle.constraint.proofs.Library.{eqb-true, false, false≢true, inl, inr, leb, leb-false, leb-true, length, ltb, ne-eqb, refl, subst, sym, true, ℕ}
+use Rattle.constraint.proofs.{Counting.next-least, Lists.Each, Lists.Rising, Lists.both, Lists.rising-across, Lists.split}
+use Rattle.constraint.specs.{Accepted.LowerFirst, Limits.lastTime, Limits.waitingLimit, Meets.Between, Meets.Meets, Meets.MeetsStrongDelay, Steps.at}
+use Rattle.constraint.specs.{Waiting.waiting, declared.Constraint.the-variants.StrongDelay}
+use Rattle.machine.proofs.FitsRow.{Calm, FitsRow, Unkept, calm-by, crowds-of, dropped, free-second, keeping-last, neither, places-each, pushed}
+use Rattle.machine.proofs.FitsRow.{unkept-by}
+use Rattle.machine.proofs.TwoKinds.{Further, Lost, TwoKinds, UpTo, exactTwoKinds, target-apart}
+use Rattle.machine.proofs.{Exact.ByOutcome, Exact.Exact, Exact.GoesOn, Exact.Sound, Oldest.due-dropped, Oldest.due-each, Oldest.due-pushed}
+use Rattle.machine.specs.Parts.{breaking, continuesWith, dueOldest, earlyOf, front, noMarks, none-left, plus, waits, withLast}
+use Rattle.machine.specs.{Rule.ruleOf, Words.lastKept, declared.Marks.Marks, declared.Rule.Rule}
+use Rattle.pairs.proofs.Laws.Paired.{Ahead, Paired, Pairing, ahead-open, ahead-rising, beyond-each, beyond-late, beyond-misfits, beyond-open}
+use Rattle.pairs.proofs.Laws.Paired.{due-ahead, due-beyond, dueEarly, paired-none-beyond, pairing-paired, pairing-start, pairing-waits}
+use Rattle.pairs.proofs.Laws.Paired.{source-partners, source-waits, target-beyond, target-misfits, target-partners, waiting-late}
+use Rattle.pairs.specs.StrongDelay.{decideStrongDelay, fillsStrongDelay, machineStrongDelay, sourceStrongDelay, targetStrongDelay}
 use Rattle.queue.specs.declared.Edit.the-variants.{Drop, Push}
-use Rattle.machine.specs.Rule.{ruleOf}
-use Rattle.machine.specs.Parts.{noMarks, plus, earlyOf, withLast, continuesWith, breaking, waits, dueOldest, none-left, front}
-use Rattle.machine.specs.declared.Rule.{Rule}
-use Rattle.machine.specs.declared.Marks.{Marks}
-use Rattle.machine.specs.Words.{lastKept}
-use Rattle.machine.proofs.Exact.{Sound, GoesOn, ByOutcome, Exact}
-use Rattle.machine.proofs.TwoKinds.{UpTo, Further, Lost, TwoKinds, target-apart, exactTwoKinds}
-use Rattle.machine.proofs.Oldest.{due-each, due-pushed, due-dropped}
-use Rattle.machine.proofs.FitsRow.{FitsRow, Unkept, keeping-last, places-each, crowds-of, unkept-by, Calm, calm-by, neither, dropped, pushed}
-use Rattle.machine.proofs.FitsRow.{free-second}
-use Rattle.pairs.specs.StrongDelay.{sourceStrongDelay, targetStrongDelay, decideStrongDelay, fillsStrongDelay, machineStrongDelay}
-use Rattle.pairs.proofs.Laws.Paired.{Paired, Ahead, Pairing, dueEarly, due-ahead, due-beyond, pairing-start, beyond-each}
-use Rattle.pairs.proofs.Laws.Paired.{source-waits, source-partners, target-partners, target-beyond, target-misfits, ahead-rising}
-use Rattle.pairs.proofs.Laws.Paired.{waiting-late, beyond-late, beyond-misfits, beyond-open, ahead-open, pairing-waits, pairing-paired}
-use Rattle.pairs.proofs.Laws.Paired.{paired-none-beyond}
 
 -- the times are the sources beyond the number of targets
 record LiveStrongDelay (lower upper : ℕ) (sources targets : List ℕ) (marks : Marks) (times : List ℕ) : Type 0 where
@@ -49,8 +39,7 @@ module _ (source target lower upper : ℕ) (sound : Sound (StrongDelay source ta
   abbrev Does : List ℕ → List ℕ → Marks → List ℕ → ℕ → ℕ → Type 0
   Does sources targets marks times t k =
       ByOutcome (Lost t (Paired (Between lower upper)) sources targets)
-      (GoesOn (LiveStrongDelay lower upper sources targets) (due upper) kept times t)
-      (decideStrongDelay rule marks times k t)
+      (GoesOn (LiveStrongDelay lower upper sources targets) (due upper) kept times t) (decideStrongDelay rule marks times k t)
 
   -- ---- Start
 
@@ -67,8 +56,7 @@ module _ (source target lower upper : ℕ) (sound : Sound (StrongDelay source ta
 
   target-change : (marks : Marks) (times : List ℕ) (t : ℕ) → decideStrongDelay rule marks times target t ≡ targetStrongDelay rule marks times t
   unfolding decideStrongDelay
-  target-change marks times t =
-      rw (ne-eqb target source (target-apart (sound .kinds-fit)))
+  target-change marks times t = rw (ne-eqb target source (target-apart (sound .kinds-fit)))
 
   module _ (sources targets : List ℕ) (marks : Marks) (t : ℕ) (r : UpTo t sources targets) where
     source-by : (times : List ℕ) → Pairing (Between lower upper) sources targets (earlyOf marks) times → t ≤ due upper marks times
@@ -130,8 +118,7 @@ module _ (source target lower upper : ℕ) (sound : Sound (StrongDelay source ta
     target-by : (times : List ℕ) → Each (λ y. y < t) targets → Pairing (Between lower upper) sources targets (earlyOf marks) times
         → t ≤ due upper marks times → Does sources (targets ++ t ∷ []) marks times t target
     target-by [] before (inl (none, a)) in-time = target-alone none a
-    target-by (s ∷ times) before (inl (none, a)) in-time =
-        target-takes s times none a (rw (due-ahead (earlyOf marks) (plus s upper) none) at in-time)
+    target-by (s ∷ times) before (inl (none, a)) in-time = target-takes s times none a (rw (due-ahead (earlyOf marks) (plus s upper) none) at in-time)
     target-by times before (inr (b, is, none, beyond)) in-time =
         absurd (omega (arith, beyond-each (λ y. y < t) beyond before, due-beyond (earlyOf marks) (dueOldest upper times) b is))
 
@@ -217,8 +204,7 @@ module _ (source target lower upper : ℕ) (sound : Sound (StrongDelay source ta
         kinds-fit = sound .kinds-fit;
         no-words = refl;
         meets-are = λ steps. refl;
-        waits-are =
-            refl;
+        waits-are = refl;
         waiting-is = λ steps. refl;
       })
       (decideStrongDelay rule) strong-delay-laws

@@ -1,12 +1,9 @@
 -- The sources with no target in their interval, as a list: it is filtered source by source and target by target, and Delay is met just where
 -- it is empty.
-use Rattle.constraint.proofs.Library.{ℕ, zero, suc, _+_, _≤_, _<_, arith, _≡_, refl, sym, ap, _∙_, Bool, true, false, cond, _&&_, _||_, true≢false}
-use Rattle.constraint.proofs.Library.{false≢true, List, [], _∷_, _++_, _⊎_, inl, inr, ⊎-elim, length, leb, eqb, leb-true, le-leb, eqb-true, eq-eqb}
-use Rattle.constraint.specs.Limits.{noLimit}
-use Rattle.constraint.specs.Steps.{at}
-use Rattle.constraint.specs.Meets.{Apart, MeetsDelay}
-use Rattle.constraint.specs.Waiting.{inInterval, answered, unanswered}
-use Rattle.constraint.proofs.Lists.{split, or-true, Each, each-none, each-cons, each-tail, Rising}
+use Rattle.constraint.proofs.Library.{Bool, List, [], _&&_, _++_, _+_, _<_, _||_, _∙_, _∷_, _≡_, _≤_, _⊎_, ap, arith, cond, eq-eqb, eqb, eqb-true}
+use Rattle.constraint.proofs.Library.{false, false≢true, inl, inr, le-leb, leb, leb-true, length, refl, suc, sym, true, true≢false, zero, ℕ, ⊎-elim}
+use Rattle.constraint.proofs.Lists.{Each, Rising, each-cons, each-none, each-tail, or-true, split}
+use Rattle.constraint.specs.{Limits.noLimit, Meets.Apart, Meets.MeetsDelay, Steps.at, Waiting.answered, Waiting.inInterval, Waiting.unanswered}
 
 -- a target in the interval of the source at s
 abbrev pub Answered : ℕ → ℕ → List ℕ → ℕ → Type 0
@@ -44,8 +41,7 @@ module _ (lower upper : ℕ) where
   answered-true s (t ∷ targets) e =
       split (inInterval lower upper s t) (λ x. (x || answered lower upper s targets) ≡ true → Answered lower upper (t ∷ targets) s)
       (λ f g. (0, omega arith, in-interval s t f))
-      (λ f g. let h = answered-true s targets g in (suc (h .0), omega (arith, h .1), h .2))
-      e
+      (λ f g. let h = answered-true s targets g in (suc (h .0), omega (arith, h .1), h .2)) e
 
   pub answered-by : (s : ℕ) (targets : List ℕ) (j : ℕ) → j < length targets → Apart lower upper s (at targets j)
       → answered lower upper s targets ≡ true
@@ -131,5 +127,4 @@ module _ (lower upper : ℕ) where
       (λ x. cond x (unmet lower upper sources targets) (s ∷ unmet lower upper sources targets) ≡ [] → Each (Answered lower upper targets)
       (s ∷ sources))
       (λ f g. each-cons (Answered lower upper targets) s sources (answered-true s targets f) (unmet-meets sources targets g))
-      (λ f g. absurd (let z : _≡_ {A = ℕ} 0 1 = cc in omega arith))
-      e
+      (λ f g. absurd (let z : _≡_ {A = ℕ} 0 1 = cc in omega arith)) e

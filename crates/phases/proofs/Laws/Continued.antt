@@ -1,12 +1,10 @@
 -- Continuations seen by the row's own events in order: further events of its kinds, at strictly rising times from the clock on, can all be taken,
 -- and the first one of every continuation is not before the clock.
-use Rattle.constraint.proofs.Library.{ℕ, _+_, _≤_, _<_, arith, _≡_, refl, ap, _∙_, true, false, cond, List, [], _∷_, _++_, append-assoc, eqb}
-use Rattle.constraint.specs.Limits.{streamCount}
-use Rattle.constraint.specs.Steps.{Step, event, among, own, clock, closed}
-use Rattle.constraint.specs.Continuation.{Continues, stop, more}
-use Rattle.constraint.proofs.Lists.{split, Each, each-none, each-cons}
-use Rattle.constraint.proofs.History.{own-append, clock-event, closed-event}
-use Rattle.constraint.proofs.Continuations.{timesIn, own-times}
+use Rattle.constraint.proofs.Library.{List, [], _++_, _+_, _<_, _∙_, _∷_, _≡_, _≤_, ap, append-assoc, arith, cond, eqb, false, refl, true, ℕ}
+use Rattle.constraint.proofs.Lists.{Each, each-cons, each-none, split}
+use Rattle.constraint.proofs.{Continuations.own-times, Continuations.timesIn, History.clock-event, History.closed-event, History.own-append}
+use Rattle.constraint.specs.Steps.{Step, among, clock, closed, event, own}
+use Rattle.constraint.specs.{Continuation.Continues, Continuation.more, Continuation.stop, Limits.streamCount}
 use Rattle.phases.proofs.Laws.Executions.{RisesFrom}
 
 -- an event of one of the kinds is the last of them
@@ -76,8 +74,7 @@ pub own-continues : (ks : List ℕ) (es : List (ℕ × ℕ)) (steps : List Step)
     → RisesFrom 0 (own ks steps ++ es) → FirstFrom (clock steps) es → Continues steps (stepsFor es)
 own-continues ks [] steps o of rises first = stop
 own-continues ks (e ∷ es) steps o of rises first =
-    more (e .0) (e .1) o (of .0 .0)
-    (first, rw (own-times ks (e .0) (of .0 .1) steps) (rises-before (e .0) 0 (own ks steps) e es rises))
+    more (e .0) (e .1) o (of .0 .0) (first, rw (own-times ks (e .0) (of .0 .1) steps) (rises-before (e .0) 0 (own ks steps) e es rises))
     (own-continues ks es (steps ++ (event (e .0) (e .1) ∷ [])) (closed-event (e .0) (e .1) steps ∙ o) (of .1)
     (rw (own-event ks (e .0) (e .1) steps (of .0 .1), append-assoc (own ks steps) (e ∷ []) es) rises)
     (rw (clock-event (e .0) (e .1) steps) (first-after (e .1) es (rises-after 0 (own ks steps) e es rises))))

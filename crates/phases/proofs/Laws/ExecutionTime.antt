@@ -1,35 +1,24 @@
 -- ExecutionTime: the row keeps just what decides which further events end all right, the phase, how long the execution begun has run and the last
 -- time, and while some time is left to run the shortest way out is a stop, after a resume where it is preempted.
-use Rattle.constraint.proofs.Library.{ℕ, _+_, _-_, _≤_, _<_, max, arith, _≡_, refl, sym, ap, _∙_, subst, Bool, true, false, cond, List, [], _∷_, _++_}
-use Rattle.constraint.proofs.Library.{append-nil, append-assoc, _↔_, inl, inr, length, ltb, eqb, eqb-true, eqb-false, ne-eqb, ltb-true, ltb-false}
-use Rattle.constraint.proofs.Library.{_&&_, leb}
-use Rattle.constraint.specs.Limits.{streamCount, lastTime, noLimit}
-use Rattle.constraint.specs.Steps.{Step, event, at, among, own, clock, closed}
-use Rattle.constraint.specs.Meets.{Meets}
-use Rattle.constraint.specs.Continuation.{Open}
-use Rattle.constraint.specs.Waiting.{waiting}
-use Rattle.constraint.specs.Accepted.{InRange, LowerFirst}
-use Rattle.constraint.specs.declared.Constraint.{Constraint}
-use Rattle.constraint.specs.declared.Constraint.the-variants.{ExecutionTime}
-use Rattle.constraint.proofs.Lists.{split, both}
-use Rattle.constraint.proofs.History.{Accepts, own-append, own-tick, clock-tick}
-use Rattle.constraint.proofs.Streams.{among-at}
-use Rattle.machine.specs.Rule.{ruleOf}
-use Rattle.machine.specs.Parts.{plus, breaking, marksOf, continuesWith}
-use Rattle.machine.specs.declared.Rule.{Rule}
-use Rattle.machine.specs.declared.Marks.{Marks}
-use Rattle.machine.specs.declared.Change.{Change}
-use Rattle.machine.specs.Words.{firstThreeKept}
-use Rattle.machine.proofs.Exact.{Sound, GoesOn, ByOutcome, outcome-map, Exact}
-use Rattle.machine.proofs.Tests.{Tells, holds, fails, tells-leb, tells-same, tells-and}
-use Rattle.machine.proofs.SeveralKinds.{kinds-stream, kinds-apart, by-place}
-use Rattle.machine.proofs.FitsRow.{FitsRow, Steady, keeping-first-three, steady-by, steady-breaking, steady-drop, fits-steady}
+use Rattle.constraint.proofs.Library.{Bool, List, [], _&&_, _++_, _+_, _-_, _<_, _↔_, _∙_, _∷_, _≡_, _≤_, ap, append-assoc, append-nil, arith, cond}
+use Rattle.constraint.proofs.Library.{eqb, eqb-false, eqb-true, false, inl, inr, leb, length, ltb, ltb-false, ltb-true, max, ne-eqb, refl, subst, sym}
+use Rattle.constraint.proofs.Library.{true, ℕ}
+use Rattle.constraint.proofs.{History.Accepts, History.clock-tick, History.own-append, History.own-tick, Lists.both, Lists.split, Streams.among-at}
+use Rattle.constraint.specs.Steps.{Step, among, at, clock, closed, event, own}
+use Rattle.constraint.specs.{Accepted.InRange, Accepted.LowerFirst, Continuation.Open, Limits.lastTime, Limits.noLimit, Limits.streamCount}
+use Rattle.constraint.specs.{Meets.Meets, Waiting.waiting, declared.Constraint.Constraint, declared.Constraint.the-variants.ExecutionTime}
+use Rattle.machine.proofs.Exact.{ByOutcome, Exact, GoesOn, Sound, outcome-map}
+use Rattle.machine.proofs.FitsRow.{FitsRow, Steady, fits-steady, keeping-first-three, steady-breaking, steady-by, steady-drop}
+use Rattle.machine.proofs.SeveralKinds.{by-place, kinds-apart, kinds-stream}
+use Rattle.machine.proofs.Tests.{Tells, fails, holds, tells-and, tells-leb, tells-same}
+use Rattle.machine.specs.Parts.{breaking, continuesWith, marksOf, plus}
+use Rattle.machine.specs.{Rule.ruleOf, Words.firstThreeKept, declared.Change.Change, declared.Marks.Marks, declared.Rule.Rule}
+use Rattle.phases.proofs.Laws.Continued.{FirstFrom, OfKinds, own-continues, own-event, own-late, own-steps, stepsFor}
+use Rattle.phases.proofs.Laws.Executions.{Phase, RisesFrom, idle, ranBy, runs, waits}
+use Rattle.phases.specs.ExecutionTime.{decideExecutionTime, idleFrom, inPhase, machineExecutionTime, phaseOf, preemptedFrom, ranOf, ranTo}
+use Rattle.phases.specs.ExecutionTime.{runningFrom, whileIdle, whilePreempted, whileRunning}
 use Rattle.queue.specs.declared.Edit.the-variants.{Drop}
-use Rattle.phases.specs.ExecutionTime.{phaseOf, ranOf, ranTo, inPhase, idleFrom, runningFrom, preemptedFrom, machineExecutionTime}
-use Rattle.phases.specs.ExecutionTime.{whileIdle, whileRunning, whilePreempted, decideExecutionTime}
-use Rattle.phases.proofs.Laws.Executions.{Phase, idle, runs, waits, ranBy, RisesFrom}
 use Rattle.phases.proofs.Laws.Executions as E
-use Rattle.phases.proofs.Laws.Continued.{own-event, FirstFrom, own-late, stepsFor, OfKinds, own-steps, own-continues}
 
 tells-equal : (a b : ℕ) → Tells (a ≡ b) (eqb a b)
 tells-equal a b = split (eqb a b) (Tells (a ≡ b)) (λ e. holds (eqb-true a b e)) (λ e. fails (eqb-false a b e))
@@ -123,8 +112,7 @@ module _ (start stop preempt resume lower upper : ℕ) (sound : Sound (Execution
 
     lost-now : (phase : Phase) (free : ℕ) → Stands past phase free → ((further : List (ℕ × ℕ)) → ¬ Ends phase free ((k, t) ∷ further))
         → Lost (past ++ ((k, t) ∷ []))
-    lost-now phase free stands wrong further =
-        rw (append-assoc past ((k, t) ∷ []) further) (λ h. wrong further (stands ((k, t) ∷ further) .0 h))
+    lost-now phase free stands wrong further = rw (append-assoc past ((k, t) ∷ []) further) (λ h. wrong further (stands ((k, t) ∷ further) .0 h))
 
     -- the marks of the next phase
     keeps-next : (first ran : ℕ) → Stands (past ++ ((k, t) ∷ [])) (phaseIn first ran) (t + 1) → Room (phaseIn first ran)
@@ -157,8 +145,7 @@ module _ (start stop preempt resume lower upper : ℕ) (sound : Sound (Execution
         turn : {test : Bool} → Tells ((k ≡ start) × (0 < upper)) test → Turns past times k t (cond test (runningFrom rule marks t 0) breaking)
         turn (holds (is, some)) =
             running-next 0 (omega arith) (stands-more idle (runs 0) (marks .last) stands (λ further. (λ h. h .2, λ h. (from, is, h))))
-        turn (fails wrong) =
-            lost-now idle (marks .last) stands (λ further h. wrong (h .1, omega (arith, ends-room (runs 0) (t + 1) further (h .2))))
+        turn (fails wrong) = lost-now idle (marks .last) stands (λ further h. wrong (h .1, omega (arith, ends-room (runs 0) (t + 1) further (h .2))))
 
     -- a stop or a preempt may come in a running execution; the due time has seen to upper
     module _ (from : marks .last ≤ t) (room : ranOf marks + 1 ≤ upper) (soon : t ≤ plus (marks .last) (upper - (ranOf marks + 1)))
@@ -258,8 +245,7 @@ module _ (start stop preempt resume lower upper : ℕ) (sound : Sound (Execution
   of-meets steps m = E.meets-ends start stop preempt resume lower upper (own ks steps) m
 
   -- where none of the further events ends all right, no continuation is left
-  shut : (steps : List Step)
-      → ((further : List (ℕ × ℕ)) → FirstFrom (clock steps) further → ¬ Ends idle 0 (own ks steps ++ further)) → ¬ Open c steps
+  shut : (steps : List Step) → ((further : List (ℕ × ℕ)) → FirstFrom (clock steps) further → ¬ Ends idle 0 (own ks steps ++ further)) → ¬ Open c steps
   shut steps lost (further, follows, meets) =
       lost (own ks further) (own-late ks follows) (rw (own-append ks steps further) at (of-meets (steps ++ further) meets))
 
@@ -346,8 +332,7 @@ module _ (start stop preempt resume lower upper : ℕ) (sound : Sound (Execution
       → Tells (Ends idle 0 past) x)
       (λ stands. holds (rw (append-nil past) at (stands .1 tt)))
       (λ stands. fails (λ h. stands .0 (rw (append-nil past) h)))
-      (λ stands. fails (λ h. stands .0 (rw (append-nil past) h)))
-      (keeps .stands [])
+      (λ stands. fails (λ h. stands .0 (rw (append-nil past) h))) (keeps .stands [])
 
   tells-true : {P : Type 0} {b : Bool} → Tells P b → b ≡ true → P
   tells-true (holds p) e = p

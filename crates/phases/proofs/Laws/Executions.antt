@@ -1,7 +1,7 @@
 -- Executions seen event by event: which events may still come depends only on the phase, on how long the execution begun has run, and on the
 -- last time, so events are those of executions exactly when each is one that may come and none is missing at the end.
-use Rattle.constraint.proofs.Library.{ℕ, _+_, _-_, _≤_, arith, _≡_, refl, sym, ap, subst, List, [], _∷_, _⊎_, inl, inr, Option, none, some}
-use Rattle.constraint.specs.Meets.{Executes, no-event, started, paused, stopped, MeetsExecutionTime}
+use Rattle.constraint.proofs.Library.{List, Option, [], _+_, _-_, _∷_, _≡_, _≤_, _⊎_, ap, arith, inl, inr, none, refl, some, subst, sym, ℕ}
+use Rattle.constraint.specs.Meets.{Executes, MeetsExecutionTime, no-event, paused, started, stopped}
 
 -- ---- times that rise strictly
 

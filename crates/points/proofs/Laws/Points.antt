@@ -1,9 +1,8 @@
 -- Hidden points: what one more event adds is its own point, behind the last.
-use Rattle.constraint.proofs.Library.{ℕ, _+_, _<_, arith, decLt, _≡_, refl, sym, subst, _∙_, List, [], _∷_, _++_, by-cases, length, take}
-use Rattle.constraint.proofs.Library.{length-append, length-take, getD-take}
-use Rattle.constraint.specs.Steps.{at}
-use Rattle.constraint.specs.Meets.{Between, Apart, HiddenPoints}
+use Rattle.constraint.proofs.Library.{List, [], _++_, _+_, _<_, _∙_, _∷_, _≡_, arith, by-cases, decLt, getD-take, length, length-append, length-take}
+use Rattle.constraint.proofs.Library.{refl, subst, sym, take, ℕ}
 use Rattle.constraint.proofs.Lists.{at-left, at-next}
+use Rattle.constraint.specs.{Meets.Apart, Meets.Between, Meets.HiddenPoints, Steps.at}
 
 -- q can be the point behind p
 abbrev pub NextPoint : ℕ → ℕ → ℕ → ℕ → Type 0

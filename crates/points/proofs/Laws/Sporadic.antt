@@ -1,31 +1,21 @@
 -- Sporadic: the places where the last hidden point can be are the numbers from low to high, since each place of the next point has a place of
 -- the last one before it, so the machine's test tells whether an event has a point; and the latest place allows the latest clock.
-use Rattle.constraint.proofs.Library.{ℕ, _+_, _-_, _≤_, _<_, min, arith, decLt, _≡_, refl, sym, ap, subst, _∙_, Bool, cond, List, [], _∷_, _++_, _⊎_}
-use Rattle.constraint.proofs.Library.{inl, inr, _↔_, ⊎-elim, by-cases, length, take, length-append, length-take, getD-take, eqb, eqb-true, eqb-false}
-use Rattle.constraint.proofs.Library.{ne-eqb, _&&_, leb}
-use Rattle.constraint.specs.Limits.{lastTime, noLimit}
-use Rattle.constraint.specs.Steps.{Step, at, times, clock}
-use Rattle.constraint.specs.Meets.{Meets, Between, SpansApart, HiddenPoints, LastNotLater, MeetsSporadic, AtLeastApart}
-use Rattle.constraint.specs.Continuation.{Open}
-use Rattle.constraint.specs.Waiting.{waiting}
-use Rattle.constraint.specs.Accepted.{InRange}
-use Rattle.constraint.specs.declared.Constraint.the-variants.{Sporadic}
-use Rattle.constraint.proofs.Lists.{split, at-next, at-right, Each}
-use Rattle.constraint.proofs.History.{times-append}
-use Rattle.constraint.proofs.Continuations.{not-later-earlier, continues-late, continues-clock}
-use Rattle.machine.specs.Rule.{ruleOf}
-use Rattle.machine.specs.Parts.{noMarks, plus, breaking, farEnough, marksOf}
-use Rattle.points.specs.Sporadic.{lowOf, highOf, duePoint, pointAt, stride, lowest, highest, laterSporadic, decideSporadic, machineSporadic}
-use Rattle.machine.specs.declared.Rule.{Rule}
-use Rattle.machine.specs.declared.Marks.{Marks}
-use Rattle.machine.specs.declared.Change.{Change}
-use Rattle.machine.specs.Words.{firstThreeKept}
-use Rattle.machine.proofs.Exact.{Sound, Exact}
-use Rattle.machine.proofs.Tests.{Tells, holds, fails, tells-leb, tells-and}
-use Rattle.machine.proofs.OneKind.{Turns, exactOneKind}
-use Rattle.machine.proofs.Spans.{apart-first, apart-more, LastIs, last-none, last-new, last-zero, last-some, far-enough}
-use Rattle.machine.proofs.FitsRow.{FitsRow, Steady, keeping-first-three, steady-by, steady-breaking, steady-drop, fits-steady}
-use Rattle.points.proofs.Laws.Points.{points-none, points-first, NextPoint, points-more, points-near, points-next}
+use Rattle.constraint.proofs.Library.{Bool, List, [], _&&_, _++_, _+_, _-_, _<_, _↔_, _∙_, _∷_, _≡_, _≤_, _⊎_, ap, arith, by-cases, cond, decLt, eqb}
+use Rattle.constraint.proofs.Library.{eqb-false, eqb-true, getD-take, inl, inr, leb, length, length-append, length-take, min, ne-eqb, refl, subst}
+use Rattle.constraint.proofs.Library.{sym, take, ℕ, ⊎-elim}
+use Rattle.constraint.proofs.Lists.{Each, at-next, at-right, split}
+use Rattle.constraint.proofs.{Continuations.continues-clock, Continuations.continues-late, Continuations.not-later-earlier, History.times-append}
+use Rattle.constraint.specs.Meets.{AtLeastApart, Between, HiddenPoints, LastNotLater, Meets, MeetsSporadic, SpansApart}
+use Rattle.constraint.specs.{Accepted.InRange, Continuation.Open, Limits.lastTime, Limits.noLimit, Steps.Step, Steps.at, Steps.clock, Steps.times}
+use Rattle.constraint.specs.{Waiting.waiting, declared.Constraint.the-variants.Sporadic}
+use Rattle.machine.proofs.FitsRow.{FitsRow, Steady, fits-steady, keeping-first-three, steady-breaking, steady-by, steady-drop}
+use Rattle.machine.proofs.Spans.{LastIs, apart-first, apart-more, far-enough, last-new, last-none, last-some, last-zero}
+use Rattle.machine.proofs.Tests.{Tells, fails, holds, tells-and, tells-leb}
+use Rattle.machine.proofs.{Exact.Exact, Exact.Sound, OneKind.Turns, OneKind.exactOneKind}
+use Rattle.machine.specs.Parts.{breaking, farEnough, marksOf, noMarks, plus}
+use Rattle.machine.specs.{Rule.ruleOf, Words.firstThreeKept, declared.Change.Change, declared.Marks.Marks, declared.Rule.Rule}
+use Rattle.points.proofs.Laws.Points.{NextPoint, points-first, points-more, points-near, points-next, points-none}
+use Rattle.points.specs.Sporadic.{decideSporadic, duePoint, highOf, highest, laterSporadic, lowOf, lowest, machineSporadic, pointAt, stride}
 
 abbrev pub PointsOf : Rule → List ℕ → List ℕ → Type 0
 PointsOf rule events points = HiddenPoints 1 (rule .lower) (rule .upper) (rule .jitter) events points

@@ -1,11 +1,9 @@
 -- Repetition with a span: the places of each chain taken singly tell whether there are points, once the highs of the first span are drawn in.
 -- Every list of points of more than span events lies in these places; and where each event has one, the greatest points of the chains rise.
-use Rattle.constraint.proofs.Library.{ℕ, zero, suc, _+_, _-_, _≤_, _<_, min, max, add-zero, arith, decLt, _≡_, refl, ap, subst, _∙_, List, [], _∷_}
-use Rattle.constraint.proofs.Library.{_++_, inr, ⊎-elim, by-cases, length, length-append}
-use Rattle.constraint.specs.Limits.{lastTime}
-use Rattle.constraint.specs.Steps.{at}
-use Rattle.constraint.specs.Meets.{Between, Apart, HiddenPoints}
-use Rattle.constraint.proofs.Lists.{at-left, at-next, Rising, rising-by}
+use Rattle.constraint.proofs.Library.{List, [], _++_, _+_, _-_, _<_, _∙_, _∷_, _≡_, _≤_, add-zero, ap, arith, by-cases, decLt, inr, length}
+use Rattle.constraint.proofs.Library.{length-append, max, min, refl, subst, suc, zero, ℕ, ⊎-elim}
+use Rattle.constraint.proofs.Lists.{Rising, at-left, at-next, rising-by}
+use Rattle.constraint.specs.{Limits.lastTime, Meets.Apart, Meets.Between, Meets.HiddenPoints, Steps.at}
 use Rattle.repetition.proofs.Laws.Within.{Intervals, points-within}
 
 -- a list begins with these events

@@ -1,16 +1,14 @@
 -- Repetition as a row keeps it: of the places of all points it has those of the last span, the low and the high of each in turn. An event asks
 -- for those of the point span places before it, which are the oldest, so the two numbers that it puts in are its own places.
-use Rattle.constraint.proofs.Library.{ℕ, _+_, _-_, _≤_, _<_, min, max, arith, decLt, _≡_, refl, sym, ap, _∙_, Bool, true, false, cond, List, [], _∷_}
-use Rattle.constraint.proofs.Library.{_++_, by-cases, length, drop, length-append, length-drop, drop-nil, getD-drop, drop-drop, drop-append-le, ltb}
-use Rattle.constraint.proofs.Library.{ltb-true, ltb-false}
-use Rattle.constraint.specs.Limits.{lastTime}
-use Rattle.constraint.specs.Steps.{at}
-use Rattle.constraint.proofs.Lists.{split, at-left, at-next, Rising, rising-at}
-use Rattle.machine.specs.Parts.{plus, front}
-use Rattle.machine.specs.declared.Rule.{Rule}
+use Rattle.constraint.proofs.Library.{Bool, List, [], _++_, _+_, _-_, _<_, _∙_, _∷_, _≡_, _≤_, ap, arith, by-cases, cond, decLt, drop, drop-append-le}
+use Rattle.constraint.proofs.Library.{drop-drop, drop-nil, false, getD-drop, length, length-append, length-drop, ltb, ltb-false, ltb-true, max, min}
+use Rattle.constraint.proofs.Library.{refl, sym, true, ℕ}
+use Rattle.constraint.proofs.Lists.{Rising, at-left, at-next, rising-at, split}
+use Rattle.constraint.specs.{Limits.lastTime, Steps.at}
 use Rattle.machine.proofs.Oldest.{front-at}
-use Rattle.repetition.specs.Repetition.{points, lowestPoint, firstHigh, highestPoint}
-use Rattle.repetition.proofs.Laws.Chains.{Keeps, Next, first, later, keeps-none}
+use Rattle.machine.specs.{Parts.front, Parts.plus, declared.Rule.Rule}
+use Rattle.repetition.proofs.Laws.Chains.{Keeps, Next, first, keeps-none, later}
+use Rattle.repetition.specs.Repetition.{firstHigh, highestPoint, lowestPoint, points}
 
 -- ---- Lows and highs in turn
 

@@ -1,28 +1,20 @@
 -- Repetition: what the row keeps tells the places of the next point, and where each event has one there are points. So the machine's test tells
 -- whether the events still have points, for every span by one argument.
-use Rattle.constraint.proofs.Library.{ℕ, _≤_, arith, _≡_, refl, ap, Bool, true, false, cond, List, [], _∷_, _++_, _↔_, length, take, ltb, ltb-true}
-use Rattle.constraint.proofs.Library.{ltb-false, _-_, _+_, _/_, _<_, sym, subst, drop, length-append, length-drop, lt-ltb, le-ltb}
-use Rattle.constraint.specs.Limits.{lastTime, noLimit}
-use Rattle.constraint.specs.Meets.{Meets, MeetsRepetition}
-use Rattle.constraint.specs.Waiting.{waiting}
-use Rattle.constraint.specs.Accepted.{InRange, LowerFirst}
-use Rattle.constraint.specs.declared.Constraint.the-variants.{Repetition}
-use Rattle.constraint.proofs.Lists.{split, Rising}
-use Rattle.queue.specs.declared.Edit.the-variants.{PushTwo}
-use Rattle.machine.specs.Rule.{ruleOf}
-use Rattle.machine.specs.Parts.{continuesWith, breaking}
-use Rattle.machine.specs.declared.Rule.{Rule}
-use Rattle.machine.specs.declared.Marks.{Marks}
-use Rattle.machine.specs.declared.Change.{Change}
-use Rattle.machine.specs.Words.{noneKept}
-use Rattle.machine.proofs.Exact.{Sound, Exact}
-use Rattle.machine.proofs.Tests.{Tells, holds, fails, tells-leb, tells-and}
-use Rattle.machine.proofs.OneKind.{Turns, exactOneKind}
-use Rattle.machine.proofs.FitsRow.{FitsRow, Unkept, Places, keeping-none, crowds-of, calm-by, unkept-by}
+use Rattle.constraint.proofs.Library.{Bool, List, [], _++_, _+_, _-_, _/_, _<_, _↔_, _∷_, _≡_, _≤_, ap, arith, cond, drop, false, le-ltb, length}
+use Rattle.constraint.proofs.Library.{length-append, length-drop, lt-ltb, ltb, ltb-false, ltb-true, refl, subst, sym, take, true, ℕ}
+use Rattle.constraint.proofs.Lists.{Rising, split}
+use Rattle.constraint.specs.{Accepted.InRange, Accepted.LowerFirst, Limits.lastTime, Limits.noLimit, Meets.Meets, Meets.MeetsRepetition}
+use Rattle.constraint.specs.{Waiting.waiting, declared.Constraint.the-variants.Repetition}
+use Rattle.machine.proofs.FitsRow.{FitsRow, Places, Unkept, calm-by, crowds-of, keeping-none, unkept-by}
+use Rattle.machine.proofs.Tests.{Tells, fails, holds, tells-and, tells-leb}
+use Rattle.machine.proofs.{Exact.Exact, Exact.Sound, OneKind.Turns, OneKind.exactOneKind}
+use Rattle.machine.specs.Parts.{breaking, continuesWith}
+use Rattle.machine.specs.{Rule.ruleOf, Words.noneKept, declared.Change.Change, declared.Marks.Marks, declared.Rule.Rule}
 use Rattle.points.proofs.Laws.Points.{points-first}
-use Rattle.repetition.specs.Repetition.{points, hasPlace, placed, decideRepetition, fillsRepetition, takenRepetition, machineRepetition}
+use Rattle.queue.specs.declared.Edit.the-variants.{PushTwo}
 use Rattle.repetition.proofs.Laws.Chains.{Fitting, keeps-more, keeps-says, next-breaks}
-use Rattle.repetition.proofs.Laws.Kept.{Asked, KeepsLast, last-none, kept-points, kept-few, newLow, newHigh, IsNext, is-next, newest-more}
+use Rattle.repetition.proofs.Laws.Kept.{Asked, IsNext, KeepsLast, is-next, kept-few, kept-points, last-none, newHigh, newLow, newest-more}
+use Rattle.repetition.specs.Repetition.{decideRepetition, fillsRepetition, hasPlace, machineRepetition, placed, points, takenRepetition}
 
 -- the clock and the marks say nothing here
 abbrev SaysRepetition : Rule → List ℕ → ℕ → Type 0
@@ -172,8 +164,7 @@ unfolding fillsRepetition decideRepetition placed
 crowding-repetition rule marks times kind t many few = by-span _ _
   where
     two : (low high : ℕ) → ltb 64 (length (drop 0 times ++ (low ∷ high ∷ []))) ≡ true
-    two low high =
-        rw (length-append (drop 0 times) (low ∷ high ∷ []), length-drop 0 times) (lt-ltb 64 (length times - 0 + 2) (omega (arith, many)))
+    two low high = rw (length-append (drop 0 times) (low ∷ high ∷ []), length-drop 0 times) (lt-ltb 64 (length times - 0 + 2) (omega (arith, many)))
 
     turned : (low high : ℕ) → ltb 64 (length (drop 2 times ++ (low ∷ high ∷ []))) ≡ false
     turned low high =
@@ -189,8 +180,7 @@ crowding-repetition rule marks times kind t many few = by-span _ _
         (λ _. sym (two low high))
         (λ _. sym (calm-by times (hasPlace rule low high) (continuesWith (PushTwo 2 low high) marks noLimit true) breaking (turned low high) refl))
 
-room-repetition : (rule : Rule) (marks : Marks) (n s t : ℕ) → 63 ≤ n → takenRepetition (rule .span) n < 64
-    → fillsRepetition rule marks n s t ≡ false
+room-repetition : (rule : Rule) (marks : Marks) (n s t : ℕ) → 63 ≤ n → takenRepetition (rule .span) n < 64 → fillsRepetition rule marks n s t ≡ false
 unfolding fillsRepetition
 room-repetition rule marks n s t many =
     split (ltb 31 (rule .span)) (λ b. cond b (cond (ltb n 63) n 64) 0 < 64 → ltb (n / 2) (rule .span) ≡ false)

@@ -1,8 +1,7 @@
 -- Points within intervals: where the ends of the intervals rise, the greatest points of each chain taken singly rise too, since each is the
 -- smaller of its interval's end and the point span places later less lower.
-use Rattle.constraint.proofs.Library.{ℕ, zero, suc, _+_, _-_, _≤_, _<_, min, arith, decLt, _≡_, refl, ap, List, [], _∷_, by-cases, length}
-use Rattle.constraint.specs.Steps.{at}
-use Rattle.constraint.specs.Meets.{Between}
+use Rattle.constraint.proofs.Library.{List, [], _+_, _-_, _<_, _∷_, _≡_, _≤_, ap, arith, by-cases, decLt, length, min, refl, suc, zero, ℕ}
+use Rattle.constraint.specs.{Meets.Between, Steps.at}
 
 module _ (span lower upper : ℕ) where
   -- one interval for each event

@@ -1,13 +1,10 @@
 -- Half the length of the ring is the number of its points; the three cases are those of `placed`.
-use Rattle.constraint.proofs.Library.{ℕ, _/_, _≡_, refl, ap, _∙_, List, [], ⊎-elim, getD, lt-ltb, le-ltb, le-leb, lt-leb, needs}
-use Rattle.queue.specs.Ring.{ring}
+use Rattle.constraint.proofs.Library.{List, [], _/_, _∙_, _≡_, ap, getD, le-leb, le-ltb, lt-leb, lt-ltb, needs, refl, ℕ, ⊎-elim}
+use Rattle.machine.specs.{Parts.front, Words.changedWords, Words.numberWords, Words.rowWords, declared.Marks.Marks, declared.Rule.Rule}
 use Rattle.queue.proofs.Laws.{ring-length}
-use Rattle.machine.specs.Parts.{front}
-use Rattle.machine.specs.Words.{rowWords, numberWords, changedWords}
-use Rattle.machine.specs.declared.Rule.{Rule}
-use Rattle.machine.specs.declared.Marks.{Marks}
-use Rattle.repetition.specs.Repetition.{points, firstHigh, lowestPoint, highestPoint, placed, decideRepetition}
+use Rattle.queue.specs.Ring.{ring}
 use Rattle.repetition.proofs.apply.Statement.{statement}
+use Rattle.repetition.specs.Repetition.{decideRepetition, firstHigh, highestPoint, lowestPoint, placed, points}
 use Rattle.repetition.proofs.apply.Tie as tie
 
 -- the machine's change, by the length of the ring and the places of the point
@@ -22,15 +19,8 @@ decided rule marks times head len stream t low high l h =
 returns : tie.Need-returns
 unfolding rowWords numberWords changedWords placed
 returns c rule times state past e =
-    let p = c .before .before in
-    let i = p .before .before in
-    let z = i .before in
-    let q = z .before in
-    let y = q .before in
-    let d = y .before in
-    let g = d .before in
-    let m = g .before .before in
-    let a = m .before .before .before .before .before .before .args in
+    let p = c .before .before in let i = p .before .before in let z = i .before in let q = z .before in let y = q .before in let d = y .before in
+    let g = d .before in let m = g .before .before in let a = m .before .before .before .before .before .before .args in
     let kept = ring times (state .head) (state .len) in
     let high : z .smaller .result ≡ highestPoint rule (state .len / 2) (firstHigh kept (a .t)) (a .t) =
     z .smaller .ensures ∙ rw (q .plus2 .ensures, y .plus .ensures, d .minus2 .ensures, g .first-high .ensures, e) refl in
@@ -43,19 +33,9 @@ returns c rule times state past e =
 returns-2 : tie.Need-returns-2
 unfolding rowWords numberWords changedWords placed
 returns-2 c rule times state past e =
-    let p = c .before .before in
-    let i = p .before .before in
-    let k = i .before in
-    let l = k .before in
-    let f = l .before .before .before in
-    let n = f .before .before in
-    let z = n .before in
-    let q = z .before in
-    let y = q .before in
-    let d = y .before in
-    let g = d .before in
-    let m = g .before .before in
-    let a = m .before .before .before .before .before .before .args in
+    let p = c .before .before in let i = p .before .before in let k = i .before in let l = k .before in let f = l .before .before .before in
+    let n = f .before .before in let z = n .before in let q = z .before in let y = q .before in let d = y .before in let g = d .before in
+    let m = g .before .before in let a = m .before .before .before .before .before .before .args in
     let kept = ring times (state .head) (state .len) in
     let high : z .smaller .result ≡ highestPoint rule (state .len / 2) (firstHigh kept (a .t)) (a .t) =
     z .smaller .ensures ∙ rw (q .plus2 .ensures, y .plus .ensures, d .minus2 .ensures, g .first-high .ensures, e) refl in
@@ -76,16 +56,8 @@ returns-2 c rule times state past e =
 returns-3 : tie.Need-returns-3
 unfolding rowWords numberWords changedWords placed
 returns-3 c rule times state past e =
-    let j = c .before .before in
-    let l = j .before in
-    let f = l .before .before .before in
-    let n = f .before .before in
-    let z = n .before in
-    let q = z .before in
-    let y = q .before in
-    let d = y .before in
-    let g = d .before in
-    let m = g .before .before in
+    let j = c .before .before in let l = j .before in let f = l .before .before .before in let n = f .before .before in let z = n .before in
+    let q = z .before in let y = q .before in let d = y .before in let g = d .before in let m = g .before .before in
     let a = m .before .before .before .before .before .before .args in
     let kept = ring times (state .head) (state .len) in
     let high : z .smaller .result ≡ highestPoint rule (state .len / 2) (firstHigh kept (a .t)) (a .t) =

@@ -1,7 +1,7 @@
 -- The test is that of `fillsRepetition`.
-use Rattle.constraint.proofs.Library.{refl, needs}
-use Rattle.repetition.specs.Repetition.{fillsRepetition}
+use Rattle.constraint.proofs.Library.{needs, refl}
 use Rattle.repetition.proofs.fills.Statement.{statement}
+use Rattle.repetition.specs.Repetition.{fillsRepetition}
 use Rattle.repetition.proofs.fills.Tie as tie
 
 returns : tie.Need-returns

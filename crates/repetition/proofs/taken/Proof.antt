@@ -1,16 +1,9 @@
 -- The tests are those of `takenRepetition`.
-use borrow.Author.Tests.{lt-ltb, le-ltb}
+use Rattle.constraint.proofs.Library.{le-ltb, lt-ltb}
 use Rattle.repetition.proofs.taken.Statement.{statement}
 use Rattle.repetition.proofs.taken.Tie as tie
 
-returns : tie.Need-returns
-returns c = rw (lt-ltb _ _ (c .before .if1 .taken), lt-ltb _ _ (c .if2 .taken))
-
-returns-2 : tie.Need-returns-2
-returns-2 c = rw (lt-ltb _ _ (c .before .if1 .taken), le-ltb _ _ (c .if2 .left))
-
-returns-3 : tie.Need-returns-3
-returns-3 c = rw (le-ltb _ _ (c .if1 .left))
-
 pub taken-spec : {M : Type 1} → statement M
-taken-spec = tie.close (tie.spec returns returns-2 returns-3)
+taken-spec =
+    tie.close (tie.spec (λ c. rw (lt-ltb _ _ (c .before .if1 .taken), lt-ltb _ _ (c .if2 .taken)))
+    (λ c. rw (lt-ltb _ _ (c .before .if1 .taken), le-ltb _ _ (c .if2 .left))) (λ c. rw (le-ltb _ _ (c .if1 .left))))

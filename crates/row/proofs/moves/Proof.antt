@@ -1,6 +1,5 @@
 -- The tests are those of the definition, in their order.
-use Rattle.constraint.proofs.Library.{lt-ltb, le-ltb, needs}
-use Rattle.row.specs.Undo.{movesBy}
+use Rattle.row.proofs.Names.{le-ltb, lt-ltb, movesBy, needs}
 use Rattle.row.proofs.moves.Statement.{statement}
 use Rattle.row.proofs.moves.Tie as tie
 
@@ -21,10 +20,8 @@ returns-3 c =
 returns-4 : tie.Need-returns-4
 unfolding movesBy
 returns-4 c =
-    let f = c .before in
-    let e = f .before in
+    let f = c .before in let e = f .before in
     rw (le-ltb _ _ (e .before .before .before .if1 .left), le-ltb _ _ (e .if2 .left), f .if3 .left) (c .concerns .ensures)
 
 pub moves-spec : {M : Type 1} → statement M
-moves-spec =
-    tie.close (tie.spec returns returns-2 returns-3 (λ c κs. search needs) returns-4)
+moves-spec = tie.close (tie.spec returns returns-2 returns-3 (λ c κs. search needs) returns-4)

@@ -1,19 +1,11 @@
 -- Burst: the machine is that of a Repeat with no upper, and so are the laws; without an upper no clock is past its due time.
-use Rattle.constraint.proofs.Library.{ℕ, _≤_, arith, _≡_, refl, List, _↔_}
-use Rattle.constraint.specs.Limits.{lastTime, noLimit}
-use Rattle.constraint.specs.Meets.{Meets, MeetsBurst}
-use Rattle.constraint.specs.Waiting.{waiting}
-use Rattle.constraint.specs.Accepted.{InRange}
-use Rattle.constraint.specs.declared.Constraint.the-variants.{Burst}
-use Rattle.machine.specs.Rule.{ruleOf}
-use Rattle.machine.specs.declared.Rule.{Rule}
-use Rattle.machine.specs.declared.Marks.{Marks}
-use Rattle.machine.proofs.Exact.{Sound, Exact}
-use Rattle.machine.proofs.Oldest.{due-reached}
-use Rattle.machine.proofs.OneKind.{exactOneKind}
-use Rattle.machine.proofs.Spans.{apart-first}
+use Rattle.constraint.proofs.Library.{List, _↔_, _≡_, _≤_, arith, refl, ℕ}
+use Rattle.constraint.specs.{Accepted.InRange, Limits.lastTime, Limits.noLimit, Meets.Meets, Meets.MeetsBurst, Waiting.waiting}
+use Rattle.constraint.specs.{declared.Constraint.the-variants.Burst}
+use Rattle.machine.proofs.{Exact.Exact, Exact.Sound, Oldest.due-reached, OneKind.exactOneKind, Spans.apart-first}
+use Rattle.machine.specs.{Rule.ruleOf, declared.Marks.Marks, declared.Rule.Rule}
+use Rattle.spans.proofs.Laws.Repeat.{KeepsRepeat, dueRepeat, repeat-event, repeat-few, repeat-none}
 use Rattle.spans.specs.Repeat.{decideRepeat}
-use Rattle.spans.proofs.Laws.Repeat.{KeepsRepeat, dueRepeat, repeat-none, repeat-event, repeat-few}
 
 -- ---- Open
 

@@ -1,33 +1,23 @@
 -- Repeat and Burst: an event adds one pair span places apart and one pair of neighbours, and the machine still has the earlier time of each,
 -- so its test tells whether the events still meet the row; the events without one span places after them are those whose times it has, and
 -- the oldest of them is the first that the clock leaves too far behind.
-use Rattle.constraint.proofs.Library.{ℕ, _+_, _-_, _≤_, _<_, arith, decLt, _≡_, refl, sym, ap, subst, _∙_, Bool, true, cond, List, [], _∷_, _++_, _↔_}
-use Rattle.constraint.proofs.Library.{inr, ⊎-elim, by-cases, length, take, drop, length-append, length-drop, take-append-drop, drop-nil, getD-drop}
-use Rattle.constraint.proofs.Library.{drop-drop, drop-append-le, leb, ltb, ltb-true, ltb-false, false, _&&_, _||_, le-ltb}
-use Rattle.constraint.specs.Limits.{lastTime, noLimit, spanLimit, waitingLimit}
-use Rattle.constraint.specs.Steps.{Step, at, times, clock}
-use Rattle.constraint.specs.Meets.{Meets, SpansApart, MeetsRepeat, AtLeastApart}
-use Rattle.constraint.specs.Continuation.{Open}
-use Rattle.constraint.specs.Waiting.{waiting}
-use Rattle.constraint.specs.Accepted.{InRange}
-use Rattle.constraint.specs.declared.Constraint.the-variants.{Repeat}
-use Rattle.constraint.proofs.Lists.{split, at-left, at-right, Each, Rising, rising-left, rising-right, rising-at}
-use Rattle.constraint.proofs.History.{times-append}
-use Rattle.constraint.proofs.Continuations.{not-later-earlier, continues-late, continues-clock}
+use Rattle.constraint.proofs.Library.{Bool, List, [], _&&_, _++_, _+_, _-_, _<_, _||_, _↔_, _∙_, _∷_, _≡_, _≤_, ap, arith, by-cases, cond, decLt}
+use Rattle.constraint.proofs.Library.{drop, drop-append-le, drop-drop, drop-nil, false, getD-drop, inr, le-ltb, leb, length, length-append}
+use Rattle.constraint.proofs.Library.{length-drop, ltb, ltb-false, ltb-true, refl, subst, sym, take, take-append-drop, true, ℕ, ⊎-elim}
+use Rattle.constraint.proofs.Lists.{Each, Rising, at-left, at-right, rising-at, rising-left, rising-right, split}
+use Rattle.constraint.proofs.{Continuations.continues-clock, Continuations.continues-late, Continuations.not-later-earlier, History.times-append}
+use Rattle.constraint.specs.{Accepted.InRange, Continuation.Open, Limits.lastTime, Limits.noLimit, Limits.spanLimit, Limits.waitingLimit}
+use Rattle.constraint.specs.{Meets.AtLeastApart, Meets.Meets, Meets.MeetsRepeat, Meets.SpansApart, Steps.Step, Steps.at, Steps.clock, Steps.times}
+use Rattle.constraint.specs.{Waiting.waiting, declared.Constraint.the-variants.Repeat}
+use Rattle.machine.proofs.FitsRow.{FitsRow, Places, Unkept, calm-by, crowds-of, free-first, free-second, keeping-last, neither, pushed, unkept-by}
+use Rattle.machine.proofs.Oldest.{due-dropped, due-or-pushed, due-pushed, due-reached, due-within, front-at}
+use Rattle.machine.proofs.Spans.{ApartFromNew, LastIs, apart-first, apart-more, apart-new, far-enough, last-new, last-none, rising-apart}
+use Rattle.machine.proofs.Tests.{Tells, fails, holds, tells-and, tells-leb, tells-or, tells-same}
+use Rattle.machine.proofs.{Exact.Exact, Exact.Sound, OneKind.Turns, OneKind.exactOneKind}
+use Rattle.machine.specs.Parts.{breaking, continuesWith, dueOldest, dueOr, farEnough, front, noMarks, plus, withLast}
+use Rattle.machine.specs.{Rule.ruleOf, Words.lastKept, declared.Change.Change, declared.Marks.Marks, declared.Rule.Rule}
 use Rattle.queue.specs.declared.Edit.the-variants.{Push}
-use Rattle.machine.specs.Rule.{ruleOf}
-use Rattle.machine.specs.Parts.{noMarks, plus, withLast, continuesWith, breaking, front, dueOldest, farEnough, dueOr}
-use Rattle.machine.specs.declared.Rule.{Rule}
-use Rattle.machine.specs.declared.Marks.{Marks}
-use Rattle.machine.specs.declared.Change.{Change}
-use Rattle.machine.specs.Words.{lastKept}
-use Rattle.machine.proofs.Exact.{Sound, Exact}
-use Rattle.machine.proofs.Tests.{Tells, holds, fails, tells-leb, tells-same, tells-and, tells-or}
-use Rattle.machine.proofs.OneKind.{Turns, exactOneKind}
-use Rattle.machine.proofs.Oldest.{front-at, due-or-pushed, due-within, due-reached, due-pushed, due-dropped}
-use Rattle.machine.proofs.Spans.{apart-first, ApartFromNew, apart-new, apart-more, rising-apart, LastIs, last-none, last-new, far-enough}
-use Rattle.machine.proofs.FitsRow.{FitsRow, Unkept, Places, keeping-last, crowds-of, unkept-by, calm-by, neither, pushed, free-first, free-second}
-use Rattle.spans.specs.Repeat.{spanReached, leaving, dueWith, decideRepeat, fillsRepeat, takenRepeat, machineRepeat}
+use Rattle.spans.specs.Repeat.{decideRepeat, dueWith, fillsRepeat, leaving, machineRepeat, spanReached, takenRepeat}
 
 -- each event and the one span places after it are lower to upper apart
 abbrev pub MeetsSpan : Rule → List ℕ → Type 0

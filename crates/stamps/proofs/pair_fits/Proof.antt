@@ -1,5 +1,5 @@
 -- The parts are those of `pairFits`.
-use Rattle.queue.proofs.Shared.{free}
+use Rattle.stamps.proofs.Names.{free}
 use Rattle.stamps.proofs.pair_fits.Statement.{statement}
 use Rattle.stamps.proofs.pair_fits.Tie as tie
 

@@ -1,9 +1,6 @@
 -- The loop reads record after record: what is kept of the stamps is that of the steps read so far.
-use Rattle.constraint.proofs.Library.{arith, _-_, length, now}
-use Rattle.constraint.specs.Recording.{version-refused}
-use Rattle.constraint.proofs.Judged.{passed, failed}
-use Rattle.queue.proofs.Shared.{free}
-use Rattle.stamps.proofs.Progress.{PassedTo, pass-start, pass-more, pass-refused, pass-end}
+use Rattle.stamps.proofs.Names.{_-_, arith, failed, free, length, now, passed, version-refused}
+use Rattle.stamps.proofs.Progress.{PassedTo, pass-end, pass-more, pass-refused, pass-start}
 use Rattle.stamps.proofs.pass.Statement.{statement}
 use Rattle.stamps.proofs.pass.Tie as tie
 
@@ -23,37 +20,30 @@ returns c =
 
 loop-holds : tie.Need-loop-holds Inv-loop μ-loop
 loop-holds c =
-    let started = c .before in
-    let checked = started .before in
-    let asked = checked .before in
-    let args = asked .before .before .args in
+    let started = c .before in let checked = started .before in let asked = checked .before in let args = asked .before .before .args in
     rw (c .new .ensures)
     (pass-start (now (args .bytes)) (args .asked) (passed (asked .version-known .result) (asked .version-known .ensures) (checked .if1 .left))
     (started .start .result) (started .start .ensures))
 
 returns-2 : tie.Need-returns-2 Inv-loop μ-loop
 returns-2 c =
-    let at-read = c .before .before in
-    let at-loop = at-read .before .before in
+    let at-read = c .before .before in let at-loop = at-read .before .before in
     let args = at-loop .before .before .before .before .before .before .args in
     record {
       refused = λ more. pass-refused (now (args .bytes)) (args .asked) (at-loop .loop .clock) (at-loop .loop .stamps) (at-loop .loop .place)
-          (at-loop .loop .inv) (at-read .before .loop-test .taken)
-          (at-read .read .result) (at-read .read .ensures) (c .if2 .taken);
+          (at-loop .loop .inv) (at-read .before .loop-test .taken) (at-read .read .result) (at-read .read .ensures) (c .if2 .taken);
       taken = λ e. absurd (omega (arith, e, c .if2 .taken));
     }
 
 loop-less : tie.Need-loop-less Inv-loop μ-loop
 loop-less c =
-    let at-read = c .before .before .before .before in
-    let found = at-read .read .ensures in
+    let at-read = c .before .before .before .before in let found = at-read .read .ensures in
     let next = found .next-is (found .there (omega (arith, c .before .before .if2 .left))) in
     omega (arith, next .0, next .1)
 
 loop-again : tie.Need-loop-again Inv-loop μ-loop
 loop-again c =
-    let at-read = c .before .before .before .before in
-    let at-loop = at-read .before .before in
+    let at-read = c .before .before .before .before in let at-loop = at-read .before .before in
     let args = at-loop .before .before .before .before .before .before .args in
     rw (c .before .after .ensures)
     (pass-more (now (args .bytes)) (args .asked) (at-loop .loop .clock) (at-loop .loop .stamps) (at-loop .loop .place) (at-loop .loop .inv)
@@ -62,8 +52,7 @@ loop-again c =
 
 returns-3 : tie.Need-returns-3 Inv-loop μ-loop
 returns-3 c =
-    let at-loop = c .before .before in
-    let args = at-loop .before .before .before .before .before .before .args in
+    let at-loop = c .before .before in let args = at-loop .before .before .before .before .before .before .args in
     record {
       refused = λ more. absurd (omega (arith, more));
       taken = λ e. rw (c .verdict .ensures)

@@ -1,9 +1,6 @@
 -- The tests are on the row's numbers, which are those of its fields.
-use Rattle.constraint.proofs.Library.{arith, needs}
-use Rattle.constraint.proofs.Records.{record-count}
-use Rattle.queue.proofs.Shared.{free}
-use Rattle.stamps.proofs.Rows.{finds-none, finds-other, finds-it}
-use Rattle.stamps.proofs.row_of.Statement.{statement}
+use Rattle.stamps.proofs.Names.{arith, free, needs, record-count}
+use Rattle.stamps.proofs.{Rows.finds-it, Rows.finds-none, Rows.finds-other, row_of.Statement.statement}
 use Rattle.stamps.proofs.row_of.Tie as tie
 
 returns : tie.Need-returns
@@ -18,24 +15,21 @@ returns-2 c =
 
 returns-3 : tie.Need-returns-3
 returns-3 c =
-    let made = c .before .before .before .before .before .before in
-    let args = made .before .before .before .before .args in
+    let made = c .before .before .before .before .before .before in let args = made .before .before .before .before .args in
     rw (c .no-row3 .ensures)
     (finds-other (args .t1) (args .row) _ (made .fields .result) (omega (arith, made .before .before .if2 .left)) (made .fields .ensures)
     (λ three one. absurd (c .before .if3 .taken three)))
 
 returns-4 : tie.Need-returns-4
 returns-4 c =
-    let made = c .before .before .before .before .before .before .before in
-    let args = made .before .before .before .before .args in
+    let made = c .before .before .before .before .before .before .before in let args = made .before .before .before .before .args in
     rw (c .no-row4 .ensures)
     (finds-other (args .t1) (args .row) _ (made .fields .result) (omega (arith, made .before .before .if2 .left)) (made .fields .ensures)
     (λ three one. absurd (c .before .if4 .taken one)))
 
 returns-5 : tie.Need-returns-5
 returns-5 c =
-    let made = c .before .before .before .before .before .before in
-    let args = made .before .before .before .before .args in
+    let made = c .before .before .before .before .before .before in let args = made .before .before .before .before .args in
     finds-it (args .t1) (args .row) _ (made .fields .result) (omega (arith, made .before .before .if2 .left)) (made .fields .ensures)
     (c .before .if3 .left) (c .if4 .left)
 

@@ -1,9 +1,8 @@
 -- The loop reads record after record and keeps what each is, as long as there is room.
-use Rattle.constraint.proofs.Library.{arith, _-_, length, now}
-use Rattle.queue.proofs.Shared.{free}
-use Rattle.stretch.proofs.Gathering.{GatheredTo, gather-start, gather-more, gather-refused, gather-end}
+use Rattle.constraint.proofs.{Judged.failed, Judged.passed, Library._-_, Library.arith, Library.length, Library.now}
 use Rattle.constraint.specs.Recording.{version-refused}
-use Rattle.constraint.proofs.Judged.{passed, failed}
+use Rattle.queue.proofs.Shared.{free}
+use Rattle.stretch.proofs.Gathering.{GatheredTo, gather-end, gather-more, gather-refused, gather-start}
 use Rattle.stretch.proofs.gather.Statement.{statement}
 use Rattle.stretch.proofs.gather.Tie as tie
 
@@ -23,19 +22,14 @@ returns c =
 
 loop-holds : tie.Need-loop-holds Inv-loop μ-loop
 loop-holds c =
-    let checked = c .before in
-    let asked = checked .before in
-    let begun = asked .before .before in
-    let args = begun .args in
+    let checked = c .before in let asked = checked .before in let begun = asked .before .before in let args = begun .args in
     gather-start (now (args .bytes)) (args .streams .now) (args .times .now)
     (passed (asked .version-known .result) (asked .version-known .ensures) (checked .if1 .left)) (c .start .result) (c .start .ensures)
     (begun .pre .0) (begun .pre .1)
 
 returns-2 : tie.Need-returns-2 Inv-loop μ-loop
 returns-2 c =
-    let at-read = c .before .before in
-    let at-loop = at-read .before .before in
-    let args = at-loop .before .before .before .before .before .args in
+    let at-read = c .before .before in let at-loop = at-read .before .before in let args = at-loop .before .before .before .before .before .args in
     record {
       refused = λ more. gather-refused (now (args .bytes)) (at-loop .loop .streams) (at-loop .loop .times) (at-loop .loop .clock)
           (at-loop .loop .count) (at-loop .loop .place)
@@ -45,27 +39,22 @@ returns-2 c =
 
 loop-less : tie.Need-loop-less Inv-loop μ-loop
 loop-less c =
-    let at-read = c .before .before .before .before .before .before .before in
-    let found = at-read .read .ensures in
+    let at-read = c .before .before .before .before .before .before .before in let found = at-read .read .ensures in
     let next = found .next-is (found .there (omega (arith, c .before .before .before .before .before .if2 .left))) in
     omega (arith, next .0, next .1)
 
 loop-again : tie.Need-loop-again Inv-loop μ-loop
 loop-again c =
-    let at-read = c .before .before .before .before .before .before .before in
-    let at-loop = at-read .before .before in
+    let at-read = c .before .before .before .before .before .before .before in let at-loop = at-read .before .before in
     let args = at-loop .before .before .before .before .before .args in
     gather-more (now (args .bytes)) (at-loop .loop .streams) (at-loop .loop .times) (at-loop .loop .clock) (at-loop .loop .count)
-    (at-loop .loop .place)
-    (at-loop .loop .inv) (at-read .before .loop-test .taken) (at-read .read .result) (at-read .read .ensures)
+    (at-loop .loop .place) (at-loop .loop .inv) (at-read .before .loop-test .taken) (at-read .read .result) (at-read .read .ensures)
     (omega (arith, c .before .before .before .before .before .if2 .left))
     _ _ _ (rw (← c .before .before .before .before .occurrence .ensures) (c .before .keep .ensures))
 
 returns-3 : tie.Need-returns-3 Inv-loop μ-loop
 returns-3 c =
-    let at-loop = c .before in
-    let args = at-loop .before .before .before .before .before .args in
-    let inv = at-loop .loop .inv in
+    let at-loop = c .before in let args = at-loop .before .before .before .before .before .args in let inv = at-loop .loop .inv in
     record {
       refused = λ more. absurd (omega (arith, more));
       taken = λ e. (

@@ -1,6 +1,6 @@
 -- The loop goes through the stretches one by one and counts them, so its counter is the place.
-use Rattle.constraint.proofs.Library.{arith, _+_, _-_, _*_, _<_, now, needs}
-use Rattle.stretch.proofs.Places.{Searching, search-start, search-found, search-on, search-longer, search-end}
+use Rattle.constraint.proofs.Library.{_*_, _+_, _-_, _<_, arith, needs, now}
+use Rattle.stretch.proofs.Places.{Searching, search-end, search-found, search-longer, search-on, search-start}
 use Rattle.stretch.proofs.search.Statement.{statement}
 use Rattle.stretch.proofs.search.Tie as tie
 
@@ -10,13 +10,9 @@ Inv-loop need count first₀ size₀ tried₀ first size tried = Searching count
 abbrev μ-loop : tie.MeasureT-loop
 μ-loop need count first₀ size₀ tried₀ first size tried = 258 * (257 - size) + 256 - first
 
-loop-holds : tie.Need-loop-holds Inv-loop μ-loop
-loop-holds c = search-start _ _
-
 add-tried : tie.Need-add-tried Inv-loop μ-loop
 add-tried c =
-    let begun = c .before .before in
-    let inv = c .before .loop .inv in
+    let begun = c .before .before in let inv = c .before .loop .inv in
     omega (arith, begun .pre, inv .small, inv .size-small, inv .inside (c .loop-test .taken), inv .positive)
 
 mul-if1 : tie.Need-mul-if1 Inv-loop μ-loop
@@ -33,9 +29,7 @@ element-copy-out-if1 c =
 
 returns : tie.Need-returns Inv-loop μ-loop
 returns c =
-    let at-loop = c .before .before .before in
-    let inv = at-loop .loop .inv in
-    let begun = at-loop .before in
+    let at-loop = c .before .before .before in let inv = at-loop .loop .inv in let begun = at-loop .before in
     let more = c .before .before .loop-test .taken in
     record {
       none = λ e. absurd (omega (arith, e));
@@ -69,8 +63,7 @@ loop-less c =
 
 loop-again : tie.Need-loop-again Inv-loop μ-loop
 loop-again c =
-    let at-loop = c .before .before .before .before in
-    let begun = at-loop .before in
+    let at-loop = c .before .before .before .before in let begun = at-loop .before in
     search-on (begun .args .count) (begun .args .need .now) _ _ _ (at-loop .loop .inv) (c .before .before .before .loop-test .taken)
     (c .before .if1 .left) (c .if2 .taken)
 
@@ -91,15 +84,13 @@ loop-less-2 c =
 
 loop-again-2 : tie.Need-loop-again-2 Inv-loop μ-loop
 loop-again-2 c =
-    let at-loop = c .before .before .before .before in
-    let begun = at-loop .before in
+    let at-loop = c .before .before .before .before in let begun = at-loop .before in
     search-longer (begun .args .count) (begun .args .need .now) _ _ _ (at-loop .loop .inv) (c .before .before .before .loop-test .taken)
     (c .before .if1 .left) (begun .pre) (c .if2 .left)
 
 returns-2 : tie.Need-returns-2 Inv-loop μ-loop
 returns-2 c =
-    let at-loop = c .before in
-    let begun = at-loop .before in
+    let at-loop = c .before in let begun = at-loop .before in
     record {
       none = λ e. search-end (begun .args .count) (begun .args .need .now) _ _ _ (at-loop .loop .inv) (c .loop-test .left);
       first-is = λ h. absurd (omega (arith, h));
@@ -108,20 +99,5 @@ returns-2 c =
 
 pub search-spec : {M : Type 1} → statement M
 search-spec =
-    tie.close
-    (tie.spec
-    Inv-loop
-    μ-loop
-    loop-holds
-    add-tried
-    mul-if1
-    element-copy-out-if1
-    returns
-    add-if2
-    add-first
-    loop-less
-    loop-again
-    add-size
-    loop-less-2
-    loop-again-2
-    returns-2)
+    tie.close (tie.spec Inv-loop μ-loop (λ c. search-start _ _) add-tried mul-if1 element-copy-out-if1 returns add-if2 add-first loop-less loop-again
+    add-size loop-less-2 loop-again-2 returns-2)

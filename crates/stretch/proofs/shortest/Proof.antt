@@ -1,54 +1,40 @@
 -- Each answer is that of the first "no": the table's, the recording's, 22, and then the row's.
-use Rattle.constraint.proofs.Library.{arith, needs, _≡_, refl, now}
-use Rattle.constraint.specs.Records.{rowsOf, tableOf}
-use Rattle.constraint.specs.Table.{ReadsTableUpTo, table-of, table-refused}
+use Rattle.constraint.proofs.Library.{_≡_, arith, needs, now, refl}
+use Rattle.constraint.specs.{Records.rowsOf, Records.tableOf, Stretches.answers, Stretches.no-recording, Stretches.no-table, Table.ReadsTableUpTo}
+use Rattle.constraint.specs.{Table.table-of, Table.table-refused}
 use Rattle.queue.proofs.Shared.{free}
+use Rattle.stretch.proofs.{Answers.run-of, Answers.too-many, shortest.Statement.statement}
 use Rattle.table.proofs.AcceptedRows.{read-accepted}
-use Rattle.constraint.specs.Stretches.{no-table, no-recording, answers}
-use Rattle.stretch.proofs.Answers.{run-of, too-many}
-use Rattle.stretch.proofs.shortest.Statement.{statement}
 use Rattle.stretch.proofs.shortest.Tie as tie
 
 -- the refusal that was read
 refusal : (c : tie.After-answer) → ReadsTableUpTo (c .before .before .before .before .before .args .newest)
-    (now (c .before .before .before .before .before .args .table))
-    (table-refused (c .answer .given .0 .0) (c .answer .given .0 .1 .0))
+    (now (c .before .before .before .before .before .args .table)) (table-refused (c .answer .given .0 .0) (c .answer .given .0 .1 .0))
 refusal c = rw (c .answer .given .1) at (c .before .before .read .ensures .reads)
 
 -- the rows that were read
 rows-read : (c : tie.After-enum-told) → ReadsTableUpTo (c .before .before .before .before .before .args .newest)
-    (now (c .before .before .before .before .before .args .table))
-    (table-of (rowsOf (c .before .before .read .result .table)))
+    (now (c .before .before .before .before .before .args .table)) (table-of (rowsOf (c .before .before .read .result .table)))
 rows-read c = rw (c .enum-told .given .1) at (c .before .before .read .ensures .reads)
 
 rows-held : (c : tie.After-enum-told) → c .before .before .read .result .table ≡ tableOf (rowsOf (c .before .before .read .result .table))
 rows-held c = rw (c .enum-told .given .1) at (c .before .before .read .ensures .holds)
 
-returns : tie.Need-returns
-returns c = no-table _ _ (refusal (c .before))
-
-gather-requires : tie.Need-gather-requires
-gather-requires c κs = (refl, refl)
-
 returns-2 : tie.Need-returns-2
 returns-2 c =
-    let at-gather = c .before .before in
-    let at-enum = at-gather .before .before .before in
+    let at-gather = c .before .before in let at-enum = at-gather .before .before .before in
     no-recording _ _ _ (rows-read at-enum) (at-gather .gather .ensures .refused (c .if1 .taken))
 
 returns-3 : tie.Need-returns-3
 returns-3 c =
-    let at-gather = c .before .before .before in
-    let at-enum = at-gather .before .before .before in
+    let at-gather = c .before .before .before in let at-enum = at-gather .before .before .before in
     let taken = at-gather .gather .ensures .taken (omega (arith, c .before .if1 .left)) in
     answers _ (taken .0) (rows-read at-enum) (taken .1) (too-many _ (taken .0) _ _ (taken .2) (c .if2 .taken))
 
 returns-4 : tie.Need-returns-4
 returns-4 c =
-    let passed = c .before .before .before .before in
-    let at-gather = passed .before .before .before in
-    let at-enum = at-gather .before .before .before in
-    let begun = at-enum .before .before .before .before .before in
+    let passed = c .before .before .before .before in let at-gather = passed .before .before .before in
+    let at-enum = at-gather .before .before .before in let begun = at-enum .before .before .before .before .before in
     let taken = at-gather .gather .ensures .taken (omega (arith, passed .before .if1 .left)) in
     let rows = rowsOf (at-enum .before .before .read .result .table) in
     answers rows (taken .0) (rows-read at-enum) (taken .1)
@@ -57,4 +43,5 @@ returns-4 c =
 
 pub shortest-spec : {M : Type 1} → statement M
 shortest-spec =
-    tie.close (tie.spec free (λ c. search needs) returns (λ c. search needs) gather-requires returns-2 returns-3 (λ c κs. search needs) returns-4)
+    tie.close (tie.spec free (λ c. search needs) (λ c. no-table _ _ (refusal (c .before))) (λ c. search needs) (λ c κs. (refl, refl)) returns-2
+    returns-3 (λ c κs. search needs) returns-4)

@@ -1,11 +1,9 @@
 -- The number is that of the stretch, or that of the refusal, which is above 0, and its place.
-use Rattle.constraint.proofs.Library.{arith, needs, ℕ, _<_, _≡_, refl, now}
 use Rattle.constraint.proofs.Judged.{never}
+use Rattle.constraint.proofs.Library.{_<_, _≡_, arith, needs, now, refl, ℕ}
+use Rattle.constraint.specs.{Stretches.AnswersStretchUpTo, declared.StretchAnswer.StretchAnswer}
 use Rattle.queue.proofs.Shared.{free}
-use Rattle.constraint.specs.Stretches.{AnswersStretchUpTo}
-use Rattle.constraint.specs.declared.StretchAnswer.{StretchAnswer}
-use Rattle.stretch_host.proofs.StretchNumbers.{stretch-above}
-use Rattle.stretch_host.proofs.stretch_number.Statement.{statement}
+use Rattle.stretch_host.proofs.{StretchNumbers.stretch-above, stretch_number.Statement.statement}
 use Rattle.stretch_host.proofs.stretch_number.Tie as tie
 
 -- the number of a refusal is small
@@ -24,8 +22,7 @@ stretch-parts first size tried a b c one two three e =
 
 returns : tie.Need-returns
 returns c =
-    let at-answer = c .before in
-    let given = at-answer .answer .given in
+    let at-answer = c .before in let given = at-answer .answer .given in
     record {
       answer = StretchAnswer.Found (given .0 .0) (given .0 .1 .0) (given .0 .1 .1 .0);
       answers = rw (given .1) at (at-answer .before .before .shortest .ensures);
@@ -37,8 +34,7 @@ returns c =
 
 returns-2 : tie.Need-returns-2
 returns-2 c =
-    let at-answer = c .before .before in
-    let args = at-answer .before .before .before .before .before .args in
+    let at-answer = c .before .before in let args = at-answer .before .before .before .before .before .args in
     let given = at-answer .answer2 .given in
     let says : AnswersStretchUpTo (args .newest) (now (args .table)) (now (args .recording)) (args .row)
     (StretchAnswer.Refused (given .0 .0) (given .0 .1 .0)) =

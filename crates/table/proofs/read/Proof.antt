@@ -1,8 +1,5 @@
 -- The version byte is asked for first, and then the rows of its edition.
-use Rattle.constraint.proofs.Library.{ℕ, needs, subst, now}
-use Rattle.constraint.specs.Table.{VersionUpTo, ReadsRows, version-refused, version-taken}
-use Rattle.constraint.proofs.Judged.{passed, failed}
-use Rattle.table.specs.Reading.{readOf}
+use Rattle.table.proofs.Names.{ReadsRows, VersionUpTo, failed, needs, now, passed, readOf, subst, version-refused, version-taken, ℕ}
 use Rattle.table.proofs.read.Statement.{statement}
 use Rattle.table.proofs.read.Tie as tie
 
@@ -11,8 +8,7 @@ version c = passed (c .before .version-known .result) (c .before .version-known 
 
 returns : tie.Need-returns
 returns c =
-    let refused = c .refused .ensures in
-    let test = c .before .before .version-known in
+    let refused = c .refused .ensures in let test = c .before .before .version-known in
     record {
       reads = rw (refused .0) (version-refused (failed (test .result) (test .ensures) (c .before .if1 .taken)));
       holds = rw (refused .0) (refused .1);
@@ -20,9 +16,7 @@ returns c =
 
 returns-2 : tie.Need-returns-2
 returns-2 c =
-    let edition = c .before .byte-at in
-    let a = c .before .before .before .before .before .args in
-    let read = c .read-rows in
+    let edition = c .before .byte-at in let a = c .before .before .before .before .before .args in let read = c .read-rows in
     record {
       reads = version-taken (version (c .before .before))
           (subst (λ (e : ℕ). ReadsRows e (now (a .bytes)) 0 1 (readOf (read .result))) (edition .ensures) (read .ensures .0));

@@ -1,15 +1,7 @@
 -- The rows' questions are put first, then the room's; then the version byte and the rows are stored.
-use Rattle.constraint.proofs.Library.{arith, needs, _≤_, [], now}
-use Rattle.constraint.specs.Limits.{rowLimit}
-use Rattle.constraint.specs.Questions.{Judged}
-use Rattle.constraint.specs.Accepted.{rowsQuestions}
-use Rattle.constraint.specs.Records.{rowsOf}
-use Rattle.constraint.specs.Table.{tableBytesIn}
-use Rattle.constraint.specs.declared.Answer.the-variants.{Taken}
-use Rattle.constraint.proofs.Rows.{rows-length}
-use Rattle.constraint.proofs.Accepted.{rows-room}
-use Rattle.table.proofs.Written.{written-refused, written-short, written-all}
-use Rattle.table.proofs.write.Statement.{statement}
+use Rattle.table.proofs.Names.{Judged, Taken, [], _≤_, arith, needs, now, rowLimit, rows-length, rows-room, rowsOf, rowsQuestions}
+use Rattle.table.proofs.Names.{tableBytesIn}
+use Rattle.table.proofs.{Written.written-all, Written.written-refused, Written.written-short, write.Statement.statement}
 use Rattle.table.proofs.write.Tie as tie
 
 taken : (c : tie.After-enum-told)
@@ -23,32 +15,27 @@ few c =
 
 returns : tie.Need-returns
 returns c =
-    let at-judge = c .before .before .before in
-    let a = at-judge .before .before .args in
+    let at-judge = c .before .before .before in let a = at-judge .before .before .args in
     written-refused (a .edition) (rowsOf (a .table)) (now (a .buffer)) _ (rw (c .before .number .given .1) at (at-judge .judge .ensures))
 
 returns-2 : tie.Need-returns-2
 unfolding tableBytesIn
 returns-2 c =
-    let at-taken = c .before .before in
-    let a = at-taken .before .before .before .before .args in
+    let at-taken = c .before .before in let a = at-taken .before .before .before .before .args in
     written-short (a .edition) (rowsOf (a .table)) (now (a .buffer)) (taken at-taken) (omega (arith, c .before .size-of .ensures))
 
 put-rows-requires : tie.Need-put-rows-requires
 put-rows-requires c κs =
-    let at-room = c .before .before .before .before .before in
-    let at-size = at-room .before in
+    let at-room = c .before .before .before .before .before in let at-size = at-room .before in
     (few (at-size .before), omega (arith, at-room .if1 .left, at-size .size-of .ensures, c .before .before .before .put-byte .kept .0))
 
 returns-3 : tie.Need-returns-3
 unfolding tableBytesIn
 returns-3 c =
-    let at-room = c .before .before .before .before .before .before .before .before in
-    let at-size = at-room .before in
+    let at-room = c .before .before .before .before .before .before .before .before in let at-size = at-room .before in
     let a = at-size .before .before .before .before .before .args in
     written-all (a .edition) (rowsOf (a .table)) (now (a .buffer)) _ _ _ (taken (at-size .before))
-    (omega (arith, at-room .if1 .left, at-size .size-of .ensures))
-    (omega (arith, at-size .size-of .ensures))
+    (omega (arith, at-room .if1 .left, at-size .size-of .ensures)) (omega (arith, at-size .size-of .ensures))
     (c .before .before .before .before .before .before .put-byte .ensures) (c .before .before .put-rows .ensures)
 
 pub write-spec : {M : Type 1} → statement M

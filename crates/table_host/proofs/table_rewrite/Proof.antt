@@ -1,15 +1,13 @@
 -- The rows that are written are those that were read.
 use Rattle.constraint.proofs.Library.{needs, now}
 use Rattle.table.proofs.Answers.{reads-as}
-use Rattle.table_host.specs.Codes.{not-read, rewritten}
 use Rattle.table_host.proofs.table_rewrite.Statement.{statement}
+use Rattle.table_host.specs.Codes.{not-read, rewritten}
 use Rattle.table_host.proofs.table_rewrite.Tie as tie
 
 returns : tie.Need-returns
 returns c =
-    let at-write = c .before .before .before in
-    let at-enum = at-write .before .before in
-    let at-read = at-enum .before .before .before in
+    let at-write = c .before .before .before in let at-enum = at-write .before .before in let at-read = at-enum .before .before .before in
     let edition = at-read .before .byte-at in
     let bytes = now (at-read .before .before .before .before .args .bytes) in
     let r = at-read .read in
@@ -18,9 +16,7 @@ returns c =
 
 returns-2 : tie.Need-returns-2
 returns-2 c =
-    let at-answer = c .before .before in
-    let at-read = at-answer .before .before .before in
-    let r = at-read .read in
+    let at-answer = c .before .before in let at-read = at-answer .before .before .before in let r = at-read .read in
     not-read _ _ (reads-as (now (at-read .before .before .before .before .args .bytes)) (r .result) _ (at-answer .answer .given .1) (r .ensures))
     (c .refusal-code .ensures)
 

@@ -7,7 +7,7 @@ use Rattle.thin.specs.{Number.steppedFrom, declared.Numbered.Numbered}
 use base.Fml.{GName, Lft, Share, fat, fbor, flft, fobs, ftrue}
 use base.Logic.{SProp, emp, ent, fst∗, id⊢, sep, via}
 use contract.{Monad.Fun, Monad.fact, Running.givenOf, Running.tables, Running.tablesOf}
-use denote.Steps.{closes, facts, after-event, nothing, only, opens, owned}
+use denote.Steps.{after-event, closes, facts, nothing, only, opens, owned}
 use denote.{Exit.yes, Laws.Is, Laws.Makes, Laws.Typed, Laws.shows, Memory.cellAt, Memory.lone, Memory.mem, Plain.UInt, Plain.uint-lawful}
 use denote.{Plain.uint-makes, RattleType.RattleType, RattleType.owns, Signature.plain, Signature.typesAt}
 use denote.Struct.Steps.{spelt}

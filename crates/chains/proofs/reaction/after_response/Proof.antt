@@ -1,6 +1,6 @@
 -- The tests are those of `afterResponse`, in its order.
-use Rattle.constraint.proofs.Library.{needs, eq-eqb, ne-eqb, lt-ltb, le-ltb}
 use Rattle.chains.proofs.reaction.after_response.Statement.{statement}
+use Rattle.constraint.proofs.Library.{eq-eqb, le-ltb, lt-ltb, ne-eqb, needs}
 use Rattle.chains.proofs.reaction.after_response.Tie as tie
 
 returns : tie.Need-returns

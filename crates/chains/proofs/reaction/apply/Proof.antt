@@ -1,21 +1,16 @@
 -- The words of the event's colour are those of the definition, and so is what the event makes of them.
-use Rattle.constraint.proofs.Library.{_+_, _*_, _%_, _≡_, refl, ap, _∙_, cond, eqb, getD, eq-eqb, ne-eqb, needs}
-use Rattle.constraint.specs.Streams.{kindOf}
-use Rattle.queue.specs.Ring.{ring}
-use Rattle.machine.specs.Words.{rowWords, numberWords, changedWords, noneKept}
-use Rattle.chains.specs.Reaction.{afterStimulus, afterResponse, paired, decideReaction}
-use Rattle.chains.specs.declared.reaction.Pair.{Pair}
 use Rattle.chains.proofs.reaction.apply.Statement.{statement}
+use Rattle.chains.specs.{Reaction.afterResponse, Reaction.afterStimulus, Reaction.decideReaction, Reaction.paired, declared.reaction.Pair.Pair}
+use Rattle.constraint.proofs.Library.{_%_, _*_, _+_, _∙_, _≡_, ap, cond, eq-eqb, eqb, getD, ne-eqb, needs, refl}
+use Rattle.constraint.specs.Streams.{kindOf}
+use Rattle.machine.specs.Words.{changedWords, noneKept, numberWords, rowWords}
+use Rattle.queue.specs.Ring.{ring}
 use Rattle.chains.proofs.reaction.apply.Tie as tie
 
 returns : tie.Need-returns
 unfolding rowWords numberWords decideReaction
 returns c rule times state past e =
-    let a = c .before .before in
-    let i = a .before .before .before in
-    let k = i .before .before in
-    let h = k .before in
-    let l = h .before .before in
+    let a = c .before .before in let i = a .before .before .before in let k = i .before .before in let h = k .before in let l = h .before .before in
     let s = l .before .before .before .before .args in
     let words = ring times (state .head) (state .len) in
     let low = getD words (2 * (s .stream % 8)) 0 in
@@ -29,11 +24,7 @@ returns c rule times state past e =
 returns-2 : tie.Need-returns-2
 unfolding rowWords numberWords decideReaction
 returns-2 c rule times state past e =
-    let a = c .before in
-    let i = a .before .before in
-    let k = i .before .before in
-    let h = k .before in
-    let l = h .before .before in
+    let a = c .before in let i = a .before .before in let k = i .before .before in let h = k .before in let l = h .before .before in
     let s = l .before .before .before .before .args in
     let words = ring times (state .head) (state .len) in
     let low = getD words (2 * (s .stream % 8)) 0 in

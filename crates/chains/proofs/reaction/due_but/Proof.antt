@@ -1,8 +1,8 @@
 -- The loop goes from colour to colour: the due time so far is that of those passed.
-use Rattle.constraint.proofs.Library.{arith, _-_, _≤_, add-one, _≡_, refl}
-use Rattle.queue.specs.Ring.{ring}
-use Rattle.chains.specs.Reaction.{dueBut}
 use Rattle.chains.proofs.reaction.due_but.Statement.{statement}
+use Rattle.chains.specs.Reaction.{dueBut}
+use Rattle.constraint.proofs.Library.{_-_, _≡_, _≤_, add-one, arith, refl}
+use Rattle.queue.specs.Ring.{ring}
 use Rattle.chains.proofs.reaction.due_but.Tie as tie
 
 abbrev Inv-loop : tie.InvT-loop

@@ -1,7 +1,7 @@
 -- A pair that breaks the row, or one that is stored with the due time that it leaves.
-use Rattle.constraint.proofs.Library.{refl, ap, [], getD, needs}
-use Rattle.machine.specs.Words.{rowWords, numberWords, changedWords}
 use Rattle.chains.proofs.reaction.store.Statement.{statement}
+use Rattle.constraint.proofs.Library.{[], ap, getD, needs, refl}
+use Rattle.machine.specs.Words.{changedWords, numberWords, rowWords}
 use Rattle.chains.proofs.reaction.store.Tie as tie
 
 returns : tie.Need-returns
@@ -11,10 +11,7 @@ returns c rule times state past e = rw (c .break-at .ensures rule times state pa
 returns-2 : tie.Need-returns-2
 unfolding rowWords numberWords changedWords
 returns-2 c rule times state past e =
-    let o = c .before in
-    let s = o .before .before in
-    let d = s .before .before in
-    let i = d .before .before .before .before in
+    let o = c .before in let s = o .before .before in let d = s .before .before in let i = d .before .before .before .before in
     let stored = s .put-two .ensures rule times state past e in
     let done = c .settle .ensures rule _ _ (ap (λ m. getD m 1 []) stored) in
     rw (done, o .one-if .ensures, rw e at (d .due-but .ensures), stored, i .if1 .left) refl

@@ -1,17 +1,14 @@
 -- A place within the row is that of the ring, and past its end there is none.
-use Rattle.constraint.proofs.Library.{needs, arith, _≡_, refl, sym, _∙_, ℕ, zero, suc, _≤_, List, [], _∷_, length, getD, now}
-use Rattle.queue.specs.Ring.{ring}
-use Rattle.queue.proofs.Laws.{ring-length, ring-read}
 use Rattle.chains.proofs.reaction.word.Statement.{statement}
+use Rattle.constraint.proofs.Library.{List, [], _∙_, _∷_, _≡_, _≤_, arith, getD, length, needs, now, refl, suc, sym, zero, ℕ}
+use Rattle.queue.proofs.Laws.{ring-length, ring-read}
+use Rattle.queue.specs.Ring.{ring}
 use Rattle.chains.proofs.reaction.word.Tie as tie
 
 past-end : (list : List ℕ) (i : ℕ) → length list ≤ i → getD list i 0 ≡ 0
 past-end [] i h = refl
 past-end (x ∷ list) zero h = absurd (omega arith)
 past-end (x ∷ list) (suc i) h = past-end list i (omega arith)
-
-returns : tie.Need-returns
-returns c = c .time-at .ensures ∙ ring-read _ _ _ _ (c .before .if1 .taken)
 
 returns-2 : tie.Need-returns-2
 returns-2 c =
@@ -20,5 +17,4 @@ returns-2 c =
     sym (past-end list (a .i) (omega (arith, ring-length (now (a .times)) (a .head) (a .len), c .if1 .left)))
 
 pub word-spec : {M : Type 1} → statement M
-word-spec =
-    tie.close (tie.spec (λ c κs. search needs) returns returns-2)
+word-spec = tie.close (tie.spec (λ c κs. search needs) (λ c. c .time-at .ensures ∙ ring-read _ _ _ _ (c .before .if1 .taken)) returns-2)

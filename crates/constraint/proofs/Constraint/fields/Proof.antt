@@ -1,8 +1,6 @@
 -- In each case the line of the table of types and the values make the fields of the row. The lines are made by release/row-types.py.
-use mathlib.Core.Path.{refl}
-use Rattle.constraint.specs.Records.{fieldsAs}
-use Rattle.constraint.proofs.Judged.{free}
-use Rattle.constraint.proofs.Constraint.fields.Statement.{statement}
+use Rattle.constraint.proofs.Names.{fieldsAs, refl}
+use Rattle.constraint.proofs.{Constraint.fields.Statement.statement, Judged.free}
 use Rattle.constraint.proofs.Constraint.fields.Tie as tie
 
 pub fields-spec : {M : Type 1} → statement M

@@ -1,19 +1,8 @@
 -- The loop puts to each row its questions in turn: the answer to those of the rows left is the answer to all.
-use native.Mathlib.Omega.{arith}
-use borrow.Author.Needs.{needs}
-use Prim.Native.Nat.{_+_, _≤_, _-_}
-use mathlib.Core.Path.{_≡_, sym, _∙_, subst⁻¹}
-use mathlib.Core.List.{[]}
-use lib.ListN.{length, drop, length-map, drop-of-length-le}
-use Rattle.constraint.proofs.Judged.{judged-none}
-use Rattle.constraint.proofs.Rows.{rows-length, rows-from}
-use Rattle.constraint.proofs.Accepted.{rows-taken, rows-refused, rows-full}
-use Rattle.constraint.specs.Questions.{Judged}
-use Rattle.constraint.specs.Accepted.{rowsQuestions}
-use Rattle.constraint.specs.Records.{rowsOf}
-use Rattle.constraint.specs.declared.Answer.{Answer}
-use Rattle.constraint.specs.declared.Answer.the-variants.{Taken, Refused}
-use Rattle.constraint.proofs.Table.judge.Statement.{statement}
+use Rattle.constraint.proofs.Names.{Answer, Judged, Refused, Taken, [], _+_, _-_, _∙_, _≡_, _≤_, arith, drop, drop-of-length-le, length}
+use Rattle.constraint.proofs.Names.{length-map, needs, rowsOf, rowsQuestions, subst⁻¹, sym}
+use Rattle.constraint.proofs.Accepted.{rows-full, rows-refused, rows-taken}
+use Rattle.constraint.proofs.{Judged.judged-none, Rows.rows-from, Rows.rows-length, Table.judge.Statement.statement}
 use Rattle.constraint.proofs.Table.judge.Tie as tie
 
 abbrev Inv-loop : tie.InvT-loop
@@ -29,17 +18,13 @@ size c = sym (length-map (c .before .args .t1 .rows) _) ∙ c .before .good .0 .
 
 returns : tie.Need-returns Inv-loop μ-loop
 returns c =
-    let table = c .before .before .before .args .t1 in
-    let loop = c .before .before .loop in
+    let table = c .before .before .before .args .t1 in let loop = c .before .before .loop in
     loop .inv .1 _ (rows-full _ (loop .i) (rowsOf table) [] (omega (arith, rows-length table)) (c .if1 .taken))
 
 returns-2 : tie.Need-returns-2 Inv-loop μ-loop
 returns-2 c =
-    let at-judge = c .before .before .before in
-    let at-loop = at-judge .before .before .before .before in
-    let table = at-loop .before .args .t1 in
-    let edition = at-loop .before .args .edition in
-    let i = at-loop .loop .i in
+    let at-judge = c .before .before .before in let at-loop = at-judge .before .before .before .before in let table = at-loop .before .args .t1 in
+    let edition = at-loop .before .args .edition in let i = at-loop .loop .i in
     at-loop .loop .inv .1 _
     (subst⁻¹ (λ rows. Judged (rowsQuestions edition i rows []) (Refused (c .before .number .given .0 .0)))
     (rows-from table i _ (omega arith) (omega (arith, size at-loop)))
@@ -47,11 +32,8 @@ returns-2 c =
 
 loop-again : tie.Need-loop-again Inv-loop μ-loop
 loop-again c =
-    let at-judge = c .before .before in
-    let at-loop = at-judge .before .before .before .before in
-    let table = at-loop .before .args .t1 in
-    let edition = at-loop .before .args .edition in
-    let i = at-loop .loop .i in (
+    let at-judge = c .before .before in let at-loop = at-judge .before .before .before .before in let table = at-loop .before .args .t1 in
+    let edition = at-loop .before .args .edition in let i = at-loop .loop .i in (
       omega arith,
       λ a later.
           at-loop .loop .inv .1 a
@@ -63,8 +45,7 @@ loop-again c =
 returns-3 : tie.Need-returns-3 Inv-loop μ-loop
 unfolding rowsQuestions
 returns-3 c =
-    let at-loop = c .before in
-    let table = at-loop .before .args .t1 in
+    let at-loop = c .before in let table = at-loop .before .args .t1 in
     at-loop .loop .inv .1 Taken
     (rw (drop-of-length-le (rowsOf table) {i = at-loop .loop .i} (omega (arith, rows-length table))) judged-none)
 

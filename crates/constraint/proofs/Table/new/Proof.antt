@@ -1,6 +1,5 @@
 -- An array of the filler is the array of the record with no row.
-use mathlib.Core.Path.{refl}
-use Rattle.constraint.specs.Records.{tableOf}
+use Rattle.constraint.proofs.Names.{refl, tableOf}
 use Rattle.constraint.proofs.Table.new.Statement.{statement}
 use Rattle.constraint.proofs.Table.new.Tie as tie
 

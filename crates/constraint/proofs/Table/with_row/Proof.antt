@@ -1,9 +1,5 @@
 -- The row goes into the entry that the count says, where there is one; of a full table only the count is changed.
-use native.Mathlib.Omega.{arith}
-use borrow.Author.Needs.{needs}
-use Prim.Native.Nat.{_+_, max}
-use mathlib.Core.Path.{_≡_, refl}
-use Rattle.constraint.specs.Limits.{rowLimit}
+use Rattle.constraint.proofs.Names.{_+_, _≡_, arith, max, needs, refl, rowLimit}
 use Rattle.constraint.proofs.Table.with_row.Statement.{statement}
 use Rattle.constraint.proofs.Table.with_row.Tie as tie
 

@@ -1,20 +1,17 @@
 -- A span or a maximum is asked to be from 1 to its limit, and of a byte of another role nothing is asked.
-use native.Mathlib.Omega.{arith}
-use Rattle.constraint.proofs.FieldByField.{span-range, span-test}
-use Rattle.constraint.proofs.fields.byte_fits.Statement.{statement}
+use Rattle.constraint.proofs.Names.{arith}
+use Rattle.constraint.proofs.{FieldByField.span-range, FieldByField.span-test, fields.byte_fits.Statement.statement}
 use Rattle.constraint.proofs.fields.byte_fits.Tie as tie
 
 returns-5 : tie.Need-returns-5
 returns-5 c =
-    let b = c .before .before in
-    let a = b .before .before .before .args in
+    let b = c .before .before in let a = b .before .before .before .args in
     rw (span-range (a .role) (a .value) (b .before .before .if1 .left) (b .before .if2 .left) (b .if3 .left) (c .before .if4 .left))
     (λ h. omega arith)
 
 returns-6 : tie.Need-returns-6
 returns-6 c =
-    let b = c .before .before in
-    let a = b .before .before .before .args in
+    let b = c .before .before in let a = b .before .before .before .args in
     rw (span-range (a .role) (a .value) (b .before .before .if1 .left) (b .before .if2 .left) (b .if3 .left) (c .before .if4 .left))
     (span-test (a .role) (a .value) (c .if5 .left))
 

@@ -1,12 +1,7 @@
 -- The loop asks field after field: the answer to what is asked of those left is the answer to all.
-use native.Mathlib.Omega.{arith}
-use Prim.Native.Nat.{_-_, _≤_}
-use mathlib.Core.Bool.{Bool, true, false}
-use Rattle.constraint.specs.Records.{Decides, byteField, bytesFrom}
-use Rattle.constraint.specs.Accepted.{FieldsInRange}
-use Rattle.constraint.proofs.Judged.{free, passed, failed}
-use Rattle.constraint.proofs.FieldByField.{fields-end, range-wise, field-here, field-missed}
-use Rattle.constraint.proofs.fields.bytes_fit.Statement.{statement}
+use Rattle.constraint.proofs.Names.{Bool, Decides, FieldsInRange, _-_, _≤_, arith, byteField, bytesFrom, false, true}
+use Rattle.constraint.proofs.FieldByField.{field-here, field-missed, fields-end, range-wise}
+use Rattle.constraint.proofs.{Judged.failed, Judged.free, Judged.passed, fields.bytes_fit.Statement.statement}
 use Rattle.constraint.proofs.fields.bytes_fit.Tie as tie
 
 abbrev Inv-loop : tie.InvT-loop
@@ -18,18 +13,14 @@ abbrev μ-loop : tie.MeasureT-loop
 
 returns : tie.Need-returns Inv-loop μ-loop
 returns c =
-    let at-loop = c .before .before .before in
-    let a = at-loop .before .args in
-    let test = c .before .byte-fits in
+    let at-loop = c .before .before .before in let a = at-loop .before .args in let test = c .before .byte-fits in
     at-loop .loop .inv .1 false
     (field-missed range-wise byteField (a .t1) (a .t2) (at-loop .loop .i) (omega arith) (omega arith)
     (failed (test .result) (test .ensures) (c .if1 .taken)))
 
 loop-again : tie.Need-loop-again Inv-loop μ-loop
 loop-again c =
-    let at-loop = c .before .before .before in
-    let a = at-loop .before .args in
-    let test = c .before .byte-fits in
+    let at-loop = c .before .before .before in let a = at-loop .before .args in let test = c .before .byte-fits in
     let here = passed (test .result) (test .ensures) (c .if1 .left) in (
       omega arith,
       λ b later. at-loop .loop .inv .1 b (field-here range-wise byteField (a .t1) (a .t2) (at-loop .loop .i) (omega arith)

@@ -1,5 +1,5 @@
 -- The two tests are those of `isKind`, in its order.
-use borrow.Author.Tests.{eq-eqb, ne-eqb}
+use Rattle.constraint.proofs.Names.{eq-eqb, ne-eqb}
 use Rattle.constraint.proofs.fields.is_kind.Statement.{statement}
 use Rattle.constraint.proofs.fields.is_kind.Tie as tie
 

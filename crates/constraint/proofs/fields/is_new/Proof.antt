@@ -1,14 +1,7 @@
 -- The loop goes from byte to byte: where none before was the kind, the answer to what is asked of those left is the answer to all.
-use native.Mathlib.Omega.{arith}
-use Prim.Native.Nat.{_-_, _≤_}
-use mathlib.Core.Path.{sym, _∙_}
-use mathlib.Core.Bool.{Bool, true, false}
-use mathlib.Core.Logic.{⊎-elim}
-use Rattle.constraint.specs.Records.{Decides, Absent, byteField, bytesFrom}
-use Rattle.constraint.specs.Accepted.{kindsIn}
-use Rattle.constraint.proofs.Judged.{free, same-test}
-use Rattle.constraint.proofs.FieldByField.{fields-end, kind-here, kind-elsewhere}
-use Rattle.constraint.proofs.fields.is_new.Statement.{statement}
+use Rattle.constraint.proofs.Names.{Absent, Bool, Decides, _-_, _∙_, _≤_, arith, byteField, bytesFrom, false, kindsIn, sym, true, ⊎-elim}
+use Rattle.constraint.proofs.FieldByField.{fields-end, kind-elsewhere, kind-here}
+use Rattle.constraint.proofs.{Judged.free, Judged.same-test, fields.is_new.Statement.statement}
 use Rattle.constraint.proofs.fields.is_new.Tie as tie
 
 abbrev Inv-loop : tie.InvT-loop
@@ -21,16 +14,14 @@ abbrev μ-loop : tie.MeasureT-loop
 
 returns : tie.Need-returns Inv-loop μ-loop
 returns c =
-    let at-loop = c .before .before .before .before in
-    let a = at-loop .before .args in
+    let at-loop = c .before .before .before .before in let a = at-loop .before .args in
     let is = sym (c .before .before .is-kind .ensures) ∙ c .before .if1 .taken in
     at-loop .loop .inv .1 false
     (λ absent. (rw (kind-here (a .t2) (a .t3) (at-loop .loop .i) (omega arith) (omega arith) is) at absent) .0 (sym (c .if2 .taken)))
 
 loop-again : tie.Need-loop-again Inv-loop μ-loop
 loop-again c =
-    let at-loop = c .before .before .before in
-    let a = at-loop .before .args in
+    let at-loop = c .before .before .before in let a = at-loop .before .args in
     let is = sym (c .before .is-kind .ensures) in
     let i = at-loop .loop .i in (
       omega arith,

@@ -1,16 +1,8 @@
 -- The loop goes from byte to byte: each kind is asked to be at most 63 and none of the later ones, and the later ones fit by the turns to come.
-use native.Mathlib.Omega.{arith}
-use Prim.Native.Nat.{_-_, _≤_}
-use mathlib.Core.Path.{sym, _∙_}
-use mathlib.Core.Bool.{Bool, true, false}
-use mathlib.Core.Logic.{⊎-elim}
-use Rattle.constraint.specs.Steps.{at}
-use Rattle.constraint.specs.Records.{Decides, byteField, bytesFrom}
-use Rattle.constraint.specs.Accepted.{kindsIn, KindsFit}
-use Rattle.constraint.proofs.Judged.{free, passed, failed, same-test}
-use Rattle.constraint.proofs.FittingKinds.{kinds-none, kinds-more, kinds-first, kinds-rest}
-use Rattle.constraint.proofs.FieldByField.{fields-end, kind-here, kind-elsewhere}
-use Rattle.constraint.proofs.fields.kinds_fit.Statement.{statement}
+use Rattle.constraint.proofs.Names.{Bool, Decides, KindsFit, _-_, _∙_, _≤_, arith, at, byteField, bytesFrom, false, kindsIn, sym, true, ⊎-elim}
+use Rattle.constraint.proofs.{FieldByField.fields-end, FieldByField.kind-elsewhere, FieldByField.kind-here, FittingKinds.kinds-first}
+use Rattle.constraint.proofs.{FittingKinds.kinds-more, FittingKinds.kinds-none, FittingKinds.kinds-rest, Judged.failed, Judged.free}
+use Rattle.constraint.proofs.{Judged.passed, Judged.same-test, fields.kinds_fit.Statement.statement}
 use Rattle.constraint.proofs.fields.kinds_fit.Tie as tie
 
 abbrev Inv-loop : tie.InvT-loop
@@ -22,17 +14,14 @@ abbrev μ-loop : tie.MeasureT-loop
 
 returns : tie.Need-returns Inv-loop μ-loop
 returns c =
-    let at-loop = c .before .before .before .before in
-    let a = at-loop .before .args in
+    let at-loop = c .before .before .before .before in let a = at-loop .before .args in
     let is = sym (c .before .before .is-kind .ensures) ∙ c .before .if1 .taken in
     at-loop .loop .inv .1 false
     (λ fit. let first = kinds-first _ _ (rw (kind-here (a .t1) (a .t2) (at-loop .loop .i) (omega arith) (omega arith) is) at fit) in omega arith)
 
 returns-2 : tie.Need-returns-2 Inv-loop μ-loop
 returns-2 c =
-    let at-kind = c .before .before .before .before in
-    let at-loop = at-kind .before .before in
-    let a = at-loop .before .args in
+    let at-kind = c .before .before .before .before in let at-loop = at-kind .before .before in let a = at-loop .before .args in
     let is = sym (at-kind .is-kind .ensures) ∙ c .before .before .before .if1 .taken in
     let test = c .before .is-new in
     at-loop .loop .inv .1 false
@@ -41,8 +30,7 @@ returns-2 c =
 
 loop-again : tie.Need-loop-again Inv-loop μ-loop
 loop-again c =
-    let at-loop = c .before .before .before in
-    let a = at-loop .before .args in
+    let at-loop = c .before .before .before in let a = at-loop .before .args in
     let is = sym (c .before .is-kind .ensures) in
     let i = at-loop .loop .i in (
       omega arith,

@@ -1,15 +1,7 @@
 -- The loop keeps the lower that it passed: what is asked of the times left, with that lower before them, is what is asked of all.
-use native.Mathlib.Omega.{arith}
-use Prim.Native.Nat.{_-_, _≤_}
-use mathlib.Core.Bool.{Bool, true}
-use mathlib.Core.Logic.{⊎-elim}
-use lib.Dec.{leb}
-use Rattle.constraint.specs.Steps.{at}
-use Rattle.constraint.specs.Records.{Decides, timeField, timesFrom}
-use Rattle.constraint.specs.Accepted.{NotBelow}
-use Rattle.constraint.proofs.Judged.{test-le}
-use Rattle.constraint.proofs.FieldByField.{fields-end, bounds-lower, bounds-upper, bounds-upper-or-none, bounds-other}
-use Rattle.constraint.proofs.fields.lower_first.Statement.{statement}
+use Rattle.constraint.proofs.Names.{Bool, Decides, NotBelow, _-_, _≤_, arith, at, leb, timeField, timesFrom, true, ⊎-elim}
+use Rattle.constraint.proofs.FieldByField.{bounds-lower, bounds-other, bounds-upper, bounds-upper-or-none, fields-end}
+use Rattle.constraint.proofs.{Judged.test-le, fields.lower_first.Statement.statement}
 use Rattle.constraint.proofs.fields.lower_first.Tie as tie
 
 abbrev Inv-loop : tie.InvT-loop
@@ -21,28 +13,19 @@ abbrev μ-loop : tie.MeasureT-loop
 
 returns : tie.Need-returns Inv-loop μ-loop
 returns c =
-    let at-loop = c .before .before in
-    let a = at-loop .before .args in
-    let low = at-loop .loop .low in
-    let i = at-loop .loop .i in
+    let at-loop = c .before .before in let a = at-loop .before .args in let low = at-loop .loop .low in let i = at-loop .loop .i in
     at-loop .loop .inv .1 (leb low (at (a .t2) i)) (rw (bounds-upper low (a .t1) (a .t2) i (omega arith) (omega arith) (c .if1 .taken))
     (test-le low (at (a .t2) i)))
 
 returns-2 : tie.Need-returns-2 Inv-loop μ-loop
 returns-2 c =
-    let at-loop = c .before .before .before in
-    let a = at-loop .before .args in
-    let low = at-loop .loop .low in
-    let i = at-loop .loop .i in
+    let at-loop = c .before .before .before in let a = at-loop .before .args in let low = at-loop .loop .low in let i = at-loop .loop .i in
     at-loop .loop .inv .1 (leb low (at (a .t2) i)) (rw (bounds-upper-or-none low (a .t1) (a .t2) i (omega arith) (omega arith) (c .if2 .taken))
     (test-le low (at (a .t2) i)))
 
 loop-again : tie.Need-loop-again Inv-loop μ-loop
 loop-again c =
-    let at-loop = c .before .before .before .before in
-    let a = at-loop .before .args in
-    let low = at-loop .loop .low in
-    let i = at-loop .loop .i in (
+    let at-loop = c .before .before .before .before in let a = at-loop .before .args in let low = at-loop .loop .low in let i = at-loop .loop .i in (
       omega arith,
       λ b later. at-loop .loop .inv .1 b
           (⊎-elim

@@ -1,9 +1,6 @@
 -- A plain kind is compared with the first coloured one, and so is a coloured kind; a byte of another role is of no sort.
-use lib.Dec.{leb, ltb}
-use Rattle.constraint.specs.Limits.{firstColoured}
-use Rattle.constraint.proofs.Judged.{same-test, test-le, test-lt}
-use Rattle.constraint.proofs.FieldByField.{other-sorts}
-use Rattle.constraint.proofs.fields.sort_fits.Statement.{statement}
+use Rattle.constraint.proofs.Names.{firstColoured, leb, ltb}
+use Rattle.constraint.proofs.{FieldByField.other-sorts, Judged.same-test, Judged.test-le, Judged.test-lt, fields.sort_fits.Statement.statement}
 use Rattle.constraint.proofs.fields.sort_fits.Tie as tie
 
 returns : tie.Need-returns

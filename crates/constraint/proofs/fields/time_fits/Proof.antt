@@ -1,10 +1,6 @@
 -- A time is compared with the largest one, unless it is the mark where that may stand.
-use mathlib.Core.Logic.{inl, inr, ⊎-elim}
-use lib.Dec.{leb}
-use Rattle.constraint.specs.Limits.{lastTime}
-use Rattle.constraint.proofs.Judged.{same-test, test-le}
-use Rattle.constraint.proofs.FieldByField.{plain-range}
-use Rattle.constraint.proofs.fields.time_fits.Statement.{statement}
+use Rattle.constraint.proofs.Names.{inl, inr, lastTime, leb, ⊎-elim}
+use Rattle.constraint.proofs.{FieldByField.plain-range, Judged.same-test, Judged.test-le, fields.time_fits.Statement.statement}
 use Rattle.constraint.proofs.fields.time_fits.Tie as tie
 
 returns-3 : tie.Need-returns-3

@@ -1,11 +1,7 @@
 -- By cases on the verdict that was read.
-use borrow.Author.Needs.{needs}
-use Rattle.delkuthi.proofs.Numbers.{step-read}
-use Rattle.delkuthi.proofs.host.delkuthi_row_step.Statement.{statement}
+use Rattle.delkuthi.proofs.Names.{needs}
+use Rattle.delkuthi.proofs.{Numbers.step-read, host.delkuthi_row_step.Statement.statement}
 use Rattle.delkuthi.proofs.host.delkuthi_row_step.Tie as tie
-
-returns : tie.Need-returns
-returns c = step-read (c .before .before .read .result) (c .before .before .read .ensures) (rw (c .enum-told .given .1))
 
 returns-2 : tie.Need-returns-2
 returns-2 c =
@@ -25,4 +21,4 @@ returns-4 c =
 pub delkuthi-row-step-spec : {M : Type 1} → statement M
 delkuthi-row-step-spec =
     tie.close (tie.spec (λ c κs. search needs) (λ c. search needs) (λ c. search needs) (λ c. search needs) (λ c. search needs) (λ c. search needs)
-    returns returns-2 returns-3 returns-4)
+    (λ c. step-read (c .before .before .read .result) (c .before .before .read .ensures) (rw (c .enum-told .given .1))) returns-2 returns-3 returns-4)

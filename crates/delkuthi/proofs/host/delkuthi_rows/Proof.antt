@@ -1,8 +1,6 @@
 -- No monitor has more than 32 rows, at which their number is cut.
-use Rattle.constraint.proofs.Library.{needs, now}
-use Rattle.delkuthi.proofs.Lying.{len-read}
-use Rattle.delkuthi.proofs.Numbers.{rows-kept}
-use Rattle.delkuthi.proofs.host.delkuthi_rows.Statement.{statement}
+use Rattle.delkuthi.proofs.Names.{needs, now}
+use Rattle.delkuthi.proofs.{Lying.len-read, Numbers.rows-kept, host.delkuthi_rows.Statement.statement}
 use Rattle.delkuthi.proofs.host.delkuthi_rows.Tie as tie
 
 returns : tie.Need-returns

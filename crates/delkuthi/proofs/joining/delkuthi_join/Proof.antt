@@ -1,10 +1,6 @@
 -- The number is that of the length, or that of the refusal, which is from 1 to 127, and its place.
-use Rattle.constraint.proofs.Library.{arith, needs, _≡_, refl, now}
-use Rattle.constraint.specs.Joined.{AnswersJoin}
-use Rattle.constraint.specs.declared.JoinAnswer.{JoinAnswer}
-use Rattle.queue.proofs.Shared.{free}
-use Rattle.delkuthi.proofs.JoinNumbers.{join-small, numbers-join}
-use Rattle.delkuthi.proofs.joining.delkuthi_join.Statement.{statement}
+use Rattle.delkuthi.proofs.Names.{AnswersJoin, JoinAnswer, _≡_, arith, free, needs, now, refl}
+use Rattle.delkuthi.proofs.{JoinNumbers.join-small, JoinNumbers.numbers-join, joining.delkuthi_join.Statement.statement}
 use Rattle.delkuthi.proofs.joining.delkuthi_join.Tie as tie
 
 -- what the join answered

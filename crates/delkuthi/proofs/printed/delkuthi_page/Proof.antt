@@ -1,14 +1,11 @@
 -- What is written is the page of the monitor's summary.
-use Rattle.constraint.proofs.Library.{needs, now}
-use Rattle.delkuthi.proofs.Lying.{rows-there}
-use Rattle.delkuthi.proofs.Printing.{page-kept}
-use Rattle.delkuthi.proofs.printed.delkuthi_page.Statement.{statement}
+use Rattle.delkuthi.proofs.Names.{needs, now}
+use Rattle.delkuthi.proofs.{Lying.rows-there, Printing.page-kept, printed.delkuthi_page.Statement.statement}
 use Rattle.delkuthi.proofs.printed.delkuthi_page.Tie as tie
 
 returns : tie.Need-returns
 returns c n holds =
-    let at-write = c .before .before in
-    let at-summary = at-write .before .before in
+    let at-write = c .before .before in let at-summary = at-write .before .before in
     page-kept n _ (at-write .write .result) _ (rows-there (now (at-summary .before .before .args .m)) n holds)
     (rw (at-summary .summary-of .ensures n holds) at (at-write .write .ensures))
 

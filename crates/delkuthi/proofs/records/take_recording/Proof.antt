@@ -1,13 +1,7 @@
 -- What holds of the monitor before a record holds of the monitor after it one record further, and behind the last comes the close.
-use Rattle.constraint.proofs.Library.{arith, needs, _-_, ap, length, now}
-use Rattle.constraint.proofs.Judged.{passed, failed}
-use Rattle.monitor.specs.declared.Monitor.{Monitor}
-use Rattle.recording.specs.declared.CallRead.{CallRead}
-use Rattle.lent.specs.Contract.{Holds}
-use Rattle.lent.proofs.Laws.{takes-of}
-use Rattle.delkuthi.proofs.Lying.{call-steps}
-use Rattle.delkuthi.proofs.Progress.{UpTo, taken-start, taken-version, taken-none, taken-more, taken-refused, taken-end}
-use Rattle.delkuthi.proofs.records.take_recording.Statement.{statement}
+use Rattle.delkuthi.proofs.Names.{CallRead, Holds, Monitor, _-_, ap, arith, failed, length, needs, now, passed, takes-of}
+use Rattle.delkuthi.proofs.Progress.{UpTo, taken-end, taken-more, taken-none, taken-refused, taken-start, taken-version}
+use Rattle.delkuthi.proofs.{Lying.call-steps, records.take_recording.Statement.statement}
 use Rattle.delkuthi.proofs.records.take_recording.Tie as tie
 
 abbrev Inv-loop : tie.InvT-loop
@@ -18,21 +12,17 @@ abbrev μ-loop : tie.MeasureT-loop
 
 returns : tie.Need-returns Inv-loop μ-loop
 returns c fresh holds =
-    let asked = c .before in
-    let args = asked .before .before .args in
+    let asked = c .before in let args = asked .before .before .args in
     (fresh, taken-version fresh (now (args .bytes)) (failed (asked .version-known .result) (asked .version-known .ensures) (c .if1 .taken)), holds)
 
 loop-holds : tie.Need-loop-holds Inv-loop μ-loop
 loop-holds c fresh holds =
-    let asked = c .before in
-    let args = asked .before .before .args in
+    let asked = c .before in let args = asked .before .before .args in
     (fresh, taken-start fresh (now (args .bytes)) (passed (asked .version-known .result) (asked .version-known .ensures) (c .if1 .left)), holds)
 
 returns-2 : tie.Need-returns-2 Inv-loop μ-loop
 returns-2 c fresh holds =
-    let at-record = c .before .before in
-    let at-loop = at-record .before .before in
-    let args = at-loop .before .before .before .before .args in
+    let at-record = c .before .before in let at-loop = at-record .before .before in let args = at-loop .before .before .before .before .args in
     let before = at-loop .loop .inv fresh holds in
     let refused = at-record .call-at .ensures .none (c .if2 .taken) in
     let there = at-record .before .loop-test .taken in
@@ -41,11 +31,8 @@ returns-2 c fresh holds =
 
 returns-3 : tie.Need-returns-3 Inv-loop μ-loop
 returns-3 c fresh holds =
-    let at-take = c .before in
-    let left = at-take .before .before in
-    let at-record = left .before .before in
-    let at-loop = at-record .before .before in
-    let args = at-loop .before .before .before .before .args in
+    let at-take = c .before in let left = at-take .before .before in let at-record = left .before .before in
+    let at-loop = at-record .before .before in let args = at-loop .before .before .before .before .args in
     let before = at-loop .loop .inv fresh holds in
     let stepped = call-steps (before .0) (before .2) (at-take .take .ensures) in
     let read = at-record .call-at .ensures .whole (omega (arith, left .if2 .left)) in
@@ -58,18 +45,14 @@ returns-3 c fresh holds =
 
 loop-less : tie.Need-loop-less Inv-loop μ-loop
 loop-less c =
-    let left = c .before .before .before in
-    let at-record = left .before .before in
+    let left = c .before .before .before in let at-record = left .before .before in
     let read = at-record .call-at .ensures .whole (omega (arith, left .if2 .left)) in
     omega (arith, read .next-read, at-record .before .loop-test .taken)
 
 loop-again : tie.Need-loop-again Inv-loop μ-loop
 loop-again c fresh holds =
-    let at-take = c .before in
-    let left = at-take .before .before in
-    let at-record = left .before .before in
-    let at-loop = at-record .before .before in
-    let args = at-loop .before .before .before .before .args in
+    let at-take = c .before in let left = at-take .before .before in let at-record = left .before .before in
+    let at-loop = at-record .before .before in let args = at-loop .before .before .before .before .args in
     let before = at-loop .loop .inv fresh holds in
     let stepped = call-steps (before .0) (before .2) (at-take .take .ensures) in
     let read = at-record .call-at .ensures .whole (omega (arith, left .if2 .left)) in
@@ -82,8 +65,7 @@ loop-again c fresh holds =
 
 returns-4 : tie.Need-returns-4 Inv-loop μ-loop
 returns-4 c fresh holds =
-    let at-loop = c .before .before .before in
-    let args = at-loop .before .before .before .before .args in
+    let at-loop = c .before .before .before in let args = at-loop .before .before .before .before .args in
     let before = at-loop .loop .inv fresh holds in
     let stepped = call-steps (before .0) (before .2) (takes-of (c .close .ensures)) in
     let end = c .before .before .loop-test .left in (

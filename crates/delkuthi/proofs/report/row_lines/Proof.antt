@@ -1,11 +1,7 @@
 -- Line after line: putting the lines of the rows that are left behind what there is now gives the whole.
-use Rattle.constraint.proofs.Library.{arith, needs, _-_, _≤_, _<_, _≡_, refl, _∙_, map, length, take, drop, length-take, drop-of-length-le, getD-take}
-use Rattle.constraint.proofs.Library.{now}
-use Rattle.constraint.specs.Report.{rowLines}
-use Rattle.text.specs.Content.{extended}
-use Rattle.page.specs.Sheet.{verdictFor}
-use Rattle.delkuthi.proofs.Reports.{lines-next}
-use Rattle.delkuthi.proofs.report.row_lines.Statement.{statement}
+use Rattle.delkuthi.proofs.Names.{_-_, _<_, _∙_, _≡_, _≤_, arith, drop, drop-of-length-le, extended, getD-take, length, length-take, map}
+use Rattle.delkuthi.proofs.Names.{needs, now, refl, rowLines, take, verdictFor}
+use Rattle.delkuthi.proofs.{Reports.lines-next, report.row_lines.Statement.statement}
 use Rattle.delkuthi.proofs.report.row_lines.Tie as tie
 
 abbrev Inv-loop : tie.InvT-loop
@@ -18,9 +14,7 @@ abbrev μ-loop : tie.MeasureT-loop
 
 loop-again : tie.Need-loop-again Inv-loop μ-loop
 loop-again c =
-    let at-loop = c .before .before .before .before in
-    let start = at-loop .before .before in
-    let args = start .args in
+    let at-loop = c .before .before .before .before in let start = at-loop .before .before in let args = start .args in
     let row = at-loop .loop .row in
     let taken-steps = take (args .rows) (now (args .steps)) in
     let there : row < length taken-steps = omega (arith, length-take (args .rows) (now (args .steps)), start .pre) in
@@ -31,8 +25,7 @@ loop-again c =
 returns : tie.Need-returns Inv-loop μ-loop
 unfolding rowLines extended
 returns c =
-    let loop = c .before .loop in
-    let args = c .before .before .before .args in
+    let loop = c .before .loop in let args = c .before .before .before .args in
     let taken-steps = take (args .rows) (now (args .steps)) in
     let over : length taken-steps ≤ loop .row = omega (arith, length-take (args .rows) (now (args .steps))) in
     rw (drop-of-length-le taken-steps {i = loop .row} over) at (loop .inv .1)

@@ -1,10 +1,7 @@
 -- Row after row: before the turn of number i the types and steps are those of the first i rows of the monitor that lies there.
-use Rattle.constraint.proofs.Library.{_-_, _≤_, _<_, _≡_, refl, map, arith, now, needs}
-use Rattle.monitor.specs.declared.Monitor.{Monitor}
-use Rattle.lent.specs.Contract.{Holds}
-use Rattle.delkuthi.proofs.Lying.{rows-there, len-read, closed-read, count-read, form-read, broken-read}
-use Rattle.delkuthi.proofs.Summaries.{front, front-next, front-all}
-use Rattle.delkuthi.proofs.report.summary_of.Statement.{statement}
+use Rattle.delkuthi.proofs.Names.{Holds, Monitor, _-_, _<_, _≡_, _≤_, arith, map, needs, now, refl}
+use Rattle.delkuthi.proofs.Lying.{broken-read, closed-read, count-read, form-read, len-read, rows-there}
+use Rattle.delkuthi.proofs.{Summaries.front, Summaries.front-all, Summaries.front-next, report.summary_of.Statement.statement}
 use Rattle.delkuthi.proofs.report.summary_of.Tie as tie
 
 abbrev Inv-loop : tie.InvT-loop
@@ -32,8 +29,7 @@ loop-again c =
 
 returns : tie.Need-returns Inv-loop μ-loop
 returns c n holds =
-    let at-held = c .before .before in
-    let at-loop = at-held .before .before in
+    let at-held = c .before .before in let at-loop = at-held .before .before in
     let m = now (at-loop .before .args .m) in
     let whole = rows-there m n holds in
     let all : at-loop .loop .i ≡ 32 = omega arith in

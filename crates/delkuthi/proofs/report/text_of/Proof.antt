@@ -1,14 +1,11 @@
 -- The lines are those of the answer, behind an empty text.
-use borrow.Author.Needs.{needs}
-use Rattle.delkuthi.proofs.Reports.{holds-closed, holds-refusal}
-use Rattle.delkuthi.proofs.report.text_of.Statement.{statement}
+use Rattle.delkuthi.proofs.Names.{needs}
+use Rattle.delkuthi.proofs.{Reports.holds-closed, Reports.holds-refusal, report.text_of.Statement.statement}
 use Rattle.delkuthi.proofs.report.text_of.Tie as tie
 
 returns : tie.Need-returns
 returns c =
-    let at-line = c .before .before .before .before in
-    let at-held = at-line .before .before in
-    let at-answer = at-held .before in
+    let at-line = c .before .before .before .before in let at-held = at-line .before .before in let at-answer = at-held .before in
     rw (at-answer .enum-told .given .1)
     (holds-closed (at-answer .before .before .args .t2) (at-line .closed-line .result) (c .row-lines .result)
     (rw (← at-line .before .new .ensures) (at-line .closed-line .ensures)) (rw (← at-held .held .ensures) (c .row-lines .ensures)))

@@ -1,5 +1,5 @@
 -- What is copied is what the text holds.
-use borrow.Author.Needs.{needs}
+use Rattle.delkuthi.proofs.Names.{needs}
 use Rattle.delkuthi.proofs.report.write.Statement.{statement}
 use Rattle.delkuthi.proofs.report.write.Tie as tie
 

@@ -1,11 +1,6 @@
 -- The number is that of the word, or that of the refusal, which is above 0, and its place.
-use Rattle.constraint.proofs.Library.{arith, needs, ℕ, _<_, _≡_, now}
-use Rattle.constraint.specs.Stamps.{AnswersStampsUpTo}
-use Rattle.constraint.specs.declared.StampedAnswer.{StampedAnswer}
-use Rattle.constraint.proofs.Judged.{never}
-use Rattle.queue.proofs.Shared.{free}
-use Rattle.delkuthi.proofs.RecordNumbers.{stamped-above}
-use Rattle.delkuthi.proofs.stamped.stamps_number.Statement.{statement}
+use Rattle.delkuthi.proofs.Names.{AnswersStampsUpTo, StampedAnswer, _<_, _≡_, arith, free, needs, never, now, ℕ}
+use Rattle.delkuthi.proofs.{RecordNumbers.stamped-above, stamped.stamps_number.Statement.statement}
 use Rattle.delkuthi.proofs.stamped.stamps_number.Tie as tie
 
 -- the number of a refusal is small
@@ -24,8 +19,7 @@ returns c =
 
 returns-2 : tie.Need-returns-2
 returns-2 c =
-    let at-answer = c .before .before in
-    let args = at-answer .before .before .before .before .before .args in
+    let at-answer = c .before .before in let args = at-answer .before .before .before .before .before .args in
     let given = at-answer .answer2 .given in
     let says : AnswersStampsUpTo (args .newest) (now (args .table)) (now (args .recording)) (args .row) (args .late)
     (StampedAnswer.Refused (given .0 .0) (given .0 .1 .0)) =

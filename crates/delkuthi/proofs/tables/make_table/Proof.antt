@@ -1,7 +1,6 @@
 -- A table that is written is so short that 256 times its length is a number of 64 bits; the number of a refusal says its row.
-use Rattle.constraint.proofs.Library.{arith, needs, now}
-use Rattle.delkuthi.proofs.Refusals.{raw-short, makes-written, makes-refused}
-use Rattle.delkuthi.proofs.tables.make_table.Statement.{statement}
+use Rattle.delkuthi.proofs.Names.{arith, needs, now}
+use Rattle.delkuthi.proofs.{Refusals.makes-refused, Refusals.makes-written, Refusals.raw-short, tables.make_table.Statement.statement}
 use Rattle.delkuthi.proofs.tables.make_table.Tie as tie
 
 mul-length : tie.Need-mul-length
@@ -23,13 +22,10 @@ returns c =
 
 returns-2 : tie.Need-returns-2
 returns-2 c =
-    let at-number = c .before .before .before in
-    let at-write = at-number .before .before .before .before in
-    let w = at-write .write in
+    let at-number = c .before .before .before in let at-write = at-number .before .before .before .before in let w = at-write .write in
     let a = at-write .before .before .before .before .args in
     makes-refused (now (a .rows)) (now (a .table)) (w .last .1 .1 .0) (w .result) (at-number .number .given .0 .0) (c .before .refused-row .result)
-    (c .row-number .result)
-    (omega arith) (at-number .number .given .1) (w .ensures) (c .before .refused-row .ensures) (c .row-number .ensures)
+    (c .row-number .result) (omega arith) (at-number .number .given .1) (w .ensures) (c .before .refused-row .ensures) (c .row-number .ensures)
 
 pub make-table-spec : {M : Type 1} → statement M
 make-table-spec =

@@ -1,17 +1,15 @@
 -- The length is the number of groups begun, and the tests are those of the machine; what is counted goes beside what waits.
-use Rattle.constraint.proofs.Library.{refl, ap, _∙_, [], ltb, getD, set, not-true, not-false, needs}
-use Rattle.queue.proofs.Laws.{ring-length}
-use Rattle.machine.specs.Words.{rowWords, numberWords, changedWords, pastWith, countsKept}
-use Rattle.groups.specs.StrongSynchronization.{decideStrongSynchronization}
+use Rattle.constraint.proofs.Library.{[], _∙_, ap, getD, ltb, needs, not-false, not-true, refl, set}
 use Rattle.groups.proofs.strong_synchronization.apply.Statement.{statement}
+use Rattle.groups.specs.StrongSynchronization.{decideStrongSynchronization}
+use Rattle.machine.specs.Words.{changedWords, countsKept, numberWords, pastWith, rowWords}
+use Rattle.queue.proofs.Laws.{ring-length}
 use Rattle.groups.proofs.strong_synchronization.apply.Tie as tie
 
 returns : tie.Need-returns
 unfolding rowWords numberWords changedWords decideStrongSynchronization
 returns c rule times state past e =
-    let w = c .before .before in
-    let i = w .before .before in
-    let k = i .before .before in
+    let w = c .before .before in let i = w .before .before in let k = i .before .before in
     let kept = k .before .before .keep-counts .ensures rule times state past e in
     let waited = w .one-more-waits .ensures rule times state (pastWith past (countsKept (state .marks) (past .state .marks))) kept in
     let counted = c .count .ensures rule _ _ (ap (λ m. getD m 1 []) waited) in
@@ -26,11 +24,7 @@ returns c rule times state past e =
 returns-2 : tie.Need-returns-2
 unfolding rowWords numberWords changedWords decideStrongSynchronization
 returns-2 c rule times state past e =
-    let n = c .before .before in
-    let w = n .before .before in
-    let i = w .before .before in
-    let m = i .before in
-    let f = m .before .before in
+    let n = c .before .before in let w = n .before .before in let i = w .before .before in let m = i .before in let f = m .before .before in
     let k = f .before .before in
     let kept = k .before .before .keep-counts .ensures rule times state past e in
     let waited = w .fewer-wait .ensures rule times state (pastWith past (countsKept (state .marks) (past .state .marks))) kept in
@@ -50,11 +44,7 @@ returns-2 c rule times state past e =
 returns-3 : tie.Need-returns-3
 unfolding rowWords numberWords changedWords decideStrongSynchronization
 returns-3 c rule times state past e =
-    let w = c .before .before in
-    let i = w .before .before in
-    let m = i .before in
-    let f = m .before .before in
-    let k = f .before .before in
+    let w = c .before .before in let i = w .before .before in let m = i .before in let f = m .before .before in let k = f .before .before in
     let kept = k .before .before .keep-counts .ensures rule times state past e in
     let waited = w .fewer-wait2 .ensures rule times state (pastWith past (countsKept (state .marks) (past .state .marks))) kept in
     let counted = c .count3 .ensures rule _ _ (ap (λ m. getD m 1 []) waited) in

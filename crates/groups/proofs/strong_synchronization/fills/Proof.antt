@@ -1,7 +1,7 @@
 -- The tests are those of `fillsStrongSynchronization`, in its order.
-use Rattle.constraint.proofs.Library.{lt-ltb, le-ltb, needs}
-use Rattle.groups.specs.StrongSynchronization.{fillsStrongSynchronization}
+use Rattle.constraint.proofs.Library.{le-ltb, lt-ltb, needs}
 use Rattle.groups.proofs.strong_synchronization.fills.Statement.{statement}
+use Rattle.groups.specs.StrongSynchronization.{fillsStrongSynchronization}
 use Rattle.groups.proofs.strong_synchronization.fills.Tie as tie
 
 returns : tie.Need-returns
@@ -21,5 +21,4 @@ returns-3 c =
     rw (le-ltb _ _ (b .before .if1 .left), ← b .count-at .ensures, le-ltb _ _ (c .if2 .left))
 
 pub fills-spec : {M : Type 1} → statement M
-fills-spec =
-    tie.close (tie.spec (λ c. search needs) returns (λ c κs. search needs) (λ c. search needs) returns-2 returns-3)
+fills-spec = tie.close (tie.spec (λ c. search needs) returns (λ c κs. search needs) (λ c. search needs) returns-2 returns-3)

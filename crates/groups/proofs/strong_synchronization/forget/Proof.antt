@@ -1,15 +1,13 @@
 -- Each count is one less, and is stored at its place.
-use Rattle.constraint.proofs.Library.{refl, needs}
-use Rattle.machine.specs.Words.{numberWords}
+use Rattle.constraint.proofs.Library.{needs, refl}
 use Rattle.groups.proofs.strong_synchronization.forget.Statement.{statement}
+use Rattle.machine.specs.Words.{numberWords}
 use Rattle.groups.proofs.strong_synchronization.forget.Tie as tie
 
 returns : tie.Need-returns
 unfolding numberWords
 returns c rule state past e =
-    let k = c .before .before in
-    let s = k .before .before in
-    let f = s .before .before in
+    let k = c .before .before in let s = k .before .before in let f = s .before .before in
     rw (c .minus4 .ensures, k .minus3 .ensures, s .minus2 .ensures, f .minus .ensures, e) refl
 
 pub forget-spec : {M : Type 1} → statement M

@@ -1,17 +1,15 @@
 -- The last time is noted first, and the tests are those of the machine: one is owed just where the length is not 0.
-use Rattle.constraint.proofs.Library.{refl, ap, _∙_, [], _∷_, getD, set, eq-eqb, ne-eqb, needs}
-use Rattle.machine.specs.Words.{rowWords, numberWords, changedWords}
-use Rattle.machine.proofs.Oldest.{none-left-ring}
-use Rattle.groups.specs.Synchronization.{decideSynchronization}
+use Rattle.constraint.proofs.Library.{[], _∙_, _∷_, ap, eq-eqb, getD, ne-eqb, needs, refl, set}
 use Rattle.groups.proofs.synchronization.apply.Statement.{statement}
+use Rattle.groups.specs.Synchronization.{decideSynchronization}
+use Rattle.machine.proofs.Oldest.{none-left-ring}
+use Rattle.machine.specs.Words.{changedWords, numberWords, rowWords}
 use Rattle.groups.proofs.synchronization.apply.Tie as tie
 
 returns : tie.Need-returns
 unfolding rowWords numberWords changedWords decideSynchronization
 returns c rule times state past e =
-    let i = c .before .before in
-    let f = i .before in
-    let n = f .before .before in
+    let i = c .before .before in let f = i .before in let n = f .before .before in
     let kept = n .before .before .keep-counts .ensures rule times state past e in
     let noted = n .note .ensures rule state _ (ap (λ m. getD m 1 []) kept) in
     let words = ap (λ m. set m 1 (n .note .last .0)) kept ∙ ap (λ w. times ∷ w ∷ []) noted in
@@ -20,10 +18,7 @@ returns c rule times state past e =
 returns-2 : tie.Need-returns-2
 unfolding rowWords numberWords changedWords decideSynchronization
 returns-2 c rule times state past e =
-    let l = c .before .before in
-    let i = l .before .before in
-    let f = i .before in
-    let n = f .before .before in
+    let l = c .before .before in let i = l .before .before in let f = i .before in let n = f .before .before in
     let kept = n .before .before .keep-counts .ensures rule times state past e in
     let noted = n .note .ensures rule state _ (ap (λ m. getD m 1 []) kept) in
     let words = ap (λ m. set m 1 (n .note .last .0)) kept ∙ ap (λ w. times ∷ w ∷ []) noted in
@@ -38,10 +33,7 @@ returns-2 c rule times state past e =
 returns-3 : tie.Need-returns-3
 unfolding rowWords numberWords changedWords decideSynchronization
 returns-3 c rule times state past e =
-    let l = c .before .before in
-    let i = l .before .before in
-    let f = i .before in
-    let n = f .before .before in
+    let l = c .before .before in let i = l .before .before in let f = i .before in let n = f .before .before in
     let kept = n .before .before .keep-counts .ensures rule times state past e in
     let noted = n .note .ensures rule state _ (ap (λ m. getD m 1 []) kept) in
     let words = ap (λ m. set m 1 (n .note .last .0)) kept ∙ ap (λ w. times ∷ w ∷ []) noted in

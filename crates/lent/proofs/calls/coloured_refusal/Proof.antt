@@ -23,8 +23,7 @@ returns-2 c =
 
 returns-3 : tie.Need-returns-3
 returns-3 c =
-    let f = c .before .before .before in
-    let a = f .before .args in (
+    let f = c .before .before .before in let a = f .before .args in (
       λ z. absurd (omega (arith, z)),
       λ h e s.
           own-number h (Call.ColouredEvent (a .kind) (a .colour) (a .time)) _ _ (f .first-refusal .ensures h e s)
@@ -34,8 +33,7 @@ returns-3 c =
 
 returns-4 : tie.Need-returns-4
 returns-4 c =
-    let f = c .before .before .before .before in
-    let a = f .before .args in (
+    let f = c .before .before .before .before in let a = f .before .args in (
       λ z. absurd (omega (arith, z)),
       λ h e s.
           own-number h (Call.ColouredEvent (a .kind) (a .colour) (a .time)) _ _ (f .first-refusal .ensures h e s)
@@ -49,8 +47,7 @@ returns-4 c =
 
 returns-5 : tie.Need-returns-5
 returns-5 c =
-    let q = c .before in let t = q .before .before in let i = t .before in let f = i .before .before .before .before in
-    let a = f .before .args in (
+    let q = c .before in let t = q .before .before in let i = t .before in let f = i .before .before .before .before in let a = f .before .args in (
       λ z. (omega (arith, i .before .if3 .left), (omega (arith, i .before .before .if2 .left), omega (arith, i .if4 .left))),
       λ h e s.
           own-number h (Call.ColouredEvent (a .kind) (a .colour) (a .time)) _ _ (f .first-refusal .ensures h e s)

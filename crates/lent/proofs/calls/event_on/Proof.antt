@@ -1,5 +1,5 @@
 -- Where the event crowds a row nothing is stored; else the numbers, the rows to which the clock goes, and the rows of its kind, one after the other.
-use Rattle.lent.proofs.Names.{_∙_, _≡_, ap, begun, countedOn, crowdedOn, eventAt, false, appliedOn, needs, refl, roomFor, roomed, sym, true}
+use Rattle.lent.proofs.Names.{_∙_, _≡_, ap, appliedOn, begun, countedOn, crowdedOn, eventAt, false, needs, refl, roomFor, roomed, sym, true}
 use Rattle.lent.proofs.Names.{wordsOf}
 use Rattle.lent.proofs.Parts.{begun-alone, begun-count, begun-ends, same-rows, shaped-begun, shaped-counted, shaped-room}
 use Rattle.lent.proofs.calls.event_on.Statement.{statement}

@@ -22,8 +22,7 @@ returns-2 c =
 
 returns-3 : tie.Need-returns-3
 returns-3 c =
-    let f = c .before .before .before in
-    let a = f .before .args in (
+    let f = c .before .before .before in let a = f .before .args in (
       λ z. absurd (omega (arith, z)),
       λ h e s.
           own-number h (Call.Event (a .kind) (a .time)) _ _ (f .first-refusal .ensures h e s) (omega (arith, c .before .before .if1 .left))

@@ -12,8 +12,7 @@ abbrev μ-loop : tie.MeasureT-loop
 
 loop-again : tie.Need-loop-again Inv-loop μ-loop
 loop-again c =
-    let l = c .before .before in let a = l .before .before .args in let i = l .before .loop .i in
-    let m = l .before .loop .m in (
+    let l = c .before .before in let a = l .before .before .args in let i = l .before .loop .i in let m = l .before .loop .m in (
       omega arith,
       λ h e s.
           let so-far = l .before .loop .inv .1 h e s in

@@ -12,8 +12,7 @@ abbrev μ-loop : tie.MeasureT-loop
 
 loop-again : tie.Need-loop-again Inv-loop μ-loop
 loop-again c =
-    let f = c .before in let l = f .before .before in let a = l .before .before .args in
-    let i = l .before .loop .i in (
+    let f = c .before in let l = f .before .before in let a = l .before .before .args in let i = l .before .loop .i in (
       omega arith,
       λ h e s.
           let there : i < 32 = omega arith in

@@ -5,8 +5,7 @@ use Rattle.lent.proofs.rows.named.Tie as tie
 
 returns : tie.Need-returns
 returns c =
-    let a = c .before .before in
-    let p = a .args .place in (
+    let a = c .before .before in let p = a .args .place in (
       omega arith,
       λ h e s.
           ap (λ (w : ℕ). w % 32)
@@ -16,8 +15,7 @@ returns c =
 
 returns-2 : tie.Need-returns-2
 returns-2 c =
-    let a = c .before .before in
-    let p = a .args .place in (
+    let a = c .before .before in let p = a .args .place in (
       omega arith,
       λ h e s.
           let place : 64 + (p - 64) ≡ p = omega (arith, c .before .if1 .left) in

@@ -14,8 +14,7 @@ abbrev μ-loop : tie.MeasureT-loop
 loop-again : tie.Need-loop-again Inv-loop μ-loop
 unfolding Stored.wordsOf rowWords numberWords
 loop-again c =
-    let l = c .before .before in let a = l .before .before .args in
-    let i = l .before .loop .i in (
+    let l = c .before .before in let a = l .before .before .args in let i = l .before .loop .i in (
       omega arith,
       λ h e s.
           let there : i < 32 = omega arith in

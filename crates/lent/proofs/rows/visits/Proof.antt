@@ -1,7 +1,7 @@
 -- Entry after entry: before the turn of a place the rows of the entries before it have taken the event; the soonest time is kept beside, and stored
 -- at the end.
-use Rattle.lent.proofs.Names.{Lent, List, Shaped, Words, [], _+_, _-_, _<_, _∙_, _≡_, _≤_, ap, ap₂, arith, eventAt, getD, appliedOn, keptAt, min}
-use Rattle.lent.proofs.Names.{needs, now, numberWords, rest-zero-event, rest-zero-keeps, roomAfter, rowAt, rowNamed, rowWords, set, suc}
+use Rattle.lent.proofs.Names.{Lent, List, Shaped, Words, [], _+_, _-_, _<_, _∙_, _≡_, _≤_, ap, appliedOn, ap₂, arith, eventAt, getD, keptAt}
+use Rattle.lent.proofs.Names.{min, needs, now, numberWords, rest-zero-event, rest-zero-keeps, roomAfter, rowAt, rowNamed, rowWords, set, suc}
 use Rattle.lent.proofs.Names.{visitAt, visited, withSoonest, wordsOf, ℕ}
 use Rattle.lent.proofs.Parts.{number-at, room-written, shaped-row, shaped-soonest, shaped-visited, soonest-written, visited-named}
 use Rattle.lent.proofs.{Blocks.row-lies, Blocks.row-stored, rows.visits.Statement.statement}

@@ -1,5 +1,5 @@
 -- The rows of a kind are those that its entries name, and the number of the step stands at its place.
-use Rattle.lent.proofs.Names.{_-_, _∙_, eventAt, appliedOn, needs, now, wordsOf}
+use Rattle.lent.proofs.Names.{_-_, _∙_, appliedOn, eventAt, needs, now, wordsOf}
 use Rattle.lent.proofs.{Parts.number-at, rows.visits_of.Statement.statement}
 use Rattle.lent.proofs.rows.visits_of.Tie as tie
 

@@ -1,8 +1,6 @@
 -- The fields are those of the constraint, and each is put where its role says.
-use mathlib.Core.Path.{_∙_}
-use Rattle.queue.proofs.Shared.{free}
-use Rattle.machine.proofs.FieldNumbers.{row-numbers}
-use Rattle.machine.proofs.numbers.rule_of.Statement.{statement}
+use Rattle.machine.proofs.Names.{_∙_, free}
+use Rattle.machine.proofs.{FieldNumbers.row-numbers, numbers.rule_of.Statement.statement}
 use Rattle.machine.proofs.numbers.rule_of.Tie as tie
 
 returns : tie.Need-returns

@@ -1,21 +1,16 @@
 -- The role says what the byte is.
-use mathlib.Core.Path.{sym, _∙_}
-use Rattle.queue.proofs.Shared.{free}
-use Rattle.machine.proofs.FieldNumbers.{kind-byte, span-byte}
-use Rattle.machine.proofs.numbers.with_byte.Statement.{statement}
+use Rattle.machine.proofs.Names.{_∙_, free, sym}
+use Rattle.machine.proofs.{FieldNumbers.kind-byte, FieldNumbers.span-byte, numbers.with_byte.Statement.statement}
 use Rattle.machine.proofs.numbers.with_byte.Tie as tie
 
 returns-3 : tie.Need-returns-3
 returns-3 c =
-    let a = c .before .before .before .before .args in
-    let test = c .before .is-kind in
+    let a = c .before .before .before .before .args in let test = c .before .is-kind in
     sym (kind-byte (a .role) (a .value) (a .rule) (sym (test .ensures) ∙ c .if3 .taken))
 
 returns-4 : tie.Need-returns-4
 returns-4 c =
-    let b = c .before .before in
-    let a = b .before .before .args in
-    let test = c .before .is-kind in
+    let b = c .before .before in let a = b .before .before .args in let test = c .before .is-kind in
     sym (span-byte (a .role) (a .value) (a .rule) (b .before .if1 .left) (b .if2 .left) (sym (test .ensures) ∙ c .if3 .left))
 
 pub with-byte-spec : {M : Type 1} → statement M

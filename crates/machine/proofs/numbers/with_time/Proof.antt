@@ -1,13 +1,11 @@
 -- The role says what the time is.
-use mathlib.Core.Path.{sym}
-use Rattle.machine.proofs.FieldNumbers.{upper-time}
-use Rattle.machine.proofs.numbers.with_time.Statement.{statement}
+use Rattle.machine.proofs.Names.{sym}
+use Rattle.machine.proofs.{FieldNumbers.upper-time, numbers.with_time.Statement.statement}
 use Rattle.machine.proofs.numbers.with_time.Tie as tie
 
 returns-6 : tie.Need-returns-6
 returns-6 c =
-    let b = c .before .before .before in
-    let a = b .before .before .args in
+    let b = c .before .before .before in let a = b .before .before .args in
     sym (upper-time (a .role) (a .value) (a .rule) (b .before .if1 .left) (b .if2 .left) (c .before .before .if3 .left) (c .before .if4 .left)
     (c .if5 .left))
 

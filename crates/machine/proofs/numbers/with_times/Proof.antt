@@ -1,12 +1,6 @@
 -- From the last field to the first, the numbers are those of the fields from a place on.
-use Rattle.constraint.proofs.Library.{ℕ, _-_, _≤_, arith, _≡_, sym, ap, _∙_, List}
-use Rattle.queue.proofs.Shared.{free}
-use Rattle.constraint.specs.Records.{timeField, timesFrom}
-use Rattle.constraint.specs.Types.{Field}
-use Rattle.constraint.proofs.FieldByField.{fields-end}
-use Rattle.machine.specs.Rule.{withFields}
-use Rattle.machine.proofs.FieldNumbers.{field-before}
-use Rattle.machine.proofs.numbers.with_times.Statement.{statement}
+use Rattle.machine.proofs.Names.{Field, List, _-_, _∙_, _≡_, _≤_, ap, arith, fields-end, free, sym, timeField, timesFrom, withFields, ℕ}
+use Rattle.machine.proofs.{FieldNumbers.field-before, numbers.with_times.Statement.statement}
 use Rattle.machine.proofs.numbers.with_times.Tie as tie
 
 abbrev Inv-loop : tie.InvT-loop
@@ -22,9 +16,7 @@ loop-holds c =
 
 loop-again : tie.Need-loop-again Inv-loop μ-loop
 loop-again c =
-    let at-loop = c .before .before in
-    let loop = at-loop .loop in
-    let a = at-loop .before .args in (
+    let at-loop = c .before .before in let loop = at-loop .loop in let a = at-loop .before .args in (
       omega arith,
       field-before timeField (a .t2) (a .t3) (loop .i - 1) (loop .i) (omega arith) (omega arith) (omega arith) (a .rule) (loop .next)
           (c .with-time .result) (loop .inv .1) (c .with-time .ensures),
@@ -32,8 +24,7 @@ loop-again c =
 
 returns : tie.Need-returns Inv-loop μ-loop
 returns c =
-    let a = c .before .before .args in
-    let loop = c .before .loop in
+    let a = c .before .before .args in let loop = c .before .loop in
     let none : loop .i ≡ 0 = omega arith in
     loop .inv .1 ∙ ap (λ (i : ℕ). withFields (timesFrom (a .t2) (a .t3) i) (a .rule)) none
 

@@ -1,11 +1,7 @@
 -- The last event was at last - 1, where last is not 0.
-use Rattle.constraint.proofs.Library.{_+_, _-_, arith, needs, eq-eqb, ne-eqb}
-use Rattle.queue.proofs.Shared.{free, leb-same}
+use Rattle.machine.proofs.Names.{_+_, _-_, arith, eq-eqb, free, leb-same, ne-eqb, needs}
 use Rattle.machine.proofs.parts.far_enough.Statement.{statement}
 use Rattle.machine.proofs.parts.far_enough.Tie as tie
-
-returns : tie.Need-returns
-returns c = rw (eq-eqb _ _ (c .if1 .taken))
 
 returns-2 : tie.Need-returns-2
 returns-2 c =
@@ -14,5 +10,4 @@ returns-2 c =
     (leb-same (a .last - 1 + a .minimum) (a .t) (a .last + a .minimum) (a .t + 1) (omega arith) (omega arith))
 
 pub far-enough-spec : {M : Type 1} → statement M
-far-enough-spec =
-    tie.close (tie.spec (λ c. search needs) free returns returns-2)
+far-enough-spec = tie.close (tie.spec (λ c. search needs) free (λ c. rw (eq-eqb _ _ (c .if1 .taken))) returns-2)

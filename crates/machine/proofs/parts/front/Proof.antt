@@ -1,9 +1,6 @@
 -- The oldest of the times, where there is one, is the one at the head.
-use Rattle.constraint.proofs.Library.{_∙_, sym, arith, needs}
-use Rattle.queue.specs.Ring.{ring}
-use Rattle.queue.proofs.Shared.{free}
-use Rattle.machine.proofs.Oldest.{front-ring}
-use Rattle.machine.proofs.parts.front.Statement.{statement}
+use Rattle.machine.proofs.Names.{_∙_, arith, free, needs, ring, sym}
+use Rattle.machine.proofs.{Oldest.front-ring, parts.front.Statement.statement}
 use Rattle.machine.proofs.parts.front.Tie as tie
 
 returns : tie.Need-returns

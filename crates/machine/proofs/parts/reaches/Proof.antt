@@ -1,6 +1,5 @@
 -- What is at most t - by is, with by more, at most t; and by alone may be more than t.
-use Rattle.constraint.proofs.Library.{_+_, _-_, arith, lt-leb}
-use Rattle.queue.proofs.Shared.{leb-same}
+use Rattle.machine.proofs.Names.{_+_, _-_, arith, leb-same, lt-leb}
 use Rattle.machine.proofs.parts.reaches.Statement.{statement}
 use Rattle.machine.proofs.parts.reaches.Tie as tie
 
@@ -9,8 +8,6 @@ returns c =
     let a = c .before .args in
     leb-same (a .from) (a .t - a .by) (a .from + a .by) (a .t) (omega arith) (omega arith)
 
-returns-2 : tie.Need-returns-2
-returns-2 c = let a = c .before .args in rw (lt-leb _ _ (c .if1 .left), lt-leb (a .from + a .by) (a .t) (omega arith))
-
 pub reaches-spec : {M : Type 1} → statement M
-reaches-spec = tie.close (tie.spec returns returns-2)
+reaches-spec =
+    tie.close (tie.spec returns (λ c. let a = c .before .args in rw (lt-leb _ _ (c .if1 .left), lt-leb (a .from + a .by) (a .t) (omega arith))))

@@ -1,6 +1,5 @@
 -- What the row is becomes its past, and its state that of a broken row.
-use Rattle.constraint.proofs.Library.{ℕ, refl, ap, _∙_, List, [], getD, set, needs}
-use Rattle.machine.specs.Words.{rowWords, pastOf}
+use Rattle.machine.proofs.Names.{List, [], _∙_, ap, getD, needs, pastOf, refl, rowWords, set, ℕ}
 use Rattle.machine.proofs.words.break_at.Statement.{statement}
 use Rattle.machine.proofs.words.break_at.Tie as tie
 
@@ -13,5 +12,4 @@ returns c rule times state past e =
     ap (λ (w : List ℕ). set (k .keep-all .last .0) 1 w) done ∙ rw kept refl
 
 pub break-at-spec : {M : Type 1} → statement M
-break-at-spec =
-    tie.close (tie.spec (λ c κs. search needs) (λ c. search needs) (λ c κs. search needs) returns)
+break-at-spec = tie.close (tie.spec (λ c κs. search needs) (λ c. search needs) (λ c κs. search needs) returns)

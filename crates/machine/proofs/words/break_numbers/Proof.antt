@@ -1,6 +1,5 @@
 -- Each number of the state is stored as the definition of a broken row has it.
-use Rattle.constraint.proofs.Library.{refl, needs}
-use Rattle.machine.specs.Words.{numberWords}
+use Rattle.machine.proofs.Names.{needs, numberWords, refl}
 use Rattle.machine.proofs.words.break_numbers.Statement.{statement}
 use Rattle.machine.proofs.words.break_numbers.Tie as tie
 

@@ -1,14 +1,12 @@
 -- What the row is becomes its past; its ring begins further on and holds fewer times, or stays where none leaves.
-use Rattle.constraint.proofs.Library.{_-_, _≡_, refl, arith, ne-eqb, needs}
-use Rattle.machine.specs.Words.{rowWords, numberWords}
+use Rattle.machine.proofs.Names.{_-_, _≡_, arith, ne-eqb, needs, numberWords, refl, rowWords}
 use Rattle.machine.proofs.words.drop_oldest.Statement.{statement}
 use Rattle.machine.proofs.words.drop_oldest.Tie as tie
 
 returns : tie.Need-returns
 unfolding rowWords numberWords
 returns c rule times state past e =
-    let p = c .before .before in
-    let t = p .before .before in
+    let p = c .before .before in let t = p .before .before in
     let kept = t .before .keep .ensures rule times state past e in
     rw (c .left .ensures, p .place-of .ensures, kept, ne-eqb (t .before .before .before .args .dropped) 0 (λ none. omega (arith, t .if1 .taken))) refl
 

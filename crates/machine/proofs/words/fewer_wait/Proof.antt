@@ -1,9 +1,6 @@
 -- The oldest that is left gives the due time, and the length says whether one is.
-use Rattle.constraint.proofs.Library.{refl, needs}
-use Rattle.queue.proofs.Laws.{ring-length}
-use Rattle.machine.specs.Words.{rowWords, numberWords, changedWords}
-use Rattle.machine.proofs.Oldest.{none-left-dropped}
-use Rattle.machine.proofs.words.fewer_wait.Statement.{statement}
+use Rattle.machine.proofs.Names.{changedWords, needs, numberWords, refl, ring-length, rowWords}
+use Rattle.machine.proofs.{Oldest.none-left-dropped, words.fewer_wait.Statement.statement}
 use Rattle.machine.proofs.words.fewer_wait.Tie as tie
 
 returns : tie.Need-returns

@@ -1,7 +1,7 @@
 -- The marks and the step that broke the row become the past beside the rest.
-use Rattle.constraint.proofs.Library.{refl, needs}
-use Rattle.machine.specs.Words.{Past, rowWords, numberWords}
+use Rattle.machine.proofs.Names.{needs, numberWords, refl, rowWords}
 use Rattle.machine.proofs.words.keep_all.Statement.{statement}
+use Rattle.machine.specs.Words.{Past}
 use Rattle.machine.proofs.words.keep_all.Tie as tie
 
 returns : tie.Need-returns

@@ -1,6 +1,5 @@
 -- The three numbers are read before the first is stored, so each stands ten places on.
-use Rattle.constraint.proofs.Library.{refl, needs}
-use Rattle.machine.specs.Words.{rowWords, numberWords}
+use Rattle.machine.proofs.Names.{needs, numberWords, refl, rowWords}
 use Rattle.machine.proofs.words.keep_first_three.Statement.{statement}
 use Rattle.machine.proofs.words.keep_first_three.Tie as tie
 

@@ -1,6 +1,5 @@
 -- Four numbers are read before the first is stored, so each stands ten places on; place and stamp are stored as they are given.
-use Rattle.constraint.proofs.Library.{refl, needs}
-use Rattle.machine.specs.Words.{numberWords}
+use Rattle.machine.proofs.Names.{needs, numberWords, refl}
 use Rattle.machine.proofs.words.keep_numbers.Statement.{statement}
 use Rattle.machine.proofs.words.keep_numbers.Tie as tie
 

@@ -1,16 +1,12 @@
 -- The oldest that is left gives the due time, and t where none is.
-use Rattle.constraint.proofs.Library.{refl, drop, needs}
-use Rattle.queue.specs.Ring.{ring}
-use Rattle.machine.specs.Words.{rowWords, numberWords, changedWords}
-use Rattle.machine.proofs.Oldest.{none-left-pushed, due-or-pushed}
-use Rattle.machine.proofs.words.one_more_waits.Statement.{statement}
+use Rattle.machine.proofs.Names.{changedWords, drop, needs, numberWords, refl, ring, rowWords}
+use Rattle.machine.proofs.{Oldest.due-or-pushed, Oldest.none-left-pushed, words.one_more_waits.Statement.statement}
 use Rattle.machine.proofs.words.one_more_waits.Tie as tie
 
 returns : tie.Need-returns
 unfolding rowWords numberWords changedWords
 returns c rule times state past e =
-    let d = c .before .before in
-    let a = d .before .before .before .before .before .before .args in
+    let d = c .before .before in let a = d .before .before .before .before .before .before .args in
     let left = drop (a .dropped) (ring times (state .head) (state .len)) in
     let pushed = c .push-one .ensures rule times state past e in
     rw (d .due-after .ensures, d .before .plus .ensures, pushed, e, due-or-pushed (rule .upper) (a .t) left, none-left-pushed left (a .t)) refl

@@ -1,18 +1,12 @@
 -- What the row is becomes its past, the place being that of the push; the ring is the one that is pushed to.
-use Rattle.constraint.proofs.Library.{_≡_, refl, _∙_, arith, needs}
-use Rattle.queue.specs.Ring.{ringOf, pushRing, dropRing}
-use Rattle.machine.specs.Words.{rowWords, numberWords}
+use Rattle.machine.proofs.Names.{_∙_, _≡_, arith, dropRing, needs, numberWords, pushRing, refl, ringOf, rowWords}
 use Rattle.machine.proofs.words.push_one.Statement.{statement}
 use Rattle.machine.proofs.words.push_one.Tie as tie
 
 returns : tie.Need-returns
 unfolding rowWords numberWords
 returns c rule times state past e =
-    let u = c .before in
-    let k = u .before .before in
-    let o = k .before in
-    let l = o .before .before in
-    let p = l .before .before in
+    let u = c .before in let k = u .before .before in let o = k .before in let l = o .before .before in let p = l .before .before in
     let a = p .before .before .args in
     let kept = k .keep .ensures rule times state past e in
     let pushed : ringOf (u .push .last .0) (p .head-after .result) (u .push .result)
@@ -23,11 +17,7 @@ returns c rule times state past e =
 returns-2 : tie.Need-returns-2
 unfolding rowWords numberWords
 returns-2 c rule times state past e =
-    let u = c .before in
-    let k = u .before .before in
-    let o = k .before in
-    let l = o .before .before in
-    let p = l .before .before in
+    let u = c .before in let k = u .before .before in let o = k .before in let l = o .before .before in let p = l .before .before in
     let a = p .before .before .args in
     let kept = k .keep .ensures rule times state past e in
     let none : a .dropped ≡ 0 = omega (arith, c .if1 .left) in

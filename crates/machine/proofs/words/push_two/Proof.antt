@@ -1,18 +1,12 @@
 -- What the row is becomes its past, the place being that of the first push; the ring is the one that is pushed to twice.
-use Rattle.constraint.proofs.Library.{_≡_, refl, _∙_, needs}
-use Rattle.queue.specs.Ring.{ringOf, pushRing, dropRing}
-use Rattle.machine.specs.Words.{rowWords, numberWords}
+use Rattle.machine.proofs.Names.{_∙_, _≡_, dropRing, needs, numberWords, pushRing, refl, ringOf, rowWords}
 use Rattle.machine.proofs.words.push_two.Statement.{statement}
 use Rattle.machine.proofs.words.push_two.Tie as tie
 
 returns : tie.Need-returns
 unfolding rowWords numberWords
 returns c rule times state past e =
-    let f = c .before .before in
-    let k = f .before .before in
-    let o = k .before in
-    let l = o .before .before in
-    let p = l .before .before in
+    let f = c .before .before in let k = f .before .before in let o = k .before in let l = o .before .before in let p = l .before .before in
     let a = p .before .before .args in
     let kept = k .keep .ensures rule times state past e in
     let one : ringOf (f .push .last .0) (p .head-after .result) (f .push .result)

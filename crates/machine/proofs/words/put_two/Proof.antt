@@ -1,16 +1,12 @@
 -- What the row is becomes its past, the place being that of the first word; the ring is the one that both words are put into.
-use Rattle.constraint.proofs.Library.{_+_, _≡_, refl, needs}
-use Rattle.queue.specs.Ring.{ringOf, putRing}
-use Rattle.machine.specs.Words.{rowWords, numberWords}
+use Rattle.machine.proofs.Names.{_+_, _≡_, needs, numberWords, putRing, refl, ringOf, rowWords}
 use Rattle.machine.proofs.words.put_two.Statement.{statement}
 use Rattle.machine.proofs.words.put_two.Tie as tie
 
 returns : tie.Need-returns
 unfolding rowWords numberWords
 returns c rule times state past e =
-    let k = c .before .before in
-    let o = k .before in
-    let a = o .before .before .before .before .args in
+    let k = c .before .before in let o = k .before in let a = o .before .before .before .before .args in
     let kept = k .keep .ensures rule times state past e in
     let both : ringOf (c .put-pair .last .0) (state .head) (state .len)
     ≡ putRing (a .place + 1) (a .second) (putRing (a .place) (a .first) (ringOf times (state .head) (state .len))) =

@@ -1,6 +1,5 @@
 -- The two numbers are stored at their places, and nothing else.
-use Rattle.constraint.proofs.Library.{refl, needs}
-use Rattle.machine.specs.Words.{numberWords}
+use Rattle.machine.proofs.Names.{needs, numberWords, refl}
 use Rattle.machine.proofs.words.settle.Statement.{statement}
 use Rattle.machine.proofs.words.settle.Tie as tie
 
@@ -9,5 +8,4 @@ unfolding numberWords
 returns c rule state past e = rw e refl
 
 pub settle-spec : {M : Type 1} → statement M
-settle-spec =
-    tie.close (tie.spec (λ c. search needs) (λ c. search needs) returns)
+settle-spec = tie.close (tie.spec (λ c. search needs) (λ c. search needs) returns)

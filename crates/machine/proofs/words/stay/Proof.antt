@@ -1,6 +1,5 @@
 -- What the row is becomes its past; its ring stays.
-use Rattle.constraint.proofs.Library.{_-_, _≡_, refl, arith, needs}
-use Rattle.machine.specs.Words.{rowWords, numberWords}
+use Rattle.machine.proofs.Names.{_-_, _≡_, arith, needs, numberWords, refl, rowWords}
 use Rattle.machine.proofs.words.stay.Statement.{statement}
 use Rattle.machine.proofs.words.stay.Tie as tie
 
@@ -12,5 +11,4 @@ returns c rule times state past e =
     rw (kept, all) refl
 
 pub stay-spec : {M : Type 1} → statement M
-stay-spec =
-    tie.close (tie.spec (λ c κs. search needs) returns)
+stay-spec = tie.close (tie.spec (λ c κs. search needs) returns)

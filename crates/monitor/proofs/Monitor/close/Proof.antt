@@ -2,9 +2,5 @@
 use Rattle.monitor.proofs.Monitor.close.Statement.{statement}
 use Rattle.monitor.proofs.Monitor.close.Tie as tie
 
-returns : tie.Need-returns
-returns c = c .step .ensures
-
 pub close-spec : {M : Type 1} → statement M
-close-spec =
-    tie.close (tie.spec (λ c κs. tt) returns)
+close-spec = tie.close (tie.spec (λ c κs. tt) (λ c. c .step .ensures))

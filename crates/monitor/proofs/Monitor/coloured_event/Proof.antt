@@ -2,9 +2,5 @@
 use Rattle.monitor.proofs.Monitor.coloured_event.Statement.{statement}
 use Rattle.monitor.proofs.Monitor.coloured_event.Tie as tie
 
-returns : tie.Need-returns
-returns c = c .step .ensures
-
 pub coloured-event-spec : {M : Type 1} → statement M
-coloured-event-spec =
-    tie.close (tie.spec (λ c κs. tt) returns)
+coloured-event-spec = tie.close (tie.spec (λ c κs. tt) (λ c. c .step .ensures))

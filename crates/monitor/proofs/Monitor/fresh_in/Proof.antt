@@ -1,14 +1,6 @@
 -- The table's answer is that of its questions; over an accepted table all its rows are taken, and otherwise none.
-use Rattle.constraint.proofs.Library.{arith, needs, ap, _∙_, take-all}
-use Rattle.constraint.specs.Accepted.{AcceptedIn}
-use Rattle.constraint.specs.Promise.{play}
-use Rattle.constraint.specs.Records.{rowsOf}
-use Rattle.constraint.proofs.Judged.{never}
-use Rattle.constraint.proofs.Rows.{rows-length}
-use Rattle.monitor.specs.Machine.{monitorOf}
-use Rattle.monitor.specs.Contract.{after}
-use Rattle.monitor.proofs.Demand.{accepted-few}
-use Rattle.monitor.proofs.Monitor.fresh_in.Statement.{statement}
+use Rattle.monitor.proofs.Names.{AcceptedIn, _∙_, after, ap, arith, monitorOf, needs, never, play, rows-length, rowsOf, take-all}
+use Rattle.monitor.proofs.{Demand.accepted-few, Monitor.fresh_in.Statement.statement}
 use Rattle.monitor.proofs.Monitor.fresh_in.Tie as tie
 
 -- the answer is "taken"

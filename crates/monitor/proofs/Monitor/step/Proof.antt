@@ -1,12 +1,7 @@
 -- The number of the first "no" is that of `refusalBy`; past it the rows take the call, which is the next step, and where it crowds one of them the
 -- monitor is handed back as it was.
-use Rattle.constraint.proofs.Library.{arith, needs, _≡_, sym, ap, _∙_, false}
-use Rattle.constraint.specs.Run.{asks}
-use Rattle.monitor.specs.Machine.{crowds, takenCall, steppedBy, stepOf}
-use Rattle.questions.proofs.Places.{place-small}
-use Rattle.monitor.proofs.Answers.{refused-by, crowded-by, taken-by}
-use Rattle.monitor.proofs.Theorem.{step-kept}
-use Rattle.monitor.proofs.Monitor.step.Statement.{statement}
+use Rattle.monitor.proofs.Names.{_∙_, _≡_, ap, arith, asks, crowds, false, needs, place-small, stepOf, steppedBy, sym, takenCall}
+use Rattle.monitor.proofs.{Answers.crowded-by, Answers.refused-by, Answers.taken-by, Monitor.step.Statement.statement, Theorem.step-kept}
 use Rattle.monitor.proofs.Monitor.step.Tie as tie
 
 -- what is asked first
@@ -25,12 +20,6 @@ module _ (c : tie.After-step) where
 
   crowds-is : crowds (start asked .args .t1) (start asked .args .call) ≡ c .step .result .crowded
   crowds-is = rw (c .before .plus .ensures, c .before .before .occurrence .ensures) at (sym (c .step .ensures .crowded-is))
-
-mul-next : tie.Need-mul-next
-mul-next c = omega (arith, c .place .ensures, place-small (c .before .args .call))
-
-element-copy-out-next : tie.Need-element-copy-out-next
-element-copy-out-next c = omega (arith, c .place .ensures, place-small (c .before .args .call))
 
 returns : tie.Need-returns
 returns c =
@@ -81,6 +70,7 @@ returns-3 c =
 
 pub step-spec : {M : Type 1} → statement M
 step-spec =
-    tie.close (tie.spec (λ c κs. search needs) mul-next element-copy-out-next (λ c κs. search needs) (λ c κs. search needs) returns (λ c κs. search
-    needs) (λ c κs. search needs) (λ c κs. search needs) (λ c κs. search needs) returns-2 (λ c κs. search needs) mul-after element-write-after (λ c
-    κs. search needs) (λ c κs. search needs) (λ c κs. search needs) returns-3)
+    tie.close (tie.spec (λ c κs. search needs) (λ c. omega (arith, c .place .ensures, place-small (c .before .args .call)))
+    (λ c. omega (arith, c .place .ensures, place-small (c .before .args .call))) (λ c κs. search needs) (λ c κs. search needs) returns
+    (λ c κs. search needs) (λ c κs. search needs) (λ c κs. search needs) (λ c κs. search needs) returns-2 (λ c κs. search needs) mul-after
+    element-write-after (λ c κs. search needs) (λ c κs. search needs) (λ c κs. search needs) returns-3)

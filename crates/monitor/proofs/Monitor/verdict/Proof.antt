@@ -1,18 +1,11 @@
 -- The row at the place of that number is the row of that number where there is one, and the verdict is read off its numbers.
-use Rattle.constraint.proofs.Library.{arith, needs, _≡_, sym, _∙_, length, length-map}
-use Rattle.monitor.proofs.RowVerdicts.{place-small, verdict-kept}
-use Rattle.monitor.proofs.Monitor.verdict.Statement.{statement}
+use Rattle.monitor.proofs.Names.{_∙_, _≡_, arith, length, length-map, needs, sym}
+use Rattle.monitor.proofs.{Monitor.verdict.Statement.statement, RowVerdicts.place-small, RowVerdicts.verdict-kept}
 use Rattle.monitor.proofs.Monitor.verdict.Tie as tie
 
 -- a monitor has 32 rows
 size : (c : tie.Start) → length (c .args .t1 .rows) ≡ 32
 size c = sym (length-map (c .args .t1 .rows) _) ∙ c .good .0 .1 .1 .0 .1 .0 .1
-
-mul-found : tie.Need-mul-found
-mul-found c = omega (arith, c .place .ensures, place-small (c .before .args .row))
-
-element-copy-out-found : tie.Need-element-copy-out-found
-element-copy-out-found c = omega (arith, c .place .ensures, place-small (c .before .args .row))
 
 returns : tie.Need-returns
 returns c =
@@ -21,4 +14,5 @@ returns c =
 
 pub verdict-spec : {M : Type 1} → statement M
 verdict-spec =
-    tie.close (tie.spec (λ c κs. search needs) mul-found element-copy-out-found (λ c κs. search needs) returns)
+    tie.close (tie.spec (λ c κs. search needs) (λ c. omega (arith, c .place .ensures, place-small (c .before .args .row)))
+    (λ c. omega (arith, c .place .ensures, place-small (c .before .args .row))) (λ c κs. search needs) returns)

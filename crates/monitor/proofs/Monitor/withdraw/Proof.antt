@@ -1,11 +1,7 @@
 -- The test is that of `withdrawOf`; past it each row and each number is put back.
-use Rattle.constraint.proofs.Library.{arith, needs, sym, _∙_, ltb, lt-ltb, le-ltb}
-use Rattle.constraint.specs.Run.{withdraws}
-use Rattle.queue.proofs.Shared.{cond-true, cond-false}
-use Rattle.monitor.specs.Machine.{takes, refuses, withdrawn, withdrawOf}
-use Rattle.questions.proofs.Places.{place-in-small}
-use Rattle.monitor.proofs.Theorem.{step-kept}
-use Rattle.monitor.proofs.Monitor.withdraw.Statement.{statement}
+use Rattle.monitor.proofs.Names.{_∙_, arith, cond-false, cond-true, le-ltb, lt-ltb, ltb, needs, place-in-small, refuses, sym, takes}
+use Rattle.monitor.proofs.Names.{withdrawOf, withdrawn, withdraws}
+use Rattle.monitor.proofs.{Monitor.withdraw.Statement.statement, Theorem.step-kept}
 use Rattle.monitor.proofs.Monitor.withdraw.Tie as tie
 
 returns : tie.Need-returns
@@ -28,9 +24,7 @@ element-write-after c = omega (
 returns-2 : tie.Need-returns-2
 unfolding withdrawOf withdrawn
 returns-2 c =
-    let backed = c .before .before in
-    let placed = backed .before in
-    let m = placed .before .before .before .before .args .self in
+    let backed = c .before .before in let placed = backed .before in let m = placed .before .before .before .before .args .self in
     step-kept m withdraws
     (simp (c .taken .ensures, c .before .no-undo .ensures, backed .back .ensures, placed .place-in .ensures)
     (sym (cond-true (ltb 0 (m .undo .may)) (takes (withdrawn m)) (refuses 21 m)

@@ -1,8 +1,6 @@
 -- The loop takes the step from one row after the other, as many as the monitor holds.
-use Rattle.constraint.proofs.Library.{_≤_, _-_, arith, needs, _≡_, sym, _∙_, length, length-map}
-use Rattle.monitor.specs.Parts.{rowsWithout}
-use Rattle.monitor.proofs.First.{without-none, without-next, without-all}
-use Rattle.monitor.proofs.rows.back.Statement.{statement}
+use Rattle.monitor.proofs.Names.{_-_, _∙_, _≡_, _≤_, arith, length, length-map, needs, rowsWithout, sym}
+use Rattle.monitor.proofs.{First.without-all, First.without-next, First.without-none, rows.back.Statement.statement}
 use Rattle.monitor.proofs.rows.back.Tie as tie
 
 abbrev Inv-loop : tie.InvT-loop
@@ -23,9 +21,7 @@ loop-holds c = let start = c .before in (omega arith, sym (without-none (start .
 
 loop-again : tie.Need-loop-again Inv-loop μ-loop
 loop-again c =
-    let at-loop = c .before .before .before .before .before in
-    let start = at-loop .before .before in
-    let args = start .args in (
+    let at-loop = c .before .before .before .before .before in let start = at-loop .before .before in let args = start .args in (
       omega arith,
       without-next (args .number) (args .m) (size start) (wide start) (at-loop .loop .after) (at-loop .loop .i) (at-loop .loop .inv .1)
           (omega (arith, at-loop .before .held .ensures)) _ _ _ _

@@ -1,13 +1,7 @@
 -- The loop puts the row of one constraint after the other into an array of rows of the filler.
-use Rattle.constraint.proofs.Library.{ℕ, _≤_, _<_, _-_, arith, needs, _≡_, sym, _∙_, length, getD, length-map, length-take-le, drop-cons}
-use Rattle.constraint.specs.Records.{filler, rowsOf}
-use Rattle.constraint.specs.declared.Entry.{Entry}
-use Rattle.constraint.specs.declared.Table.{Table}
-use Rattle.constraint.proofs.Rows.{rows-length, rows-from}
-use Rattle.row.specs.Machine.{rowOf}
-use Rattle.monitor.specs.Machine.{noRow, monitorOf}
-use Rattle.monitor.proofs.Filled.{filled, filled-next}
-use Rattle.monitor.proofs.rows.over.Statement.{statement}
+use Rattle.monitor.proofs.Names.{Entry, Table, _-_, _<_, _∙_, _≡_, _≤_, arith, drop-cons, filler, getD, length, length-map, length-take-le}
+use Rattle.monitor.proofs.Names.{monitorOf, needs, noRow, rowOf, rows-from, rows-length, rowsOf, sym, ℕ}
+use Rattle.monitor.proofs.{Filled.filled, Filled.filled-next, rows.over.Statement.statement}
 use Rattle.monitor.proofs.rows.over.Tie as tie
 
 abbrev Inv-loop : tie.InvT-loop
@@ -25,15 +19,9 @@ row-at : (table : Table) (i : ℕ) (other : Entry) → i < table .count → i < 
     ≡ getD (table .rows) i other .constraint
 row-at table i other counted there = cc (drop-cons (rowsOf table) i filler (omega (arith, rows-length table)), rows-from table i other counted there)
 
-loop-holds : tie.Need-loop-holds Inv-loop μ-loop
-loop-holds c = (omega arith, rw (c .begin .ensures))
-
 loop-again : tie.Need-loop-again Inv-loop μ-loop
 loop-again c =
-    let at-loop = c .before .before .before in
-    let start = at-loop .before .before in
-    let table = start .args .t1 in
-    let i = at-loop .loop .i in
+    let at-loop = c .before .before .before in let start = at-loop .before .before in let table = start .args .t1 in let i = at-loop .loop .i in
     let counted : i < table .count = omega arith in (
       omega arith,
       rw (at-loop .loop .inv .1, c .begin2 .ensures, ← row-at table i _ counted (omega (arith, size start)))
@@ -43,8 +31,7 @@ loop-again c =
 returns : tie.Need-returns Inv-loop μ-loop
 unfolding monitorOf
 returns c =
-    let at-loop = c .before .before .before in
-    let args = at-loop .before .before .args in
+    let at-loop = c .before .before .before in let args = at-loop .before .before .args in
     let all : at-loop .loop .i ≡ args .len = omega arith in
     rw (
       at-loop .loop .inv .1,
@@ -56,5 +43,6 @@ returns c =
 
 pub over-spec : {M : Type 1} → statement M
 over-spec =
-    tie.close (tie.spec Inv-loop μ-loop (λ c κs. search needs) loop-holds (λ c. omega arith) (λ c. omega arith) (λ c κs. search needs) (λ c. omega
-    arith) (λ c. omega arith) (λ c. omega arith) (λ c. omega arith) loop-again (λ c κs. search needs) (λ c κs. search needs) returns)
+    tie.close (tie.spec Inv-loop μ-loop (λ c κs. search needs) (λ c. (omega arith, rw (c .begin .ensures))) (λ c. omega arith) (λ c. omega arith)
+    (λ c κs. search needs) (λ c. omega arith) (λ c. omega arith) (λ c. omega arith) (λ c. omega arith) loop-again (λ c κs. search needs)
+    (λ c κs. search needs) returns)

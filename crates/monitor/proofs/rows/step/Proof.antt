@@ -1,7 +1,6 @@
 -- The loop gives the step to one row after the other, as many as the monitor holds, and stops at the first that it crowds.
-use Rattle.constraint.proofs.Library.{_≤_, _-_, arith, needs, _≡_, sym, _∙_, length, length-map}
-use Rattle.monitor.proofs.First.{Moved, moved-none, moved-full, moved-next, moved-all}
-use Rattle.monitor.proofs.rows.step.Statement.{statement}
+use Rattle.monitor.proofs.Names.{_-_, _∙_, _≡_, _≤_, arith, length, length-map, needs, sym}
+use Rattle.monitor.proofs.{First.Moved, First.moved-all, First.moved-full, First.moved-next, First.moved-none, rows.step.Statement.statement}
 use Rattle.monitor.proofs.rows.step.Tie as tie
 
 abbrev Inv-loop : tie.InvT-loop
@@ -18,22 +17,15 @@ size c = sym (length-map (c .args .m .rows) _) ∙ c .good .0 .1 .1 .0 .1 .0 .1
 wide : (c : tie.Start Inv-loop μ-loop) → length (c .args .m .before) ≡ 32
 wide c = sym (length-map (c .args .m .before) _) ∙ c .good .0 .1 .1 .1 .1 .1 .1 .1 .1 .0 .1 .0 .1
 
-loop-holds : tie.Need-loop-holds Inv-loop μ-loop
-loop-holds c = let args = c .before .args in (omega arith, moved-none (args .o) (args .number) (args .m))
-
 returns : tie.Need-returns Inv-loop μ-loop
 returns c =
-    let at-loop = c .before .before .before .before in
-    let start = at-loop .before .before in
-    let args = start .args in
+    let at-loop = c .before .before .before .before in let start = at-loop .before .before in let args = start .args in
     moved-full (args .o) (args .number) (args .m) (size start) (at-loop .loop .after) (at-loop .loop .i) (at-loop .loop .inv .1) _ _
     (omega (arith, at-loop .before .held .ensures)) (c .before .step .ensures) (c .if1 .taken)
 
 loop-again : tie.Need-loop-again Inv-loop μ-loop
 loop-again c =
-    let stepped = c .before .before .before .before in
-    let at-loop = stepped .before .before .before in
-    let start = at-loop .before .before in
+    let stepped = c .before .before .before .before in let at-loop = stepped .before .before .before in let start = at-loop .before .before in
     let args = start .args in (
       omega arith,
       moved-next (args .o) (args .number) (args .m) (size start) (at-loop .loop .after) (at-loop .loop .i) (at-loop .loop .inv .1)
@@ -43,13 +35,13 @@ loop-again c =
 
 returns-2 : tie.Need-returns-2 Inv-loop μ-loop
 returns-2 c =
-    let start = c .before .before .before in
-    let args = start .args in
+    let start = c .before .before .before in let args = start .args in
     moved-all (args .o) (args .number) (args .m) (size start) (c .before .loop .after) (c .before .loop .i) (c .before .loop .inv .1)
     (omega (arith, c .before .before .held .ensures))
 
 pub step-spec : {M : Type 1} → statement M
 step-spec =
-    tie.close (tie.spec Inv-loop μ-loop (λ c κs. search needs) loop-holds (λ c. omega arith) (λ c. omega arith) (λ c κs. search needs) returns (λ c.
-    omega arith) (λ c. omega arith) (λ c κs. search needs) (λ c. omega arith) (λ c. omega arith) (λ c. omega arith) (λ c. omega arith) (λ c. omega
-    arith) (λ c. omega arith) loop-again returns-2)
+    tie.close (tie.spec Inv-loop μ-loop (λ c κs. search needs)
+    (λ c. let args = c .before .args in (omega arith, moved-none (args .o) (args .number) (args .m))) (λ c. omega arith) (λ c. omega arith)
+    (λ c κs. search needs) returns (λ c. omega arith) (λ c. omega arith) (λ c κs. search needs) (λ c. omega arith) (λ c. omega arith)
+    (λ c. omega arith) (λ c. omega arith) (λ c. omega arith) (λ c. omega arith) loop-again returns-2)

@@ -1,13 +1,7 @@
 -- The tests are those of `verdictBy`.
-use borrow.Author.Tests.{lt-ltb, le-ltb}
+use Rattle.monitor.proofs.Names.{le-ltb, lt-ltb}
 use Rattle.monitor.proofs.verdicts.by.Statement.{statement}
 use Rattle.monitor.proofs.verdicts.by.Tie as tie
-
-returns : tie.Need-returns
-returns c = simp (le-ltb _ _ (c .if1 .taken))
-
-returns-2 : tie.Need-returns-2
-returns-2 c = simp (lt-ltb _ _ (c .before .if1 .left), le-ltb _ _ (c .if2 .taken))
 
 returns-3 : tie.Need-returns-3
 returns-3 c = simp (lt-ltb _ _ (c .before .before .if1 .left), lt-ltb _ _ (c .before .if2 .left), lt-ltb _ _ (c .if3 .taken))
@@ -29,4 +23,6 @@ returns-5 c = simp (
 )
 
 pub by-spec : {M : Type 1} → statement M
-by-spec = tie.close (tie.spec returns returns-2 returns-3 returns-4 returns-5)
+by-spec =
+    tie.close (tie.spec (λ c. simp (le-ltb _ _ (c .if1 .taken))) (λ c. simp (lt-ltb _ _ (c .before .if1 .left), le-ltb _ _ (c .if2 .taken))) returns-3
+    returns-4 returns-5)

@@ -1,47 +1,31 @@
 -- The length is known from the number of rows alone: the buffer is tested against it first, and then the lines are put one after the other.
-use Rattle.constraint.proofs.Library.{ℕ, min, arith, _≡_, sym, ap, _∙_, List, sets, needs, now}
-use Rattle.constraint.specs.Limits.{rowLimit}
-use Rattle.constraint.specs.Steps.{at}
-use Rattle.constraint.specs.Page.{hyphens, pageLines}
-use Rattle.page.specs.ReadBack.{pageLength}
-use Rattle.page.specs.Sheet.{verdictsOf}
-use Rattle.page.proofs.Pages.{some-rows, copied-nothing, copied-page}
-use Rattle.page.proofs.Summary.write.Statement.{statement}
+use Rattle.constraint.proofs.Library.{List, _∙_, _≡_, ap, arith, min, needs, now, sets, sym, ℕ}
+use Rattle.constraint.specs.{Limits.rowLimit, Page.hyphens, Page.pageLines, Steps.at}
+use Rattle.page.proofs.{Pages.copied-nothing, Pages.copied-page, Pages.some-rows, Summary.write.Statement.statement}
+use Rattle.page.specs.{ReadBack.pageLength, Sheet.verdictsOf}
 use Rattle.page.proofs.Summary.write.Tie as tie
 
 -- the length that was tested
 counted : (c : tie.After-size) → c .size .result ≡ pageLength (min (c .before .before .before .args .t1 .rows) rowLimit)
 counted c = c .size .ensures ∙ ap pageLength (c .before .held .ensures)
 
-size-requires : tie.Need-size-requires
-size-requires c κs = omega (arith, c .held .ensures)
-
 returns : tie.Need-returns
 returns c =
-    let size = c .before in
-    let start = size .before .before .before .args in
+    let size = c .before in let start = size .before .before .before .args in
     copied-nothing (start .t1) (now (start .buffer)) (size .size .result) (counted size) (c .if1 .taken)
 
 returns-2 : tie.Need-returns-2
 unfolding hyphens
 returns-2 c =
-    let put = c .before .before in
-    let none = put .before .before .before in
-    let size = none .before .before in
+    let put = c .before .before in let none = put .before .before .before in let size = none .before .before in
     let start = size .before .before .before .args in
     let rows : min (start .t1 .rows) rowLimit ≡ 0 = omega (arith, size .before .held .ensures) in
     copied-page (start .t1) (now (start .buffer)) (size .size .result) (counted size) _ (none .before .if1 .left) (rw rows (put .put .ensures))
 
-put-rows-requires : tie.Need-put-rows-requires
-put-rows-requires c κs = omega (arith, c .before .before .before .before .before .before .before .held .ensures)
-
 returns-3 : tie.Need-returns-3
 returns-3 c =
-    let put = c .before .before in
-    let some = put .before .before .before .before .before in
-    let size = some .before .before in
-    let start = size .before .before .before .args in
-    let page = start .t1 in
+    let put = c .before .before in let some = put .before .before .before .before .before in let size = some .before .before in
+    let start = size .before .before .before .args in let page = start .t1 in
     let types = at (page .types) in
     let verdicts = verdictsOf (page .closed) (page .steps) in
     let n = min (page .rows) rowLimit in
@@ -53,5 +37,6 @@ returns-3 c =
 
 pub write-spec : {M : Type 1} → statement M
 write-spec =
-    tie.close (tie.spec (λ c κs. search needs) size-requires returns (λ c. search needs) (λ c κs. search needs) (λ c. search needs) returns-2
-    put-rows-requires (λ c. search needs) returns-3)
+    tie.close (tie.spec (λ c κs. search needs) (λ c κs. omega (arith, c .held .ensures)) returns (λ c. search needs) (λ c κs. search needs)
+    (λ c. search needs) returns-2 (λ c κs. omega (arith, c .before .before .before .before .before .before .before .held .ensures))
+    (λ c. search needs) returns-3)

@@ -1,11 +1,10 @@
 -- The target answers every source that the loop has passed; once it has passed 64 it has passed every time of the ring, which repeats itself.
-use Rattle.constraint.proofs.Library.{ℕ, zero, suc, _+_, _-_, _%_, _<_, _≤_, _≡_, refl, sym, ap, _∙_, Bool, true, false, List, [], _∷_, _⊎_, inl, inr}
-use Rattle.constraint.proofs.Library.{by-cases, ℕ-discrete, arith, not-true, not-false, ltb-true, ltb-false, leb, length, getD}
-use Rattle.queue.specs.Ring.{ring, timeAt}
-use Rattle.queue.proofs.Laws.{ring-length, ring-read, ring-round}
-use Rattle.pairs.specs.Delay.{answeredBy}
-use Rattle.queue.proofs.Shared.{free}
+use Rattle.constraint.proofs.Library.{Bool, List, [], _%_, _+_, _-_, _<_, _∙_, _∷_, _≡_, _≤_, _⊎_, ap, arith, by-cases, false, getD, inl, inr, leb}
+use Rattle.constraint.proofs.Library.{length, ltb-false, ltb-true, not-false, not-true, refl, suc, sym, true, zero, ℕ, ℕ-discrete}
 use Rattle.pairs.proofs.delay.answered.Statement.{statement}
+use Rattle.pairs.specs.Delay.{answeredBy}
+use Rattle.queue.proofs.{Laws.ring-length, Laws.ring-read, Laws.ring-round, Shared.free}
+use Rattle.queue.specs.Ring.{ring, timeAt}
 use Rattle.pairs.proofs.delay.answered.Tie as tie
 
 module _ (lower t : ℕ) where
@@ -53,14 +52,9 @@ module _ (lower t : ℕ) (times : List ℕ) (head len n : ℕ) (passed : (i : �
       each (inl h) i here = passed i (omega arith)
       each (inr h) i here = rw (ring-round times head i) (passed (i % 64) (omega arith))
 
-loop-holds : tie.Need-loop-holds Inv-loop μ-loop
-loop-holds c = (omega arith, omega arith, λ i h. absurd (omega arith))
-
 returns : tie.Need-returns Inv-loop μ-loop
 returns c =
-    let s = c .before .before .time-at in
-    let r = c .before .reaches in
-    let b = c .before .before .before .before in
+    let s = c .before .before .time-at in let r = c .before .reaches in let b = c .before .before .before .before in
     let a = b .before .before .args in
     stops (a .lower) (a .t) (a .times .now) (a .head) (a .len) _ (b .before .loop .inv .2) _ (s .ensures) _ (r .ensures) (b .loop-test .taken)
     (not-true _ (c .if2 .taken))
@@ -72,10 +66,7 @@ loop-less c =
 
 loop-again : tie.Need-loop-again Inv-loop μ-loop
 loop-again c =
-    let s = c .before .before .time-at in
-    let r = c .before .reaches in
-    let d = c .before .before .before in
-    let b = d .before in
+    let s = c .before .before .time-at in let r = c .before .reaches in let d = c .before .before .before in let b = d .before in
     let a = b .before .before .args in
     let more = one-more (a .lower) (a .t) (a .times .now) (a .head) (a .len) _ (b .before .loop .inv .2) _ (s .ensures) _ (r .ensures) in
     (omega (arith, b .loop-test .taken), omega (arith, ltb-true (b .before .loop .n) 64 (d .if1 .taken)), more (not-false _ (c .if2 .left)))
@@ -92,4 +83,5 @@ returns-3 c =
 
 pub answered-spec : {M : Type 1} → statement M
 answered-spec =
-    tie.close (tie.spec Inv-loop μ-loop loop-holds free free returns (λ c. omega arith) loop-less loop-again returns-2 returns-3)
+    tie.close (tie.spec Inv-loop μ-loop (λ c. (omega arith, omega arith, λ i h. absurd (omega arith))) free free returns (λ c. omega arith) loop-less
+    loop-again returns-2 returns-3)

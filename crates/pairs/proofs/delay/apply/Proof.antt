@@ -1,16 +1,14 @@
 -- A source joins the times unless the last target answers it; a target leaves with those that it answers.
-use Rattle.constraint.proofs.Library.{refl, eq-eqb, ne-eqb, needs}
-use Rattle.machine.specs.Words.{rowWords, numberWords, changedWords, pastWith, lastKept}
-use Rattle.pairs.specs.Delay.{decideDelay}
+use Rattle.constraint.proofs.Library.{eq-eqb, ne-eqb, needs, refl}
+use Rattle.machine.specs.Words.{changedWords, lastKept, numberWords, pastWith, rowWords}
 use Rattle.pairs.proofs.delay.apply.Statement.{statement}
+use Rattle.pairs.specs.Delay.{decideDelay}
 use Rattle.pairs.proofs.delay.apply.Tie as tie
 
 returns : tie.Need-returns
 unfolding rowWords numberWords changedWords decideDelay
 returns c rule times state past e =
-    let i = c .before .before in
-    let a = i .before in
-    let f = a .before .before in
+    let i = c .before .before in let a = i .before in let f = a .before .before in
     let k = f .before .before .before .keep-last .ensures rule times state past e in
     rw (
       c .fewer-wait .ensures rule times state (pastWith past (lastKept (state .marks) (past .state .marks))) k,
@@ -22,9 +20,7 @@ returns c rule times state past e =
 returns-2 : tie.Need-returns-2
 unfolding rowWords numberWords changedWords decideDelay
 returns-2 c rule times state past e =
-    let i = c .before .before in
-    let a = i .before in
-    let f = a .before .before in
+    let i = c .before .before in let a = i .before in let f = a .before .before in
     let k = f .before .before .before .keep-last .ensures rule times state past e in
     rw (
       c .one-more-waits .ensures rule times state (pastWith past (lastKept (state .marks) (past .state .marks))) k,
@@ -36,9 +32,7 @@ returns-2 c rule times state past e =
 returns-3 : tie.Need-returns-3
 unfolding rowWords numberWords changedWords decideDelay
 returns-3 c rule times state past e =
-    let f = c .before in
-    let a = f .before .before in
-    let i = a .before .before .before .before in
+    let f = c .before in let a = f .before .before in let i = a .before .before .before .before in
     let k = i .before .before .before .keep-last .ensures rule times state past e in
     rw (
       f .fewer-wait2 .ensures rule times state (pastWith past (lastKept (state .marks) (past .state .marks))) k,

@@ -1,15 +1,11 @@
 -- Each event is the partner of one beyond of the other kind, or one more beyond itself; what is beyond is stored.
-use Rattle.constraint.proofs.Library.{ℕ, _-_, _≡_, refl, ap, Bool, true, false, cond, List, [], eqb, getD, eq-eqb, ne-eqb, needs}
+use Rattle.constraint.proofs.Library.{Bool, List, [], _-_, _≡_, ap, cond, eq-eqb, eqb, false, getD, ne-eqb, needs, refl, true, ℕ}
 use Rattle.constraint.specs.Limits.{noLimit}
-use Rattle.queue.specs.Ring.{ringOf, dropRing}
-use Rattle.queue.specs.declared.Edit.the-variants.{Drop}
-use Rattle.machine.specs.Parts.{earlyOf, continuesWith}
-use Rattle.machine.specs.Words.{Past, rowWords, numberWords, changedWords, firstThreeKept, pastWith, keptOf, goingOn}
-use Rattle.machine.specs.declared.Rule.{Rule}
-use Rattle.machine.specs.declared.Marks.{Marks}
-use Rattle.machine.specs.declared.State.{State}
-use Rattle.pairs.specs.Order.{aheadOf, changesTo, decideOrder}
+use Rattle.machine.specs.Words.{Past, changedWords, firstThreeKept, goingOn, keptOf, numberWords, pastWith, rowWords}
+use Rattle.machine.specs.{Parts.continuesWith, Parts.earlyOf, declared.Marks.Marks, declared.Rule.Rule, declared.State.State}
 use Rattle.pairs.proofs.order.apply.Statement.{statement}
+use Rattle.pairs.specs.Order.{aheadOf, changesTo, decideOrder}
+use Rattle.queue.specs.{Ring.dropRing, Ring.ringOf, declared.Edit.the-variants.Drop}
 use Rattle.pairs.proofs.order.apply.Tie as tie
 
 -- a change to other marks, as the words have it
@@ -33,9 +29,7 @@ going-to rule times state past marks number = either (eqb (earlyOf marks) 0) noL
 returns : tie.Need-returns
 unfolding rowWords numberWords decideOrder
 returns c rule times state past e =
-    let b = c .before .before .before in
-    let i = b .before in
-    let s = i .before .before .before .before in
+    let b = c .before .before .before in let i = b .before in let s = i .before .before .before .before in
     let k = s .before .before .keep-first-three .ensures rule times state past e in
     let stayed = s .stay .ensures rule times state (pastWith past (firstThreeKept (state .marks) (past .state .marks))) k in
     rw (
@@ -50,9 +44,7 @@ returns c rule times state past e =
 returns-2 : tie.Need-returns-2
 unfolding rowWords numberWords decideOrder
 returns-2 c rule times state past e =
-    let b = c .before .before in
-    let i = b .before in
-    let s = i .before .before .before .before in
+    let b = c .before .before in let i = b .before in let s = i .before .before .before .before in
     let k = s .before .before .keep-first-three .ensures rule times state past e in
     let stayed = s .stay .ensures rule times state (pastWith past (firstThreeKept (state .marks) (past .state .marks))) k in
     rw (
@@ -66,9 +58,7 @@ returns-2 c rule times state past e =
 returns-3 : tie.Need-returns-3
 unfolding rowWords numberWords decideOrder
 returns-3 c rule times state past e =
-    let b = c .before .before .before in
-    let i = b .before in
-    let s = i .before .before .before .before in
+    let b = c .before .before .before in let i = b .before in let s = i .before .before .before .before in
     let k = s .before .before .keep-first-three .ensures rule times state past e in
     let stayed = s .stay .ensures rule times state (pastWith past (firstThreeKept (state .marks) (past .state .marks))) k in
     rw (
@@ -83,9 +73,7 @@ returns-3 c rule times state past e =
 returns-4 : tie.Need-returns-4
 unfolding rowWords numberWords decideOrder
 returns-4 c rule times state past e =
-    let b = c .before .before in
-    let i = b .before in
-    let s = i .before .before .before .before in
+    let b = c .before .before in let i = b .before in let s = i .before .before .before .before in
     let k = s .before .before .keep-first-three .ensures rule times state past e in
     let stayed = s .stay .ensures rule times state (pastWith past (firstThreeKept (state .marks) (past .state .marks))) k in
     rw (

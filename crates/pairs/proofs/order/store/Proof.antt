@@ -1,24 +1,21 @@
 -- The tests are those of `changesTo`; each number is stored at its place.
-use Rattle.constraint.proofs.Library.{refl, _∙_, eq-eqb, ne-eqb, needs}
-use Rattle.machine.specs.Parts.{withLast}
-use Rattle.machine.specs.Words.{numberWords, withMarks}
-use Rattle.pairs.specs.Order.{withAhead, changesTo}
+use Rattle.constraint.proofs.Library.{_∙_, eq-eqb, ne-eqb, needs, refl}
+use Rattle.machine.specs.{Parts.withLast, Words.numberWords, Words.withMarks}
 use Rattle.pairs.proofs.order.store.Statement.{statement}
+use Rattle.pairs.specs.Order.{changesTo, withAhead}
 use Rattle.pairs.proofs.order.store.Tie as tie
 
 returns : tie.Need-returns
 unfolding numberWords changesTo
 returns c rule state past e =
-    let i = c .before .before .before in
-    let a = i .before .args in
+    let i = c .before .before .before in let a = i .before .args in
     c .settle .ensures rule (withMarks state (withAhead (withLast (state .marks) (a .early)) (a .ahead))) past (rw e refl)
     ∙ rw (eq-eqb _ _ (i .if1 .taken), c .before .one-if .ensures) refl
 
 returns-2 : tie.Need-returns-2
 unfolding numberWords changesTo
 returns-2 c rule state past e =
-    let i = c .before .before in
-    let a = i .before .args in
+    let i = c .before .before in let a = i .before .args in
     c .settle2 .ensures rule (withMarks state (withAhead (withLast (state .marks) (a .early)) (a .ahead))) past (rw e refl)
     ∙ rw (ne-eqb _ _ (i .if1 .left)) refl
 

@@ -1,16 +1,15 @@
 -- A source waits unless there is a target beyond; a target takes the oldest source that waits, if that is long enough before it, or is one beyond.
-use Rattle.constraint.proofs.Library.{refl, ap, [], getD, set, eq-eqb, ne-eqb, needs}
-use Rattle.machine.specs.Words.{rowWords, numberWords, changedWords, pastWith, lastKept}
+use Rattle.constraint.proofs.Library.{[], ap, eq-eqb, getD, ne-eqb, needs, refl, set}
 use Rattle.machine.proofs.Oldest.{none-left-ring}
-use Rattle.pairs.specs.StrongDelay.{sourceStrongDelay, targetStrongDelay, decideStrongDelay}
+use Rattle.machine.specs.Words.{changedWords, lastKept, numberWords, pastWith, rowWords}
 use Rattle.pairs.proofs.strong_delay.apply.Statement.{statement}
+use Rattle.pairs.specs.StrongDelay.{decideStrongDelay, sourceStrongDelay, targetStrongDelay}
 use Rattle.pairs.proofs.strong_delay.apply.Tie as tie
 
 returns : tie.Need-returns
 unfolding rowWords numberWords changedWords decideStrongDelay sourceStrongDelay
 returns c rule times state past e =
-    let i = c .before .before in
-    let f = i .before .before in
+    let i = c .before .before in let f = i .before .before in
     let k = f .before .before .keep-last .ensures rule times state past e in
     rw (
       c .one-more-waits .ensures rule times state (pastWith past (lastKept (state .marks) (past .state .marks))) k,
@@ -21,8 +20,7 @@ returns c rule times state past e =
 returns-2 : tie.Need-returns-2
 unfolding rowWords numberWords changedWords decideStrongDelay sourceStrongDelay
 returns-2 c rule times state past e =
-    let i = c .before .before in
-    let f = i .before .before in
+    let i = c .before .before in let f = i .before .before in
     let k = f .before .before .keep-last .ensures rule times state past e in
     rw (
       c .fewer-wait .ensures rule times state (pastWith past (lastKept (state .marks) (past .state .marks))) k,
@@ -33,11 +31,7 @@ returns-2 c rule times state past e =
 returns-3 : tie.Need-returns-3
 unfolding rowWords numberWords changedWords decideStrongDelay targetStrongDelay
 returns-3 c rule times state past e =
-    let p = c .before .before in
-    let s = p .before in
-    let i = s .before .before in
-    let n = i .before in
-    let f = n .before .before .before .before in
+    let p = c .before .before in let s = p .before in let i = s .before .before in let n = i .before in let f = n .before .before .before .before in
     let k = f .before .before .keep-last .ensures rule times state past e in
     let stayed = s .stay .ensures rule times state (pastWith past (lastKept (state .marks) (past .state .marks))) k in
     let done = c .settle .ensures rule _ _ (ap (λ w. getD (set w 1 (set (getD w 1 []) 10 (p .plus .result))) 1 []) stayed) in
@@ -54,9 +48,7 @@ returns-3 c rule times state past e =
 returns-4 : tie.Need-returns-4
 unfolding rowWords numberWords changedWords decideStrongDelay targetStrongDelay
 returns-4 c rule times state past e =
-    let i = c .before .before in
-    let n = i .before in
-    let f = n .before .before .before .before in
+    let i = c .before .before in let n = i .before in let f = n .before .before .before .before in
     let k = f .before .before .keep-last .ensures rule times state past e in
     rw (
       c .break-at .ensures rule times state (pastWith past (lastKept (state .marks) (past .state .marks))) k,
@@ -69,11 +61,7 @@ returns-4 c rule times state past e =
 returns-5 : tie.Need-returns-5
 unfolding rowWords numberWords changedWords decideStrongDelay targetStrongDelay
 returns-5 c rule times state past e =
-    let i = c .before .before in
-    let r = i .before in
-    let o = r .before in
-    let n = o .before .before in
-    let f = n .before .before .before .before in
+    let i = c .before .before in let r = i .before in let o = r .before in let n = o .before .before in let f = n .before .before .before .before in
     let k = f .before .before .keep-last .ensures rule times state past e in
     rw (
       c .fewer-wait2 .ensures rule times state (pastWith past (lastKept (state .marks) (past .state .marks))) k,
@@ -88,11 +76,7 @@ returns-5 c rule times state past e =
 returns-6 : tie.Need-returns-6
 unfolding rowWords numberWords changedWords decideStrongDelay targetStrongDelay
 returns-6 c rule times state past e =
-    let i = c .before .before in
-    let r = i .before in
-    let o = r .before in
-    let n = o .before .before in
-    let f = n .before .before .before .before in
+    let i = c .before .before in let r = i .before in let o = r .before in let n = o .before .before in let f = n .before .before .before .before in
     let k = f .before .before .keep-last .ensures rule times state past e in
     rw (
       c .break-at2 .ensures rule times state (pastWith past (lastKept (state .marks) (past .state .marks))) k,

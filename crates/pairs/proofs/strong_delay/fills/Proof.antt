@@ -1,7 +1,7 @@
 -- The tests are those of `fillsStrongDelay`, in its order.
-use Rattle.constraint.proofs.Library.{lt-ltb, le-ltb, eq-eqb, ne-eqb, needs}
-use Rattle.pairs.specs.StrongDelay.{fillsStrongDelay}
+use Rattle.constraint.proofs.Library.{eq-eqb, le-ltb, lt-ltb, ne-eqb, needs}
 use Rattle.pairs.proofs.strong_delay.fills.Statement.{statement}
+use Rattle.pairs.specs.StrongDelay.{fillsStrongDelay}
 use Rattle.pairs.proofs.strong_delay.fills.Tie as tie
 
 returns : tie.Need-returns

@@ -1,14 +1,13 @@
 -- Two events never share a time; each phase has its own changes.
-use Rattle.constraint.proofs.Library.{refl, lt-ltb, le-ltb, eq-eqb, ne-eqb, needs}
-use Rattle.machine.specs.Words.{rowWords, numberWords, changedWords}
-use Rattle.phases.specs.ExecutionTime.{whilePreempted, decideExecutionTime}
+use Rattle.constraint.proofs.Library.{eq-eqb, le-ltb, lt-ltb, ne-eqb, needs, refl}
+use Rattle.machine.specs.Words.{changedWords, numberWords, rowWords}
 use Rattle.phases.proofs.execution_time.apply.Statement.{statement}
+use Rattle.phases.specs.ExecutionTime.{decideExecutionTime, whilePreempted}
 use Rattle.phases.proofs.execution_time.apply.Tie as tie
 
 returns : tie.Need-returns
 unfolding rowWords numberWords changedWords decideExecutionTime
-returns c rule times state past e =
-    rw (c .break-at .ensures rule times state past e, lt-ltb _ _ (rw e at (c .before .before .if1 .taken))) refl
+returns c rule times state past e = rw (c .break-at .ensures rule times state past e, lt-ltb _ _ (rw e at (c .before .before .if1 .taken))) refl
 
 returns-2 : tie.Need-returns-2
 unfolding rowWords numberWords decideExecutionTime
@@ -23,8 +22,7 @@ returns-2 c rule times state past e =
 returns-3 : tie.Need-returns-3
 unfolding rowWords numberWords decideExecutionTime
 returns-3 c rule times state past e =
-    let i = c .before .before in
-    let b = i .before in
+    let i = c .before .before in let b = i .before in
     rw (
       c .apply-running .ensures rule times state past e,
       le-ltb _ _ (rw e at (b .before .before .if1 .left)),
@@ -36,9 +34,7 @@ returns-3 c rule times state past e =
 returns-4 : tie.Need-returns-4
 unfolding rowWords numberWords decideExecutionTime whilePreempted
 returns-4 c rule times state past e =
-    let i = c .before .before .before in
-    let d = i .before .before in
-    let b = d .before in
+    let i = c .before .before .before in let d = i .before .before in let b = d .before in
     rw (
       c .run .ensures rule times state past e,
       e,
@@ -52,9 +48,7 @@ returns-4 c rule times state past e =
 returns-5 : tie.Need-returns-5
 unfolding rowWords numberWords changedWords decideExecutionTime whilePreempted
 returns-5 c rule times state past e =
-    let i = c .before .before in
-    let d = i .before .before in
-    let b = d .before in
+    let i = c .before .before in let d = i .before .before in let b = d .before in
     rw (
       c .break-at2 .ensures rule times state past e,
       le-ltb _ _ (rw e at (b .before .before .if1 .left)),

@@ -1,8 +1,8 @@
 -- The two tests are those of `whileIdle`.
-use Rattle.constraint.proofs.Library.{refl, ⊎-elim, eq-eqb, ne-eqb, needs}
-use Rattle.machine.specs.Words.{rowWords, numberWords, changedWords}
-use Rattle.phases.specs.ExecutionTime.{whileIdle}
+use Rattle.constraint.proofs.Library.{eq-eqb, ne-eqb, needs, refl, ⊎-elim}
+use Rattle.machine.specs.Words.{changedWords, numberWords, rowWords}
 use Rattle.phases.proofs.execution_time.apply_idle.Statement.{statement}
+use Rattle.phases.specs.ExecutionTime.{whileIdle}
 use Rattle.phases.proofs.execution_time.apply_idle.Tie as tie
 
 returns : tie.Need-returns

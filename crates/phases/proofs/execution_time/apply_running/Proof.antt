@@ -1,18 +1,14 @@
 -- The tests are those of `whileRunning`, in its order.
-use Rattle.constraint.proofs.Library.{_≡_, refl, _∙_, ⊎-elim, eq-eqb, ne-eqb, needs}
-use Rattle.machine.specs.Words.{rowWords, numberWords, changedWords}
-use Rattle.phases.specs.ExecutionTime.{ranTo, whileRunning}
+use Rattle.constraint.proofs.Library.{_∙_, _≡_, eq-eqb, ne-eqb, needs, refl, ⊎-elim}
+use Rattle.machine.specs.Words.{changedWords, numberWords, rowWords}
 use Rattle.phases.proofs.execution_time.apply_running.Statement.{statement}
+use Rattle.phases.specs.ExecutionTime.{ranTo, whileRunning}
 use Rattle.phases.proofs.execution_time.apply_running.Tie as tie
 
 returns : tie.Need-returns
 unfolding rowWords numberWords whileRunning
 returns c rule times state past e =
-    let i = c .before .before in
-    let f = i .before .before in
-    let q = f .before .before in
-    let m = q .before in
-    let p = m .before .before in
+    let i = c .before .before in let f = i .before .before in let q = f .before .before in let m = q .before in let p = m .before .before in
     let ran : q .plus2 .result ≡ ranTo (state .marks) (p .before .before .args .t) = q .plus2 .ensures
     ∙ rw (m .minus .ensures, p .plus .ensures, e) refl in
     rw (c .enter .ensures rule times state past e, ← ran, eq-eqb _ _ (rw e at (f .if1 .taken)), rw e at (i .if2 .taken)) refl
@@ -20,11 +16,7 @@ returns c rule times state past e =
 returns-2 : tie.Need-returns-2
 unfolding rowWords numberWords whileRunning
 returns-2 c rule times state past e =
-    let i = c .before .before in
-    let f = i .before .before in
-    let j = f .before .before in
-    let q = j .before .before in
-    let m = q .before in
+    let i = c .before .before in let f = i .before .before in let j = f .before .before in let q = j .before .before in let m = q .before in
     let p = m .before .before in
     let ran : q .plus2 .result ≡ ranTo (state .marks) (p .before .before .args .t) = q .plus2 .ensures
     ∙ rw (m .minus .ensures, p .plus .ensures, e) refl in
@@ -37,11 +29,7 @@ returns-2 c rule times state past e =
 returns-3 : tie.Need-returns-3
 unfolding rowWords numberWords changedWords whileRunning
 returns-3 c rule times state past e =
-    let k = c .before .before in
-    let j = k .before .before in
-    let q = j .before .before in
-    let m = q .before in
-    let p = m .before .before in
+    let k = c .before .before in let j = k .before .before in let q = j .before .before in let m = q .before in let p = m .before .before in
     let ran : q .plus2 .result ≡ ranTo (state .marks) (p .before .before .args .t) = q .plus2 .ensures
     ∙ rw (m .minus .ensures, p .plus .ensures, e) refl in
     rw (c .break-at .ensures rule times state past e, ← ran)

@@ -1,6 +1,6 @@
 -- The due time is the one that `runningFrom` says.
-use Rattle.constraint.proofs.Library.{refl, needs}
-use Rattle.machine.specs.Words.{rowWords, numberWords}
+use Rattle.constraint.proofs.Library.{needs, refl}
+use Rattle.machine.specs.Words.{numberWords, rowWords}
 use Rattle.phases.proofs.execution_time.run.Statement.{statement}
 use Rattle.phases.proofs.execution_time.run.Tie as tie
 
@@ -11,5 +11,4 @@ returns c rule times state past e =
     rw (c .enter .ensures rule times state past e, p .plus .ensures, rw e at (p .before .minus .ensures)) refl
 
 pub run-spec : {M : Type 1} → statement M
-run-spec =
-    tie.close (tie.spec (λ c. search needs) (λ c. search needs) (λ c κs. search needs) (λ c κs. search needs) (λ c κs. search needs) returns)
+run-spec = tie.close (tie.spec (λ c. search needs) (λ c. search needs) (λ c κs. search needs) (λ c κs. search needs) (λ c κs. search needs) returns)

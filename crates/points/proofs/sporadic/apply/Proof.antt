@@ -1,29 +1,21 @@
 -- The first event may have its point anywhere within its jitter; a later one goes on where the three tests hold.
-use Rattle.constraint.proofs.Library.{_≡_, refl, _∙_, ⊎-elim, eq-eqb, ne-eqb, needs}
-use Rattle.machine.specs.Words.{rowWords, numberWords, changedWords}
-use Rattle.points.specs.Sporadic.{stride, lowest, highest, laterSporadic, decideSporadic}
+use Rattle.constraint.proofs.Library.{_∙_, _≡_, eq-eqb, ne-eqb, needs, refl, ⊎-elim}
+use Rattle.machine.specs.Words.{changedWords, numberWords, rowWords}
 use Rattle.points.proofs.sporadic.apply.Statement.{statement}
+use Rattle.points.specs.Sporadic.{decideSporadic, highest, laterSporadic, lowest, stride}
 use Rattle.points.proofs.sporadic.apply.Tie as tie
 
 returns : tie.Need-returns
 unfolding rowWords numberWords decideSporadic
 returns c rule times state past e =
-    let i = c .before .before in
-    let m = i .before .before in
+    let i = c .before .before in let m = i .before .before in
     rw (c .place .ensures rule times state past e, rw e at (m .minus .ensures), eq-eqb _ _ (rw e at (i .if1 .taken))) refl
 
 returns-2 : tie.Need-returns-2
 unfolding rowWords numberWords decideSporadic laterSporadic
 returns-2 c rule times state past e =
-    let i = c .before .before in
-    let f = i .before .before .before in
-    let h = f .before .before in
-    let l = h .before .before in
-    let p = l .before in
-    let s = p .before .before in
-    let n = s .before .before in
-    let m = n .before .before in
-    let a = m .before .before .before .args in
+    let i = c .before .before in let f = i .before .before .before in let h = f .before .before in let l = h .before .before in let p = l .before in
+    let s = p .before .before in let n = s .before .before in let m = n .before .before in let a = m .before .before .before .args in
     let strides : s .stride .result ≡ stride (rule .lower) = rw e at (s .stride .ensures) in
     let low : l .larger .result ≡ lowest rule (state .marks) (a .t) = l .larger .ensures
     ∙ rw (p .plus .ensures, strides, m .minus .ensures, e) refl in
@@ -44,15 +36,8 @@ returns-2 c rule times state past e =
 returns-3 : tie.Need-returns-3
 unfolding rowWords numberWords changedWords decideSporadic laterSporadic
 returns-3 c rule times state past e =
-    let j = c .before .before in
-    let f = j .before in
-    let h = f .before .before in
-    let l = h .before .before in
-    let p = l .before in
-    let s = p .before .before in
-    let n = s .before .before in
-    let m = n .before .before in
-    let a = m .before .before .before .args in
+    let j = c .before .before in let f = j .before in let h = f .before .before in let l = h .before .before in let p = l .before in
+    let s = p .before .before in let n = s .before .before in let m = n .before .before in let a = m .before .before .before .args in
     let strides : s .stride .result ≡ stride (rule .lower) = rw e at (s .stride .ensures) in
     let low : l .larger .result ≡ lowest rule (state .marks) (a .t) = l .larger .ensures
     ∙ rw (p .plus .ensures, strides, m .minus .ensures, e) refl in

@@ -1,6 +1,6 @@
 -- The past is kept, and each number stored is the one that `pointAt` says.
-use Rattle.constraint.proofs.Library.{ℕ, refl, ap, List, [], getD, set, needs}
-use Rattle.machine.specs.Words.{rowWords, numberWords, changedWords, pastWith, firstThreeKept}
+use Rattle.constraint.proofs.Library.{List, [], ap, getD, needs, refl, set, ℕ}
+use Rattle.machine.specs.Words.{changedWords, firstThreeKept, numberWords, pastWith, rowWords}
 use Rattle.points.proofs.sporadic.place.Statement.{statement}
 use Rattle.points.proofs.sporadic.place.Tie as tie
 
@@ -11,11 +11,7 @@ with row place word = set row 1 (set (getD row 1 []) place word)
 returns : tie.Need-returns
 unfolding rowWords numberWords changedWords
 returns c rule times state past e =
-    let p = c .before .before in
-    let s = p .before in
-    let k = s .before .before in
-    let d = k .before .before in
-    let u = d .before .before in
+    let p = c .before .before in let s = p .before in let k = s .before .before in let d = k .before .before in let u = d .before .before in
     let a = u .before .before .args in
     let kept = k .keep-first-three .ensures rule times state past e in
     let stayed = s .stay .ensures rule times state (pastWith past (firstThreeKept (state .marks) (past .state .marks))) kept in

@@ -1,7 +1,5 @@
 -- The test is that of `keptWithout`.
-use borrow.Author.Tests.{eq-eqb, ne-eqb}
-use Rattle.queue.proofs.Shared.{free}
-use Rattle.row.specs.Undo.{keptWithout}
+use Rattle.row.proofs.Names.{eq-eqb, free, keptWithout, ne-eqb}
 use Rattle.row.proofs.Before.without.Statement.{statement}
 use Rattle.row.proofs.Before.without.Tie as tie
 

@@ -1,6 +1,5 @@
 -- Each part is what `rowOf` says.
-use Rattle.queue.proofs.Shared.{free}
-use Rattle.row.specs.Machine.{rowOf}
+use Rattle.row.proofs.Names.{free, rowOf}
 use Rattle.row.proofs.Row.begin.Statement.{statement}
 use Rattle.row.proofs.Row.begin.Tie as tie
 

@@ -1,13 +1,7 @@
 -- A row that may move takes the step where it lies, its own state being its past before, and what is kept of it is read off there.
-use Rattle.constraint.proofs.Library.{ℕ, _≡_, refl, sym, ap, _∙_, true, not-true, not-false, needs}
-use Rattle.row.specs.Stored.{wordsOf}
-use Rattle.row.specs.declared.Before.{Before}
-use Rattle.row.specs.declared.Occurrence.{Occurrence}
-use Rattle.row.specs.declared.Row.{Row}
-use Rattle.row.specs.Undo.{movesBy, savedBy, beforeOf}
-use Rattle.row.proofs.Laid.{step-keeps-all}
-use Rattle.row.proofs.Kept.{keeps-own}
-use Rattle.row.proofs.Row.saved.Statement.{statement}
+use Rattle.row.proofs.Names.{Before, Occurrence, Row, _∙_, _≡_, ap, beforeOf, movesBy, needs, not-false, not-true, refl, savedBy, sym, true}
+use Rattle.row.proofs.Names.{wordsOf, ℕ}
+use Rattle.row.proofs.{Kept.keeps-own, Laid.step-keeps-all, Row.saved.Statement.statement}
 use Rattle.row.proofs.Row.saved.Tie as tie
 
 -- what is kept of a row that may move does not depend on what was kept before
@@ -22,10 +16,7 @@ returns c = rw (sym (c .before .moves .ensures) ∙ not-true _ (c .if1 .taken))
 
 returns-2 : tie.Need-returns-2
 returns-2 c =
-    let w = c .before .before in
-    let l = w .before .before in
-    let i = l .before .before in
-    let a = i .before .before .args in
+    let w = c .before .before in let l = w .before .before in let i = l .before .before in let a = i .before .before .args in
     let own = beforeOf (a .self .now) in
     c .before-at .ensures _ _ (w .step .ensures (a .self) own (l .laid .ensures ∙ ap (wordsOf (a .self)) (l .before .of .ensures)))
     ∙ step-keeps-all (a .self) (a .o) (a .number) own (keeps-own (a .self) own refl)

@@ -1,11 +1,6 @@
 -- The tests are those of the definition, in their order, of the words that the row is.
-use Rattle.constraint.proofs.Library.{ℕ, _≡_, ap, _∙_, Bool, false, List, [], getD, lt-ltb, le-ltb, needs}
-use Rattle.machine.specs.Words.{rowWords, numberWords, ruleAt}
-use Rattle.row.specs.Apart.{appliesBy}
-use Rattle.row.specs.Stored.{wordsOf, stateAt}
-use Rattle.row.specs.declared.Before.{Before}
-use Rattle.row.specs.declared.Occurrence.{Occurrence}
-use Rattle.row.specs.declared.Row.{Row}
+use Rattle.row.proofs.Names.{Before, Bool, List, Occurrence, Row, [], _∙_, _≡_, ap, appliesBy, false, getD, le-ltb, lt-ltb, needs, numberWords}
+use Rattle.row.proofs.Names.{rowWords, ruleAt, stateAt, wordsOf, ℕ}
 use Rattle.row.proofs.stored.applies_event.Statement.{statement}
 use Rattle.row.proofs.stored.applies_event.Tie as tie
 
@@ -25,17 +20,13 @@ returns c w b e =
 
 returns-2 : tie.Need-returns-2
 returns-2 c w b e =
-    let i = c .before .before .before in
-    let a = i .before .before .args in
+    let i = c .before .before .before in let a = i .before .before .args in
     let asked : false ≡ appliedAt (a .row .now) (a .o) = rw (le-ltb _ _ (i .if1 .left), lt-ltb _ _ (c .if2 .taken)) in
     asked ∙ lies (a .row .now) w b (a .o) e
 
 returns-3 : tie.Need-returns-3
 returns-3 c w b e =
-    let r = c .before in
-    let j = r .before .before in
-    let i = j .before .before .before in
-    let a = i .before .before .args in
+    let r = c .before in let j = r .before .before in let i = j .before .before .before in let a = i .before .before .args in
     let asked : c .concerns .result ≡ appliedAt (a .row .now) (a .o) =
     rw (le-ltb _ _ (i .if1 .left), le-ltb _ _ (j .if2 .left)) (c .concerns .ensures ∙ rw (r .rule-at .ensures)) in
     asked ∙ lies (a .row .now) w b (a .o) e

@@ -1,7 +1,5 @@
 -- Each part is read off its place.
-use Rattle.constraint.proofs.Library.{refl, ap, [], getD, needs}
-use Rattle.machine.specs.Words.{rowWords, numberWords}
-use Rattle.row.specs.Stored.{pastOf, wordsOf}
+use Rattle.row.proofs.Names.{[], ap, getD, needs, numberWords, pastOf, refl, rowWords, wordsOf}
 use Rattle.row.proofs.stored.before_at.Statement.{statement}
 use Rattle.row.proofs.stored.before_at.Tie as tie
 

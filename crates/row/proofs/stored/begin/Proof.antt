@@ -1,5 +1,5 @@
 -- The words are those of the row of the constraint.
-use borrow.Author.Needs.{needs}
+use Rattle.row.proofs.Names.{needs}
 use Rattle.row.proofs.stored.begin.Statement.{statement}
 use Rattle.row.proofs.stored.begin.Tie as tie
 

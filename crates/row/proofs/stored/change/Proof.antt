@@ -1,12 +1,7 @@
 -- The code picks the type by its number, as `machineOf` does, and the type's function makes its machine's change.
-use Rattle.constraint.proofs.Library.{ℕ, _≡_, sym, ap, _∙_, ⊎-elim, List, [], getD, now, needs}
-use Rattle.queue.specs.Ring.{ring}
-use Rattle.machine.specs.Machine.{Machine, noMachine}
-use Rattle.machine.specs.Words.{rowWords, numberWords, changedWords, Applies}
-use Rattle.row.specs.Machine.{machineOf}
-use Rattle.row.specs.Stored.{Changes}
-use Rattle.row.proofs.Machines.{none-of}
-use Rattle.row.proofs.stored.change.Statement.{statement}
+use Rattle.row.proofs.Names.{Applies, Changes, List, Machine, [], _∙_, _≡_, ap, changedWords, getD, machineOf, needs, noMachine, now}
+use Rattle.row.proofs.Names.{numberWords, ring, rowWords, sym, ℕ, ⊎-elim}
+use Rattle.row.proofs.{Machines.none-of, stored.change.Statement.statement}
 use Rattle.row.proofs.stored.change.Tie as tie
 -- Made by release/row-types.py.
 use Rattle.pairs.specs.Delay.{machineDelay}

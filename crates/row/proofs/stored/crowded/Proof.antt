@@ -1,11 +1,7 @@
 -- More than 64 times are crowded by each event that goes to the row; at most 64 by what the type says.
-use Rattle.constraint.proofs.Library.{ℕ, _<_, _≤_, _≡_, refl, sym, ap, subst, _∙_, Bool, true, false, cond, List, [], getD, lt-ltb, needs}
-use Rattle.machine.specs.Words.{rowWords, numberWords}
-use Rattle.row.specs.Stored.{wordsOf}
-use Rattle.row.specs.declared.Before.{Before}
-use Rattle.row.specs.declared.Row.{Row}
-use Rattle.row.proofs.Crowding.{step-crowds, crowded-known}
-use Rattle.row.proofs.stored.crowded.Statement.{statement}
+use Rattle.row.proofs.Names.{Before, Bool, List, Row, [], _<_, _∙_, _≡_, _≤_, ap, cond, false, getD, lt-ltb, needs, numberWords, refl}
+use Rattle.row.proofs.Names.{rowWords, subst, sym, true, wordsOf, ℕ}
+use Rattle.row.proofs.{Crowding.crowded-known, Crowding.step-crowds, stored.crowded.Statement.statement}
 use Rattle.row.proofs.stored.crowded.Tie as tie
 
 -- a row that is full is crowded by what goes to it
@@ -20,15 +16,13 @@ many x w b e = ap (λ (y : List (List ℕ)). getD (getD y 1 []) 16 0) e
 
 returns : tie.Need-returns
 returns c w b number e =
-    let i = c .before in
-    let a = i .before .before .args in
+    let i = c .before in let a = i .before .before .args in
     let more : 64 < w .now .len = subst (λ (n : ℕ). 64 < n) (many (a .row .now) w b e) (i .if1 .taken) in
     c .applies_event .ensures w b e ∙ sym (step-crowds w (a .o) number ∙ rw (lt-ltb _ _ more, either _) refl)
 
 returns-2 : tie.Need-returns-2
 returns-2 c w b number e =
-    let i = c .before in
-    let a = i .before .before .args in
+    let i = c .before in let a = i .before .before .args in
     let few : w .now .len ≤ 64 = subst (λ (n : ℕ). n ≤ 64) (many (a .row .now) w b e) (i .if1 .left) in
     c .crowds .ensures w b e ∙ crowded-known w (a .o) few ∙ sym (step-crowds w (a .o) number)
 

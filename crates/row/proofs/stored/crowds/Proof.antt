@@ -1,31 +1,21 @@
 -- The rule is read off the words that the row is; an event of one of its kinds is asked for.
-use Rattle.constraint.proofs.Library.{_≡_, refl, sym, _∙_, true, false, needs}
-use Rattle.machine.specs.Words.{rowWords, numberWords}
-use Rattle.row.specs.Apart.{crowdedBy}
-use Rattle.row.specs.Machine.{concerns}
-use Rattle.row.specs.Stored.{wordsOf}
+use Rattle.row.proofs.Names.{_∙_, _≡_, concerns, crowdedBy, false, needs, numberWords, refl, rowWords, sym, true, wordsOf}
 use Rattle.row.proofs.stored.crowds.Statement.{statement}
 use Rattle.row.proofs.stored.crowds.Tie as tie
 
 returns : tie.Need-returns
 unfolding wordsOf rowWords numberWords crowdedBy
 returns c w b e =
-    let t = c .before in
-    let d = t .before in
-    let r = d .before in
-    let a = r .before .before .args in
+    let t = c .before in let d = t .before in let r = d .before in let a = r .before .before .args in
     let own : concerns (w .rule) (a .o .kind) ≡ true = sym (d .concerns .ensures ∙ rw (r .rule-at .ensures, e) refl) ∙ t .if1 .taken in
     rw own (c .full-for .ensures w b e)
 
 returns-2 : tie.Need-returns-2
 unfolding wordsOf rowWords numberWords crowdedBy
 returns-2 c w b e =
-    let d = c .before in
-    let r = d .before in
-    let a = r .before .before .args in
+    let d = c .before in let r = d .before in let a = r .before .before .args in
     let other : concerns (w .rule) (a .o .kind) ≡ false = sym (d .concerns .ensures ∙ rw (r .rule-at .ensures, e) refl) ∙ c .if1 .left in
     rw other refl
 
 pub crowds-spec : {M : Type 1} → statement M
-crowds-spec =
-    tie.close (tie.spec (λ c. search needs) (λ c κs. search needs) (λ c κs. search needs) (λ c κs. search needs) returns returns-2)
+crowds-spec = tie.close (tie.spec (λ c. search needs) (λ c κs. search needs) (λ c κs. search needs) (λ c κs. search needs) returns returns-2)

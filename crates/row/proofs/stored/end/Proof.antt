@@ -1,9 +1,6 @@
 -- A broken row stays; an overdue one breaks; the close keeps the past of one that it does not concern, and breaks it where it is not kept.
-use Rattle.constraint.proofs.Library.{ℕ, sym, ap, _∙_, List, [], getD, ltb, eqb, lt-ltb, le-ltb, eq-eqb, ne-eqb, not-true, not-false, needs}
-use Rattle.machine.specs.Words.{rowWords, numberWords, ruleAt}
-use Rattle.row.specs.Apart.{endsBy, endedState}
-use Rattle.row.specs.Machine.{concerns}
-use Rattle.row.specs.Stored.{pastOf, wordsOf}
+use Rattle.row.proofs.Names.{List, [], _∙_, ap, concerns, endedState, endsBy, eq-eqb, eqb, getD, le-ltb, lt-ltb, ltb, ne-eqb, needs, not-false}
+use Rattle.row.proofs.Names.{not-true, numberWords, pastOf, rowWords, ruleAt, sym, wordsOf, ℕ}
 use Rattle.row.proofs.stored.end.Statement.{statement}
 use Rattle.row.proofs.stored.end.Tie as tie
 
@@ -18,8 +15,7 @@ returns c r b e = rw (ap (λ m. ltb 0 (at 19 m)) (sym e) ∙ lt-ltb _ _ (c .if1 
 returns-2 : tie.Need-returns-2
 unfolding wordsOf rowWords numberWords endsBy endedState
 returns-2 c r b e =
-    let i = c .before .before in
-    let s = i .before .before in
+    let i = c .before .before in let s = i .before .before in
     let goes = ap (λ m. ltb 0 (at 19 m)) (sym e) ∙ le-ltb _ _ (s .before .if1 .left) in
     let late = ap (λ m. ltb (at 17 m) (s .before .before .before .args .o .time)) (sym e) ∙ lt-ltb _ _ (i .if2 .taken) in
     rw (goes, late) (c .break-at .ensures (r .rule) (r .times) (r .now) (pastOf b) e)
@@ -27,8 +23,7 @@ returns-2 c r b e =
 returns-3 : tie.Need-returns-3
 unfolding wordsOf rowWords numberWords endsBy
 returns-3 c r b e =
-    let j = c .before .before in
-    let s = j .before .before in
+    let j = c .before .before in let s = j .before .before in
     let goes = ap (λ m. ltb 0 (at 19 m)) (sym e) ∙ le-ltb _ _ (s .before .if1 .left) in
     let early = ap (λ m. ltb (at 17 m) (s .before .before .before .args .o .time)) (sym e) ∙ le-ltb _ _ (j .if2 .left) in
     rw (goes, early, not-true (s .before .before .before .args .o .closes) (c .if3 .taken)) e
@@ -36,11 +31,7 @@ returns-3 c r b e =
 returns-4 : tie.Need-returns-4
 unfolding wordsOf rowWords numberWords endsBy
 returns-4 c r b e =
-    let k = c .before in
-    let u = k .before in
-    let t = u .before .before in
-    let j = t .before .before in
-    let s = j .before .before in
+    let k = c .before in let u = k .before in let t = u .before .before in let j = t .before .before in let s = j .before .before in
     let goes = ap (λ m. ltb 0 (at 19 m)) (sym e) ∙ le-ltb _ _ (s .before .if1 .left) in
     let early = ap (λ m. ltb (at 17 m) (s .before .before .before .args .o .time)) (sym e) ∙ le-ltb _ _ (j .if2 .left) in
     let own = ap (λ m. concerns (ruleAt (getD m 1 [])) (s .before .before .before .args .o .kind)) (sym e)
@@ -50,13 +41,8 @@ returns-4 c r b e =
 returns-5 : tie.Need-returns-5
 unfolding wordsOf rowWords numberWords endsBy endedState
 returns-5 c r b e =
-    let f = c .before .before in
-    let x = f .before .before in
-    let k = x .before in
-    let u = k .before in
-    let t = u .before .before in
-    let j = t .before .before in
-    let s = j .before .before in
+    let f = c .before .before in let x = f .before .before in let k = x .before in let u = k .before in let t = u .before .before in
+    let j = t .before .before in let s = j .before .before in
     let goes = ap (λ m. ltb 0 (at 19 m)) (sym e) ∙ le-ltb _ _ (s .before .if1 .left) in
     let early = ap (λ m. ltb (at 17 m) (s .before .before .before .args .o .time)) (sym e) ∙ le-ltb _ _ (j .if2 .left) in
     let own = ap (λ m. concerns (ruleAt (getD m 1 [])) (s .before .before .before .args .o .kind)) (sym e)
@@ -68,13 +54,8 @@ returns-5 c r b e =
 returns-6 : tie.Need-returns-6
 unfolding wordsOf rowWords numberWords endsBy endedState
 returns-6 c r b e =
-    let f = c .before .before in
-    let x = f .before .before in
-    let k = x .before in
-    let u = k .before in
-    let t = u .before .before in
-    let j = t .before .before in
-    let s = j .before .before in
+    let f = c .before .before in let x = f .before .before in let k = x .before in let u = k .before in let t = u .before .before in
+    let j = t .before .before in let s = j .before .before in
     let goes = ap (λ m. ltb 0 (at 19 m)) (sym e) ∙ le-ltb _ _ (s .before .if1 .left) in
     let early = ap (λ m. ltb (at 17 m) (s .before .before .before .args .o .time)) (sym e) ∙ le-ltb _ _ (j .if2 .left) in
     let own = ap (λ m. concerns (ruleAt (getD m 1 [])) (s .before .before .before .args .o .kind)) (sym e)

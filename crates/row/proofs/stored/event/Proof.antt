@@ -1,18 +1,13 @@
 -- A row that is not broken takes what its type makes of the event; a broken one stays.
-use Rattle.constraint.proofs.Library.{sym, ap, _∙_, [], getD, eq-eqb, ne-eqb, needs}
-use Rattle.machine.specs.Words.{rowWords, numberWords}
-use Rattle.row.specs.Apart.{changeBy}
-use Rattle.row.specs.Machine.{eventAt}
-use Rattle.row.specs.Stored.{pastOf, wordsOf, appliedKeeps}
-use Rattle.row.proofs.Laid.{changed-words}
-use Rattle.row.proofs.stored.event.Statement.{statement}
+use Rattle.row.proofs.Names.{[], _∙_, ap, appliedKeeps, changeBy, eq-eqb, eventAt, getD, ne-eqb, needs, numberWords, pastOf, rowWords, sym}
+use Rattle.row.proofs.Names.{wordsOf}
+use Rattle.row.proofs.{Laid.changed-words, stored.event.Statement.statement}
 use Rattle.row.proofs.stored.event.Tie as tie
 
 returns : tie.Need-returns
 unfolding wordsOf rowWords numberWords appliedKeeps
 returns c r b e =
-    let i = c .before .before in
-    let a = i .before .before .args in
+    let i = c .before .before in let a = i .before .before .args in
     let is-open = sym (ap (λ m. getD (getD m 1 []) 19 0) e) ∙ i .if1 .taken in
     rw (eq-eqb _ _ is-open)
     (c .change .ensures (r .rule) (r .times) (r .now) (pastOf b) e
@@ -23,5 +18,4 @@ unfolding wordsOf rowWords numberWords
 returns-2 c r b e = rw (ne-eqb _ _ (λ z. c .if1 .left (ap (λ m. getD (getD m 1 []) 19 0) e ∙ z))) e
 
 pub event-spec : {M : Type 1} → statement M
-event-spec =
-    tie.close (tie.spec (λ c. search needs) (λ c. search needs) (λ c κs. search needs) returns returns-2)
+event-spec = tie.close (tie.spec (λ c. search needs) (λ c. search needs) (λ c κs. search needs) returns returns-2)

@@ -1,7 +1,5 @@
 -- The numbers stand at their places among the row's words.
-use Rattle.constraint.proofs.Library.{refl, needs}
-use Rattle.machine.specs.Words.{rowWords, numberWords}
-use Rattle.row.specs.Stored.{wordsOf, larger}
+use Rattle.row.proofs.Names.{larger, needs, numberWords, refl, rowWords, wordsOf}
 use Rattle.row.proofs.stored.filled.Statement.{statement}
 use Rattle.row.proofs.stored.filled.Tie as tie
 

@@ -1,10 +1,6 @@
 -- The code picks the type by its number, as `machineOf` does.
-use Rattle.constraint.proofs.Library.{ℕ, _≡_, refl, sym, ap, _∙_, ⊎-elim, needs}
-use Rattle.machine.specs.Machine.{Machine, noMachine}
-use Rattle.row.specs.Machine.{machineOf}
-use Rattle.row.specs.Stored.{filledBy}
-use Rattle.row.proofs.Machines.{none-of}
-use Rattle.row.proofs.stored.filled_by.Statement.{statement}
+use Rattle.row.proofs.Names.{Machine, _∙_, _≡_, ap, filledBy, machineOf, needs, noMachine, refl, sym, ℕ, ⊎-elim}
+use Rattle.row.proofs.{Machines.none-of, stored.filled_by.Statement.statement}
 use Rattle.row.proofs.stored.filled_by.Tie as tie
 -- Made by release/row-types.py.
 use Rattle.pairs.specs.Delay.{machineDelay}

@@ -1,12 +1,6 @@
 -- The code picks the type by its number, as `machineOf` does.
-use Rattle.constraint.proofs.Library.{ℕ, _≡_, refl, sym, ap, _∙_, ⊎-elim, Bool, List, getD, needs}
-use Rattle.queue.proofs.Shared.{free}
-use Rattle.machine.specs.Machine.{Machine, noMachine}
-use Rattle.machine.specs.Words.{askedOf}
-use Rattle.row.specs.Machine.{machineOf}
-use Rattle.row.specs.Apart.{fills}
-use Rattle.row.proofs.Machines.{none-of}
-use Rattle.row.proofs.stored.fills.Statement.{statement}
+use Rattle.row.proofs.Names.{Bool, List, Machine, _∙_, _≡_, ap, askedOf, fills, free, getD, machineOf, needs, noMachine, refl, sym, ℕ, ⊎-elim}
+use Rattle.row.proofs.{Machines.none-of, stored.fills.Statement.statement}
 use Rattle.row.proofs.stored.fills.Tie as tie
 -- Made by release/row-types.py.
 use Rattle.pairs.specs.Delay.{machineDelay}

@@ -1,10 +1,6 @@
 -- The tests are those of `fullFor`, in its order, of the words that the row is.
-use Rattle.constraint.proofs.Library.{ℕ, _≡_, ap, _∙_, Bool, false, List, [], getD, lt-ltb, le-ltb, needs}
-use Rattle.machine.specs.Words.{rowWords, numberWords, ruleAt}
-use Rattle.row.specs.Apart.{fullFor}
-use Rattle.row.specs.Stored.{wordsOf, stateAt}
-use Rattle.row.specs.declared.Before.{Before}
-use Rattle.row.specs.declared.Row.{Row}
+use Rattle.row.proofs.Names.{Before, Bool, List, Row, [], _∙_, _≡_, ap, false, fullFor, getD, le-ltb, lt-ltb, needs, numberWords, rowWords}
+use Rattle.row.proofs.Names.{ruleAt, stateAt, wordsOf, ℕ}
 use Rattle.row.proofs.stored.full_for.Statement.{statement}
 use Rattle.row.proofs.stored.full_for.Tie as tie
 
@@ -26,17 +22,14 @@ returns c w b e =
 returns-2 : tie.Need-returns-2
 unfolding fullFor
 returns-2 c w b e =
-    let i = c .before .before in
-    let a = i .before .before .args in
+    let i = c .before .before in let a = i .before .before .args in
     let asked : false ≡ fullAt (a .row .now) (a .stream) (a .t) = rw (le-ltb _ _ (i .if1 .left), lt-ltb _ _ (c .if2 .taken)) in
     asked ∙ lies (a .row .now) w b (a .stream) (a .t) e
 
 returns-3 : tie.Need-returns-3
 unfolding fullFor
 returns-3 c w b e =
-    let j = c .before .before in
-    let i = j .before .before in
-    let a = i .before .before .args in
+    let j = c .before .before in let i = j .before .before in let a = i .before .before .args in
     let asked : false ≡ fullAt (a .row .now) (a .stream) (a .t) =
     rw (le-ltb _ _ (i .if1 .left), le-ltb _ _ (j .if2 .left), lt-ltb _ _ (c .if3 .taken)) in
     asked ∙ lies (a .row .now) w b (a .stream) (a .t) e
@@ -44,10 +37,7 @@ returns-3 c w b e =
 returns-4 : tie.Need-returns-4
 unfolding fullFor
 returns-4 c w b e =
-    let k = c .before .before in
-    let j = k .before .before in
-    let i = j .before .before in
-    let a = i .before .before .args in
+    let k = c .before .before in let j = k .before .before in let i = j .before .before in let a = i .before .before .args in
     let asked : c .fills .result ≡ fullAt (a .row .now) (a .stream) (a .t) =
     rw (le-ltb _ _ (i .if1 .left), le-ltb _ _ (j .if2 .left), le-ltb _ _ (k .if3 .left)) (c .fills .ensures) in
     asked ∙ lies (a .row .now) w b (a .stream) (a .t) e

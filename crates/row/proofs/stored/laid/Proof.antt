@@ -1,18 +1,12 @@
 -- The times are the first array; the numbers are put into the second, part after part.
-use Rattle.constraint.proofs.Library.{refl, ap, ℕ, List, [], _∷_, needs}
-use Rattle.machine.specs.Words.{rowWords}
-use Rattle.row.specs.Stored.{nothing, wordsOf}
-use Rattle.row.specs.Undo.{noState}
+use Rattle.row.proofs.Names.{List, [], _∷_, ap, needs, noState, nothing, refl, rowWords, wordsOf, ℕ}
 use Rattle.row.proofs.stored.laid.Statement.{statement}
 use Rattle.row.proofs.stored.laid.Tie as tie
 
 returns : tie.Need-returns
 unfolding wordsOf rowWords
 returns c =
-    let s = c .before .before in
-    let p = s .before .before in
-    let a = p .before .before .before .args in
-    let rule = a .row .rule in
+    let s = c .before .before in let p = s .before .before in let a = p .before .before .before .args in let rule = a .row .rule in
     ap (λ (w : List ℕ). a .row .times ∷ w ∷ [])
     (c .put-before .ensures rule (a .row .now) nothing (s .put-state .ensures rule noState nothing (p .put-rule .ensures refl)))
 

@@ -1,6 +1,5 @@
 -- The state is read off the places of the past.
-use Rattle.constraint.proofs.Library.{refl, needs}
-use Rattle.machine.specs.Words.{numberWords}
+use Rattle.row.proofs.Names.{needs, numberWords, refl}
 use Rattle.row.proofs.stored.past_state.Statement.{statement}
 use Rattle.row.proofs.stored.past_state.Tie as tie
 

@@ -1,6 +1,5 @@
 -- Each number of the constraint is stored in its place, and the rest are zeros.
-use Rattle.constraint.proofs.Library.{refl, needs}
-use Rattle.machine.specs.Words.{numberWords}
+use Rattle.row.proofs.Names.{needs, numberWords, refl}
 use Rattle.row.proofs.stored.put_rule.Statement.{statement}
 use Rattle.row.proofs.stored.put_rule.Tie as tie
 

@@ -1,6 +1,5 @@
 -- Each number of the state is stored in its place.
-use Rattle.constraint.proofs.Library.{refl, needs}
-use Rattle.machine.specs.Words.{numberWords}
+use Rattle.row.proofs.Names.{needs, numberWords, refl}
 use Rattle.row.proofs.stored.put_state.Statement.{statement}
 use Rattle.row.proofs.stored.put_state.Tie as tie
 

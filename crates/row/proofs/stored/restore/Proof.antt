@@ -1,18 +1,14 @@
 -- What is read off the past is put in the place of the state, and nothing in that of the past.
-use Rattle.machine.specs.Words.{numberWords}
-use borrow.Author.Needs.{needs}
+use Rattle.row.proofs.Names.{needs, numberWords}
 use Rattle.row.proofs.stored.restore.Statement.{statement}
 use Rattle.row.proofs.stored.restore.Tie as tie
 
 returns : tie.Need-returns
 unfolding numberWords
 returns c rule state past e =
-    let n = c .before in
-    let s = n .before .before in
-    let p = s .before .before in
+    let n = c .before in let s = n .before .before in let p = s .before .before in
     let stored = s .put-state .ensures rule state past e in
     rw (c .put-before .ensures rule (p .past-state .result) past stored, n .none .ensures, p .past-state .ensures rule state past e)
 
 pub restore-spec : {M : Type 1} → statement M
-restore-spec =
-    tie.close (tie.spec (λ c κs. search needs) (λ c κs. search needs) (λ c κs. search needs) (λ c κs. search needs) returns)
+restore-spec = tie.close (tie.spec (λ c κs. search needs) (λ c κs. search needs) (λ c κs. search needs) (λ c κs. search needs) returns)

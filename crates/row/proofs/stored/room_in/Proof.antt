@@ -1,15 +1,13 @@
 -- The numbers stand at their places among the row's words.
-use Rattle.constraint.proofs.Library.{ℕ, _-_, min, _≡_, refl, sym, ap, _∙_, List, [], true, false, getD, ltb, arith, lt-ltb, le-ltb, now, needs}
-use Rattle.machine.specs.Words.{rowWords, numberWords}
-use Rattle.row.specs.Stored.{wordsOf, filledBy}
+use Rattle.row.proofs.Names.{List, [], _-_, _∙_, _≡_, ap, arith, false, filledBy, getD, le-ltb, lt-ltb, ltb, min, needs, now, numberWords}
+use Rattle.row.proofs.Names.{refl, rowWords, sym, true, wordsOf, ℕ}
 use Rattle.row.proofs.stored.room_in.Statement.{statement}
 use Rattle.row.proofs.stored.room_in.Tie as tie
 
 returns : tie.Need-returns
 unfolding wordsOf rowWords numberWords
 returns c w b e =
-    let t = c .before in
-    let a = t .before .before .args in
+    let t = c .before in let a = t .before .before .args in
     let len : getD (getD (now (a .row)) 1 []) 16 0 ≡ w .now .len = ap (λ (x : List (List ℕ)). getD (getD x 1 []) 16 0) e in
     let full : ltb 62 (w .now .len) ≡ true = ap (ltb 62) (sym len) ∙ lt-ltb _ _ (t .if1 .taken) in
     rw full (least (a .room) (64 - filledBy (w .rule .form) (w .rule .span) (w .now .len)) (c .if2 .taken))
@@ -20,9 +18,7 @@ returns c w b e =
 returns-2 : tie.Need-returns-2
 unfolding wordsOf rowWords numberWords
 returns-2 c w b e =
-    let f = c .before .before in
-    let t = f .before .before .before .before in
-    let row = t .before .before .args .row in
+    let f = c .before .before in let t = f .before .before .before .before in let row = t .before .before .args .row in
     let len : getD (getD (now row) 1 []) 16 0 ≡ w .now .len = ap (λ (x : List (List ℕ)). getD (getD x 1 []) 16 0) e in
     let full : ltb 62 (w .now .len) ≡ true = ap (ltb 62) (sym len) ∙ lt-ltb _ _ (t .if1 .taken) in
     rw (full, c .smaller .ensures, c .before .minus .ensures, f .filled-by .ensures, e) refl

@@ -1,7 +1,5 @@
 -- The rule and the state are read off the numbers, and the times are the first array.
-use Rattle.constraint.proofs.Library.{refl, needs}
-use Rattle.machine.specs.Words.{rowWords, numberWords}
-use Rattle.row.specs.Stored.{wordsOf}
+use Rattle.row.proofs.Names.{needs, numberWords, refl, rowWords, wordsOf}
 use Rattle.row.proofs.stored.row_at.Statement.{statement}
 use Rattle.row.proofs.stored.row_at.Tie as tie
 
@@ -12,5 +10,4 @@ returns c w b e =
     rw (c .state-at .ensures, t .before .rule-at .ensures, e) refl
 
 pub row-at-spec : {M : Type 1} → statement M
-row-at-spec =
-    tie.close (tie.spec (λ c. search needs) (λ c κs. search needs) (λ c. search needs) (λ c. search needs) (λ c κs. search needs) returns)
+row-at-spec = tie.close (tie.spec (λ c. search needs) (λ c κs. search needs) (λ c. search needs) (λ c. search needs) (λ c κs. search needs) returns)

@@ -1,11 +1,7 @@
 -- An overdue row and one that is not concerned are ended, and any other applies the event.
-use Rattle.constraint.proofs.Library.{ℕ, _≡_, refl, sym, ap, _∙_, Bool, true, false, cond, List, [], getD, ltb, lt-ltb, le-ltb, needs}
-use Rattle.machine.specs.Words.{rowWords, numberWords, ruleAt}
-use Rattle.row.specs.Machine.{concerns, eventAt}
-use Rattle.row.specs.Stored.{wordsOf, eventKeeps, endedSaves, stepKeeps}
-use Rattle.row.specs.declared.Row.{Row}
-use Rattle.row.proofs.Laid.{stepped-ended, stepped-applied}
-use Rattle.row.proofs.stored.step.Statement.{statement}
+use Rattle.row.proofs.Names.{Bool, List, Row, [], _∙_, _≡_, ap, concerns, cond, endedSaves, eventAt, eventKeeps, false, getD, le-ltb, lt-ltb}
+use Rattle.row.proofs.Names.{ltb, needs, numberWords, refl, rowWords, ruleAt, stepKeeps, sym, true, wordsOf, ℕ}
+use Rattle.row.proofs.{Laid.stepped-applied, Laid.stepped-ended, stored.step.Statement.statement}
 use Rattle.row.proofs.stored.step.Tie as tie
 
 -- a word of the row's numbers
@@ -23,8 +19,7 @@ same false x = refl
 returns : tie.Need-returns
 unfolding wordsOf rowWords numberWords stepKeeps
 returns c r b e =
-    let i = c .before .before in
-    let a = i .before .before .before .args in
+    let i = c .before .before in let a = i .before .before .before .args in
     let late = ap (λ m. ltb (at 17 m) (a .o .time)) (sym e) ∙ lt-ltb _ _ (i .if1 .taken) in
     rw late
     (c .end .ensures r b e
@@ -33,10 +28,7 @@ returns c r b e =
 returns-2 : tie.Need-returns-2
 unfolding wordsOf rowWords numberWords stepKeeps
 returns-2 c r b e =
-    let k = c .before .before in
-    let u = k .before .before in
-    let i = u .before .before in
-    let a = i .before .before .before .args in
+    let k = c .before .before in let u = k .before .before in let i = u .before .before in let a = i .before .before .before .args in
     let early = ap (λ m. ltb (at 17 m) (a .o .time)) (sym e) ∙ le-ltb _ _ (i .if1 .left) in
     let own = ap (λ m. concerns (ruleAt (getD m 1 [])) (a .o .kind)) (sym e) ∙ ap (λ w. concerns w (a .o .kind)) (sym (u .rule-at .ensures))
     ∙ sym (k .before .concerns .ensures) ∙ k .if2 .taken in
@@ -48,10 +40,7 @@ returns-2 c r b e =
 returns-3 : tie.Need-returns-3
 unfolding wordsOf rowWords numberWords stepKeeps
 returns-3 c r b e =
-    let k = c .before .before in
-    let u = k .before .before in
-    let i = u .before .before in
-    let a = i .before .before .before .args in
+    let k = c .before .before in let u = k .before .before in let i = u .before .before in let a = i .before .before .before .args in
     let other = ap (λ m. concerns (ruleAt (getD m 1 [])) (a .o .kind)) (sym e) ∙ ap (λ w. concerns w (a .o .kind)) (sym (u .rule-at .ensures))
     ∙ sym (k .before .concerns .ensures) ∙ k .if2 .left in
     rw (other, same (ltb (r .now .due) (a .o .time)) (endedSaves (a .o) (a .number) r b))

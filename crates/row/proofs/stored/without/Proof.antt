@@ -1,8 +1,6 @@
 -- Where the past is of that step, its two words and its state are put back; else nothing is done.
-use Rattle.constraint.proofs.Library.{refl, sym, ap, _∙_, ℕ, List, [], getD, set, now, eq-eqb, ne-eqb, needs}
-use Rattle.machine.specs.Words.{rowWords, numberWords}
-use Rattle.row.specs.Undo.{rowWithout, keptWithout, backRow}
-use Rattle.row.specs.Stored.{pastOf, wordsOf}
+use Rattle.row.proofs.Names.{List, [], _∙_, ap, backRow, eq-eqb, getD, keptWithout, ne-eqb, needs, now, numberWords, pastOf, refl, rowWithout}
+use Rattle.row.proofs.Names.{rowWords, set, sym, wordsOf, ℕ}
 use Rattle.row.proofs.stored.without.Statement.{statement}
 use Rattle.row.proofs.stored.without.Tie as tie
 
@@ -13,9 +11,7 @@ returns c r b e = rw (ne-eqb _ _ (λ z. c .if1 .taken (ap (λ m. getD (getD m 1 
 returns-2 : tie.Need-returns-2
 unfolding wordsOf rowWords numberWords rowWithout keptWithout backRow
 returns-2 c r b e =
-    let p = c .before .before in
-    let i = p .before .before .before .before .before in
-    let a = i .before .before .args in
+    let p = c .before .before in let i = p .before .before .before .before .before in let a = i .before .before .args in
     let x = p .put-back .last .0 in
     let numbers = c .restore .ensures (r .rule) (r .now) (pastOf b) (ap (λ m. getD (set m 0 x) 1 []) e) in
     rw (eq-eqb _ _ (sym (ap (λ m. getD (getD m 1 []) 33 0) e) ∙ i .if1 .left))

@@ -1,17 +1,13 @@
 -- The row goes on where both tests hold; its oldest time leaves where it has span of them, and the oldest that is left gives the due time.
-use Rattle.constraint.proofs.Library.{ℕ, _≡_, refl, sym, ap, _∙_, true, List, [], _∷_, _++_, ⊎-elim, length, drop, lt-ltb, le-ltb, not-true}
-use Rattle.constraint.proofs.Library.{not-false, needs}
-use Rattle.queue.specs.Ring.{ring}
-use Rattle.queue.proofs.Laws.{ring-length}
-use Rattle.queue.specs.declared.Edit.the-variants.{Push}
-use Rattle.machine.specs.Parts.{plus, farEnough, continuesWith, withLast, dueOldest}
-use Rattle.machine.specs.Words.{rowWords, numberWords, changedWords, pastWith, lastKept}
-use Rattle.machine.specs.declared.Rule.{Rule}
-use Rattle.machine.specs.declared.Marks.{Marks}
-use Rattle.machine.specs.declared.Change.{Change}
+use Rattle.constraint.proofs.Library.{List, [], _++_, _∙_, _∷_, _≡_, ap, drop, le-ltb, length, lt-ltb, needs, not-false, not-true, refl, sym, true, ℕ}
+use Rattle.constraint.proofs.Library.{⊎-elim}
 use Rattle.machine.proofs.Oldest.{due-or-pushed}
-use Rattle.spans.specs.Repeat.{leaving, spanReached, decideRepeat}
+use Rattle.machine.specs.{Parts.continuesWith, Parts.dueOldest, Parts.farEnough, Parts.plus, Parts.withLast, Words.changedWords, Words.lastKept}
+use Rattle.machine.specs.{Words.numberWords, Words.pastWith, Words.rowWords, declared.Change.Change, declared.Marks.Marks, declared.Rule.Rule}
+use Rattle.queue.proofs.Laws.{ring-length}
+use Rattle.queue.specs.{Ring.ring, declared.Edit.the-variants.Push}
 use Rattle.spans.proofs.repeat.apply.Statement.{statement}
+use Rattle.spans.specs.Repeat.{decideRepeat, leaving, spanReached}
 use Rattle.spans.proofs.repeat.apply.Tie as tie
 
 -- where both tests hold, the change is that of times that wait, but kept
@@ -38,10 +34,7 @@ returns c rule times state past e =
 returns-2 : tie.Need-returns-2
 unfolding rowWords numberWords changedWords decideRepeat
 returns-2 c rule times state past e =
-    let i = c .before .before in
-    let r = i .before in
-    let o = r .before .before in
-    let s = o .before .before in
+    let i = c .before .before in let r = i .before in let o = r .before .before in let s = o .before .before in
     let n = s .before .before .before .before in
     rw (
       c .break-at2 .ensures rule times state past e,
@@ -58,10 +51,7 @@ returns-2 c rule times state past e =
 returns-3 : tie.Need-returns-3
 unfolding rowWords numberWords changedWords decideRepeat
 returns-3 c rule times state past e =
-    let w = c .before in
-    let k = w .before .before in
-    let j = k .before .before in
-    let n = j .before .before .before .before in
+    let w = c .before in let k = w .before .before in let j = k .before .before in let n = j .before .before .before .before in
     let a = n .before .before .before .before .args in
     let kept = ring times (state .head) (state .len) in
     let left : j .if2 .dropped ≡ leaving rule (length kept) =
@@ -76,8 +66,7 @@ returns-3 c rule times state past e =
       ← rw e at (b .4 .ensures),
       not-false (b .4 .result) (b .5 .left),
     ) refl)
-    (λ b. rw (ring-length, lt-ltb _ _ (rw e at (b .0 .left))) refl)
-    (j .if2 .came) in
+    (λ b. rw (ring-length, lt-ltb _ _ (rw e at (b .0 .left))) refl) (j .if2 .came) in
     let far : farEnough (rule .minimum) (state .marks .last) (a .t) ≡ true =
     sym (rw e at (n .before .far-enough .ensures)) ∙ not-false (n .before .far-enough .result) (n .if1 .left) in
     let decided = goes-on rule (state .marks) kept (a .stream) (a .t) (j .if2 .dropped) far reached left in

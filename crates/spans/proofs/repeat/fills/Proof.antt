@@ -1,7 +1,7 @@
 -- The tests are those of `fillsRepeat`, in its order.
-use Rattle.constraint.proofs.Library.{lt-ltb, le-ltb, needs}
-use Rattle.spans.specs.Repeat.{fillsRepeat}
+use Rattle.constraint.proofs.Library.{le-ltb, lt-ltb, needs}
 use Rattle.spans.proofs.repeat.fills.Statement.{statement}
+use Rattle.spans.specs.Repeat.{fillsRepeat}
 use Rattle.spans.proofs.repeat.fills.Tie as tie
 
 returns : tie.Need-returns

@@ -1,20 +1,13 @@
 -- The parts are those of `laterStamp`.
-use Rattle.stamps.specs.Machine.{laterStamp}
-use Rattle.queue.proofs.Shared.{free}
+use Rattle.stamps.proofs.Names.{free, laterStamp}
 use Rattle.stamps.proofs.Stamps.later.Statement.{statement}
 use Rattle.stamps.proofs.Stamps.later.Tie as tie
 
 returns : tie.Need-returns
 unfolding laterStamp
 returns c =
-    let inner = c .before in
-    let ordered = inner .before in
-    let possible = ordered .before in
-    let stride = possible .before in
-    let each = stride .before in
-    let fits = each .before in
-    let high = fits .before in
-    let low = high .before in
+    let inner = c .before in let ordered = inner .before in let possible = ordered .before in let stride = possible .before in
+    let each = stride .before in let fits = each .before in let high = fits .before in let low = high .before in
     simp (
       c .both3 .ensures,
       inner .both2 .ensures,

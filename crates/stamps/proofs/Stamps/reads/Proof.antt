@@ -1,8 +1,5 @@
 -- The tests are those of `closeVerdict`, in its order.
-use Rattle.constraint.proofs.Library.{_≡_, sym, _∙_, _&&_, leb}
-use Rattle.machine.specs.Parts.{plus}
-use Rattle.stamps.specs.Machine.{closeVerdict}
-use Rattle.queue.proofs.Shared.{free}
+use Rattle.stamps.proofs.Names.{_&&_, _∙_, _≡_, closeVerdict, free, leb, plus, sym}
 use Rattle.stamps.proofs.Stamps.reads.Statement.{statement}
 use Rattle.stamps.proofs.Stamps.reads.Tie as tie
 

@@ -1,6 +1,5 @@
 -- The test is that of `stampAfter`.
-use Rattle.stamps.specs.Machine.{laterStamp, stampAfter}
-use Rattle.queue.proofs.Shared.{free}
+use Rattle.stamps.proofs.Names.{free, laterStamp, stampAfter}
 use Rattle.stamps.proofs.Stamps.stamped.Statement.{statement}
 use Rattle.stamps.proofs.Stamps.stamped.Tie as tie
 

@@ -1,6 +1,5 @@
 -- Before the first stamp the row is kept.
-use Rattle.stamps.specs.Machine.{closeVerdict, stampsVerdict}
-use Rattle.queue.proofs.Shared.{free}
+use Rattle.stamps.proofs.Names.{closeVerdict, free, stampsVerdict}
 use Rattle.stamps.proofs.Stamps.verdict.Statement.{statement}
 use Rattle.stamps.proofs.Stamps.verdict.Tie as tie
 

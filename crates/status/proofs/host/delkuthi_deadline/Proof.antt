@@ -12,8 +12,7 @@ abbrev μ-loop : tie.MeasureT-loop
 
 loop-again : tie.Need-loop-again Inv-loop μ-loop
 loop-again c =
-    let at-loop = c .before .before .before in let at-held = at-loop .before in
-    let i = at-loop .loop .i in (
+    let at-loop = c .before .before .before in let at-held = at-loop .before in let i = at-loop .loop .i in (
       omega arith,
       λ n holds.
           let held = held-lies (now (at-held .before .args .m)) n holds _ (at-held .held .ensures .1) in

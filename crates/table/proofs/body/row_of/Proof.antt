@@ -1,16 +1,12 @@
 -- The bytes and the times are read where the definition reads them.
-use borrow.Author.Needs.{needs}
-use Rattle.constraint.proofs.Judged.{free}
-use Rattle.table.specs.Rows.{constraintOf}
+use Rattle.table.proofs.Names.{constraintOf, free, needs}
 use Rattle.table.proofs.body.row_of.Statement.{statement}
 use Rattle.table.proofs.body.row_of.Tie as tie
 
 returns : tie.Need-returns
 unfolding constraintOf
 returns c =
-    let times = c .before .before .before .before in
-    let kinds = times .before .before .before .before in
-    let start = kinds .before in
+    let times = c .before .before .before .before in let kinds = times .before .before .before .before in let start = kinds .before in
     rw (
       c .read .ensures,
       c .before .eight-at4 .ensures,

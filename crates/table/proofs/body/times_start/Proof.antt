@@ -1,5 +1,5 @@
 -- A mask of three bits keeps the remainder by 8.
-use lib.Bits.{and-mask}
+use Rattle.table.proofs.Names.{and-mask}
 use Rattle.table.proofs.body.times_start.Statement.{statement}
 use Rattle.table.proofs.body.times_start.Tie as tie
 

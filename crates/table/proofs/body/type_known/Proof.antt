@@ -1,7 +1,5 @@
 -- The type is compared with the edition's last one, and then the n is asked for where the type has one.
-use Rattle.constraint.proofs.Library.{_≤_, _≡_, sym, _∙_, true, arith}
-use Rattle.constraint.specs.Types.{lastType, takesCount}
-use Rattle.constraint.proofs.Judged.{never, free}
+use Rattle.table.proofs.Names.{_∙_, _≡_, _≤_, arith, free, lastType, never, sym, takesCount, true}
 use Rattle.table.proofs.body.type_known.Statement.{statement}
 use Rattle.table.proofs.body.type_known.Tie as tie
 

@@ -1,11 +1,6 @@
 -- The loop asks row after row for its bytes and its type, and stops at the first that lacks one.
-use Rattle.constraint.proofs.Library.{arith, ℕ, _*_, _-_, _≤_, _<_, _≡_, now, length}
-use Rattle.constraint.specs.Limits.{rowLimit}
-use Rattle.constraint.specs.Records.{Decides}
-use Rattle.constraint.proofs.Judged.{free, passed, failed}
-use Rattle.table.specs.Raw.{rawSize, KnownAt}
-use Rattle.table.proofs.RawRows.{known-test, known-more}
-use Rattle.table.proofs.raw.known_rows.Statement.{statement}
+use Rattle.table.proofs.Names.{Decides, KnownAt, _*_, _-_, _<_, _≡_, _≤_, arith, failed, free, length, now, passed, rawSize, rowLimit, ℕ}
+use Rattle.table.proofs.{RawRows.known-more, RawRows.known-test, raw.known_rows.Statement.statement}
 use Rattle.table.proofs.raw.known_rows.Tie as tie
 
 abbrev Inv-loop : tie.InvT-loop
@@ -30,13 +25,9 @@ test : (c : tie.After-type-known Inv-loop μ-loop) → Decides (KnownAt (c .befo
     (now (c .before .before .before .before .before .before .before .args .bytes))
     (c .before .before .before .before .before .loop .i)) (c .type-known .result)
 test c =
-    let second = c .before .byte-at2 in
-    let first = c .before .before .byte-at in
-    let at-loop = c .before .before .before .before .before in
+    let second = c .before .byte-at2 in let first = c .before .before .byte-at in let at-loop = c .before .before .before .before .before in
     known-test (at-loop .before .before .args .edition) (now (at-loop .before .before .args .bytes)) (at-loop .loop .i) (at-loop .loop .start)
-    (first .result) (second .result)
-    (c .type-known .result)
-    (at-loop .loop .inv .1) (first .ensures) (second .ensures) (c .type-known .ensures)
+    (first .result) (second .result) (c .type-known .result) (at-loop .loop .inv .1) (first .ensures) (second .ensures) (c .type-known .ensures)
 
 returns-2 : tie.Need-returns-2 Inv-loop μ-loop
 returns-2 c =
@@ -50,8 +41,7 @@ returns-2 c =
 
 loop-again : tie.Need-loop-again Inv-loop μ-loop
 loop-again c =
-    let at-loop = c .before .before .before .before .before .before in
-    let loop = at-loop .loop in (
+    let at-loop = c .before .before .before .before .before .before in let loop = at-loop .loop in (
       omega arith,
       omega (arith, loop .inv .1),
       omega arith,

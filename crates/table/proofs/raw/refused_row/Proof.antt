@@ -1,10 +1,6 @@
 -- The loop asks row after row, and stops at the first that is not taken.
-use Rattle.constraint.proofs.Library.{arith, ℕ, _*_, _-_, _≤_, _<_, _≡_, now, length}
-use Rattle.constraint.specs.Limits.{rowLimit}
-use Rattle.constraint.proofs.Judged.{passed, failed}
-use Rattle.table.specs.Raw.{rawSize, RowTaken}
-use Rattle.table.proofs.RawRows.{taken-more}
-use Rattle.table.proofs.raw.refused_row.Statement.{statement}
+use Rattle.table.proofs.Names.{RowTaken, _*_, _-_, _<_, _≡_, _≤_, arith, failed, length, now, passed, rawSize, rowLimit, ℕ}
+use Rattle.table.proofs.{RawRows.taken-more, raw.refused_row.Statement.statement}
 use Rattle.table.proofs.raw.refused_row.Tie as tie
 
 abbrev Inv-loop : tie.InvT-loop
@@ -21,15 +17,12 @@ returns c =
 
 returns-2 : tie.Need-returns-2 Inv-loop μ-loop
 returns-2 c =
-    let loop = c .before .before .before .before .loop in
-    let test = c .before .row-taken in
+    let loop = c .before .before .before .before .loop in let test = c .before .row-taken in
     record { room = loop .inv .0; taken = loop .inv .3; refused = λ room whole. failed (test .result) (test .ensures) (c .if2 .taken) }
 
 loop-again : tie.Need-loop-again Inv-loop μ-loop
 loop-again c =
-    let at-loop = c .before .before .before .before in
-    let loop = at-loop .loop in
-    let test = c .before .row-taken in (
+    let at-loop = c .before .before .before .before in let loop = at-loop .loop in let test = c .before .row-taken in (
       omega arith,
       omega (arith, loop .inv .1),
       omega (arith, c .before .before .if1 .left, loop .inv .2),

@@ -1,16 +1,8 @@
 -- The row's first two bytes say whether its type is known; where it is, the row that its body stands for is judged.
-use Rattle.constraint.proofs.Library.{arith, needs, ℕ, _+_, _*_, _≤_, add-sub-cancel-left, _≡_, refl, _∙_, subst, now, length}
-use Rattle.constraint.specs.Questions.{Judged}
-use Rattle.constraint.specs.Records.{Decides}
-use Rattle.constraint.specs.Accepted.{rowQuestions}
-use Rattle.constraint.specs.declared.Answer.{Answer}
-use Rattle.constraint.specs.declared.Answer.the-variants.{Taken, Refused}
-use Rattle.constraint.specs.declared.Constraint.{Constraint}
-use Rattle.constraint.proofs.Judged.{never, free, passed, failed, judged-once}
-use Rattle.table.specs.Rows.{constraintOf}
-use Rattle.table.specs.Raw.{rawSize, rawBody, KnownAt}
-use Rattle.table.proofs.RawRows.{known-test, body-within}
-use Rattle.table.proofs.raw.row_taken.Statement.{statement}
+use Rattle.table.proofs.Names.{Answer, Constraint, Decides, Judged, KnownAt, Refused, Taken, _*_, _+_, _∙_, _≡_, _≤_, add-sub-cancel-left}
+use Rattle.table.proofs.Names.{arith, constraintOf, failed, free, judged-once, length, needs, never, now, passed, rawBody, rawSize, refl}
+use Rattle.table.proofs.Names.{rowQuestions, subst, ℕ}
+use Rattle.table.proofs.{RawRows.body-within, RawRows.known-test, raw.row_taken.Statement.statement}
 use Rattle.table.proofs.raw.row_taken.Tie as tie
 
 never-taken : (n : ℕ) → Refused n ≡ Taken → ⊥
@@ -26,19 +18,15 @@ test : (c : tie.After-type-known) → Decides (KnownAt (c .before .before .befor
     (now (c .before .before .before .before .args .bytes))
     (c .before .before .before .before .args .i)) (c .type-known .result)
 test c =
-    let start = c .before .before .before .before in
-    let first = c .before .before .byte-at in
-    let second = c .before .byte-at2 in
+    let start = c .before .before .before .before in let first = c .before .before .byte-at in let second = c .before .byte-at2 in
     known-test (start .args .edition) (now (start .args .bytes)) (start .args .i) _ (first .result) (second .result) (c .type-known .result) refl
-    (first .ensures)
-    (second .ensures) (c .type-known .ensures)
+    (first .ensures) (second .ensures) (c .type-known .ensures)
 
 -- the body ends within the bytes that there are
 ends : (c : tie.After-length-of) → c .before .before .before .before .before .before .args .i * rawSize + c .length-of .result
     ≤ length (now (c .before .before .before .before .before .before .args .bytes))
 ends c =
-    let at-test = c .before .before in
-    let start = at-test .before .before .before .before in
+    let at-test = c .before .before in let start = at-test .before .before .before .before in
     rw (c .length-of .ensures, at-test .before .before .byte-at .ensures, at-test .before .byte-at2 .ensures)
     (body-within (start .args .edition) (now (start .args .bytes)) (start .args .i)
     (passed (at-test .type-known .result) (test at-test) (c .before .if1 .left))
@@ -49,8 +37,7 @@ row-is : (c : tie.After-row-of)
     → c .row-of .result ≡ constraintOf (rawBody (now (c .before .before .before .before .before .before .before .before .args .bytes))
     (c .before .before .before .before .before .before .before .before .args .i))
 row-is c =
-    let at-length = c .before .before in
-    let at-test = at-length .before .before in
+    let at-length = c .before .before in let at-test = at-length .before .before in
     c .row-of .ensures ∙ rw (
       add-sub-cancel-left,
       at-length .length-of .ensures,
@@ -67,8 +54,7 @@ returns-2 c =
 
 returns-3 : tie.Need-returns-3
 returns-3 c =
-    let at-judge = c .before .before in
-    let at-length = at-judge .before .before .before in (
+    let at-judge = c .before .before in let at-length = at-judge .before .before .before in (
       passed (at-length .before .before .type-known .result) (test (at-length .before .before)) (at-length .before .if1 .left),
       judged-as (at-judge .before .row-of .result) _ (at-judge .judge .result) Taken (row-is (at-judge .before)) (c .enum-told2 .given .1)
           (at-judge .judge .ensures),

@@ -1,13 +1,7 @@
 -- The questions are put in their order, and the body is the part of the bytes that the definition names.
-use Rattle.constraint.proofs.Library.{arith, needs, _≡_, ap, subst, subst⁻¹, _∙_, now}
-use Rattle.constraint.specs.Questions.{Judged}
-use Rattle.constraint.specs.Records.{Decides}
-use Rattle.constraint.specs.Bytes.{Bytes}
-use Rattle.constraint.specs.Table.{ShapeFits, bodyAt, WholeAt, RowAt, placeQuestions}
-use Rattle.constraint.specs.declared.Answer.{Answer}
-use Rattle.constraint.proofs.Judged.{passed, failed}
-use Rattle.table.specs.Rows.{constraintOf}
-use Rattle.table.proofs.Places.{place-short, place-full, place-misshapen, place-row, row-at, part-body}
+use Rattle.table.proofs.Names.{Answer, Bytes, Decides, Judged, RowAt, ShapeFits, WholeAt, _∙_, _≡_, ap, arith, bodyAt, constraintOf, failed}
+use Rattle.table.proofs.Names.{needs, now, passed, placeQuestions, subst, subst⁻¹}
+use Rattle.table.proofs.Places.{part-body, place-full, place-misshapen, place-row, place-short, row-at}
 use Rattle.table.proofs.reader.read_row.Statement.{statement}
 use Rattle.table.proofs.reader.read_row.Tie as tie
 
@@ -20,11 +14,9 @@ shape : (c : tie.After-shape-fits) → Decides (ShapeFits (c .before .before .be
     (bodyAt (now (c .before .before .before .before .before .before .before .args .bytes))
     (c .before .before .before .before .before .before .before .args .place))) (c .shape-fits .result)
 shape c =
-    let a = c .before .before .before .before .before .before .before .args in
-    let size = c .before .before .two-at in
+    let a = c .before .before .before .before .before .before .before .args in let size = c .before .before .two-at in
     subst (λ body. Decides (ShapeFits (a .edition) body) (c .shape-fits .result))
-    (part-body (now (a .bytes)) (a .place) (size .result) (size .ensures))
-    (c .shape-fits .ensures)
+    (part-body (now (a .bytes)) (a .place) (size .result) (size .ensures)) (c .shape-fits .ensures)
 
 -- a slice of bytes holds bytes, so the row at the place is the one that the body is read as
 row : (c : tie.After-shared-slice-known) → RowAt (c .before .args .edition) (now (c .before .args .bytes)) (c .before .args .place)
@@ -37,8 +29,7 @@ same : (c : tie.After-row-of) → c .row-of .result ≡ constraintOf
     (bodyAt (now (c .before .before .before .before .before .before .before .before .before .args .bytes))
     (c .before .before .before .before .before .before .before .before .before .args .place))
 same c =
-    let a = c .before .before .before .before .before .before .before .before .before .args in
-    let size = c .before .before .before .before .two-at in
+    let a = c .before .before .before .before .before .before .before .before .before .args in let size = c .before .before .before .before .two-at in
     c .row-of .ensures ∙ ap constraintOf (part-body (now (a .bytes)) (a .place) (size .result) (size .ensures))
 
 judged : (c : tie.After-row-of) → RowAt (c .before .before .before .before .before .before .before .before .before .args .edition)
@@ -55,16 +46,13 @@ answer : (c : tie.After-judge) (a : Answer) → c .judge .result ≡ a
     (c .before .before .before .before .before .before .before .before .before .before .args .before)
     (c .before .before .before .before .before .before .before .before .before .before .args .place) (c .before .row-of .result)) a
 answer c a e =
-    let at-shape = c .before .before .before in
-    let start = at-shape .before .before .before .before .before .before .before .args in
+    let at-shape = c .before .before .before in let start = at-shape .before .before .before .before .before .before .before .args in
     place-row (start .edition) (now (start .bytes)) (start .before) (start .place) _ a (whole (at-shape .before .before .before .before))
-    (omega arith)
-    (passed (at-shape .shape-fits .result) (shape at-shape) (c .before .before .if3 .left)) (rw e at (c .judge .ensures))
+    (omega arith) (passed (at-shape .shape-fits .result) (shape at-shape) (c .before .before .if3 .left)) (rw e at (c .judge .ensures))
 
 returns : tie.Need-returns
 returns c =
-    let asked = c .before .whole-at in
-    let a = c .before .before .before .args in (
+    let asked = c .before .whole-at in let a = c .before .before .before .args in (
       _,
       row (c .before .before),
       place-short (a .edition) (now (a .bytes)) (a .before) (a .place) _
@@ -78,8 +66,7 @@ returns-2 c =
 
 returns-3 : tie.Need-returns-3
 returns-3 c =
-    let at-shape = c .before in
-    let a = at-shape .before .before .before .before .before .before .before .args in (
+    let at-shape = c .before in let a = at-shape .before .before .before .before .before .before .before .args in (
       _,
       row (at-shape .before .before .before .before .before .before),
       place-misshapen (a .edition) (now (a .bytes)) (a .before) (a .place) _ (whole (at-shape .before .before .before .before)) (omega arith)

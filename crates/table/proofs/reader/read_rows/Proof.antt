@@ -1,10 +1,7 @@
 -- The loop reads row after row: the record holds the rows read so far, and what is read from the place on, behind them, is the whole.
-use Rattle.constraint.proofs.Library.{arith, needs, _-_, length, now}
-use Rattle.table.specs.declared.reader.RowRead.{RowRead}
-use Rattle.table.proofs.Places.{place-taken}
-use Rattle.table.proofs.Progress.{ReadUpTo, up-to-start, up-to-more, up-to-refused, up-to-end}
-use Rattle.table.specs.Rows.{ReadsAt}
-use Rattle.table.proofs.reader.read_rows.Statement.{statement}
+use Rattle.table.proofs.Names.{ReadsAt, RowRead, _-_, arith, length, needs, now}
+use Rattle.table.proofs.Progress.{ReadUpTo, up-to-end, up-to-more, up-to-refused, up-to-start}
+use Rattle.table.proofs.{Places.place-taken, reader.read_rows.Statement.statement}
 use Rattle.table.proofs.reader.read_rows.Tie as tie
 
 abbrev Inv-loop : tie.InvT-loop
@@ -38,8 +35,7 @@ loop-again c =
 
 returns : tie.Need-returns Inv-loop μ-loop
 returns c =
-    let at-number = c .before .before in
-    let at-loop = at-number .before .before .before .before in
+    let at-number = c .before .before in let at-loop = at-number .before .before .before .before in
     let bytes = now (at-loop .before .before .before .args .bytes) in
     let judged = rw (at-number .number .given .1) at (at-number .before .before .read-row .ensures) in (
       rw (c .refused .ensures .0) (up-to-refused (at-loop .before .before .before .args .edition) bytes (at-loop .loop .table) (at-loop .loop .place)
@@ -51,8 +47,7 @@ returns-2 : tie.Need-returns-2 Inv-loop μ-loop
 returns-2 c =
     let at-loop = c .before in
     up-to-end (at-loop .before .before .before .args .edition) (now (at-loop .before .before .before .args .bytes)) (at-loop .loop .table)
-    (at-loop .loop .place) (at-loop .loop .inv)
-    (c .loop-test .left)
+    (at-loop .loop .place) (at-loop .loop .inv) (c .loop-test .left)
 
 pub read-rows-spec : {M : Type 1} → statement M
 read-rows-spec =

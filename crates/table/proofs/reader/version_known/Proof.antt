@@ -1,8 +1,6 @@
 -- A first byte that is not 0 is there, so it is left to compare it with the newest edition.
-use Rattle.constraint.proofs.Library.{arith, now}
-use Rattle.constraint.proofs.Judged.{free}
-use Rattle.table.proofs.Places.{version-asked}
-use Rattle.table.proofs.reader.version_known.Statement.{statement}
+use Rattle.table.proofs.Names.{arith, free, now}
+use Rattle.table.proofs.{Places.version-asked, reader.version_known.Statement.statement}
 use Rattle.table.proofs.reader.version_known.Tie as tie
 
 pub version-known-spec : {M : Type 1} → statement M

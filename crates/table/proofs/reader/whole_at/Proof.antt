@@ -1,8 +1,6 @@
 -- What is left behind the length field is compared with it, once it is known that the field is there.
-use Rattle.constraint.proofs.Library.{arith, needs, now}
-use Rattle.constraint.proofs.Judged.{free}
-use Rattle.table.proofs.Places.{whole-asked}
-use Rattle.table.proofs.reader.whole_at.Statement.{statement}
+use Rattle.table.proofs.Names.{arith, free, needs, now}
+use Rattle.table.proofs.{Places.whole-asked, reader.whole_at.Statement.statement}
 use Rattle.table.proofs.reader.whole_at.Tie as tie
 
 returns-3 : tie.Need-returns-3
@@ -11,5 +9,4 @@ returns-3 c =
     whole-asked (now (a .bytes)) (a .place) (c .two-at .result) (c .two-at .ensures) (omega arith)
 
 pub whole-at-spec : {M : Type 1} → statement M
-whole-at-spec =
-    tie.close (tie.spec (λ c. search needs) (λ c. search needs) free (λ c. search needs) returns-3)
+whole-at-spec = tie.close (tie.spec (λ c. search needs) (λ c. search needs) free (λ c. search needs) returns-3)

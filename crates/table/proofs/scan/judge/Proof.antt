@@ -1,9 +1,6 @@
 -- The version byte is asked for first, and then the rows of its edition.
-use Rattle.constraint.proofs.Library.{needs, refl, now}
-use Rattle.constraint.specs.Table.{VersionUpTo, version-refused}
-use Rattle.constraint.proofs.Judged.{passed, failed}
-use Rattle.table.proofs.Scanning.{counted-behind}
-use Rattle.table.proofs.scan.judge.Statement.{statement}
+use Rattle.table.proofs.Names.{VersionUpTo, failed, needs, now, passed, refl, version-refused}
+use Rattle.table.proofs.{Scanning.counted-behind, scan.judge.Statement.statement}
 use Rattle.table.proofs.scan.judge.Tie as tie
 
 version : (c : tie.Else1) → VersionUpTo (c .before .before .before .args .newest) (now (c .before .before .before .args .bytes))
@@ -16,12 +13,9 @@ returns c =
 
 returns-2 : tie.Need-returns-2
 returns-2 c =
-    let found = c .judge-rows in
-    let edition = c .before .byte-at in
-    let a = c .before .before .before .before .before .args in
+    let found = c .judge-rows in let edition = c .before .byte-at in let a = c .before .before .before .before .before .args in
     counted-behind (a .newest) (edition .result) (now (a .bytes)) (found .result .answer) (found .result .rows) (version (c .before .before))
     (edition .ensures) (found .ensures)
 
 pub judge-spec : {M : Type 1} → statement M
-judge-spec =
-    tie.close (tie.spec (λ c κs. search needs) returns (λ c κs. search needs) (λ c κs. version (c .before) .0) returns-2)
+judge-spec = tie.close (tie.spec (λ c κs. search needs) returns (λ c κs. search needs) (λ c κs. version (c .before) .0) returns-2)

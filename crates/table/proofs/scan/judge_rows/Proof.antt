@@ -1,8 +1,6 @@
 -- The loop counts row after row: as many as were counted stand before the place, and what is read from there on, behind them, is the whole.
-use Rattle.constraint.proofs.Library.{arith, needs, _-_, length, refl, now}
-use Rattle.table.specs.declared.reader.RowRead.{RowRead}
-use Rattle.table.specs.Rows.{ReadsAt}
-use Rattle.table.proofs.Scanning.{CountedTo, counted-start, counted-more, counted-refused, counted-end}
+use Rattle.table.proofs.Names.{ReadsAt, RowRead, _-_, arith, length, needs, now, refl}
+use Rattle.table.proofs.Scanning.{CountedTo, counted-end, counted-more, counted-refused, counted-start}
 use Rattle.table.proofs.scan.judge_rows.Statement.{statement}
 use Rattle.table.proofs.scan.judge_rows.Tie as tie
 
@@ -28,8 +26,7 @@ loop-again c =
 
 returns : tie.Need-returns Inv-loop μ-loop
 returns c =
-    let at-number = c .before in
-    let at-loop = at-number .before .before .before .before in
+    let at-number = c .before in let at-loop = at-number .before .before .before .before in
     let bytes = now (at-loop .before .before .args .bytes) in
     let judged = rw (at-number .number .given .1) at (at-number .before .before .read-row .ensures) in (
       counted-refused (at-loop .before .before .args .edition) bytes (at-loop .loop .rows) (at-loop .loop .place) _ (at-loop .loop .inv) (omega arith)

@@ -1,11 +1,6 @@
 -- Where a row is whole, its body is the part behind the length field, and it is read as the row that it stands for.
-use Rattle.constraint.proofs.Library.{ℕ, arith, needs, refl, ap, subst⁻¹, _∙_, now}
-use Rattle.constraint.specs.Bytes.{Bytes}
-use Rattle.constraint.specs.Table.{bodyAt, WholeAt, RowAt}
-use Rattle.constraint.proofs.Judged.{passed, failed, free}
-use Rattle.table.specs.Rows.{constraintOf}
-use Rattle.table.proofs.Places.{row-at, part-body}
-use Rattle.table.proofs.scan.row_at.Statement.{statement}
+use Rattle.table.proofs.Names.{Bytes, RowAt, WholeAt, _∙_, ap, arith, bodyAt, constraintOf, failed, free, needs, now, passed, refl, subst⁻¹, ℕ}
+use Rattle.table.proofs.{Places.part-body, Places.row-at, scan.row_at.Statement.statement}
 use Rattle.table.proofs.scan.row_at.Tie as tie
 
 whole : (c : tie.Else1) → WholeAt (now (c .before .before .before .args .bytes)) (c .before .before .before .args .place)
@@ -31,8 +26,7 @@ returns c =
 
 returns-2 : tie.Need-returns-2
 returns-2 c =
-    let a = c .before .before .before .before .before .before .args in
-    let size = c .before .before .two-at in
+    let a = c .before .before .before .before .before .before .args in let size = c .before .before .two-at in
     let same = c .row-of .ensures ∙ ap constraintOf (part-body (now (a .bytes)) (a .place) (size .result) (size .ensures)) in
     record {
       read = λ there. same;

@@ -1,12 +1,8 @@
 -- The type byte, the other bytes and the times are stored one behind the other, as many as the length says.
-use Rattle.constraint.proofs.Library.{arith, needs, ℕ, _+_, _-_, _≤_, _≡_, sym, ap, _∙_, length, take, length-take-le, now}
-use Rattle.constraint.specs.Types.{fieldsOf}
-use Rattle.constraint.specs.Records.{bytesIn, timesIn}
-use Rattle.constraint.proofs.Judged.{free}
-use Rattle.constraint.proofs.Types.{regular}
+use Rattle.table.proofs.Names.{_+_, _-_, _∙_, _≡_, _≤_, ap, arith, bytesIn, fieldsOf, free, length, length-take-le, needs, now, regular, sym}
+use Rattle.table.proofs.Names.{take, timesIn, ℕ}
 use Rattle.table.proofs.Standing.{body-length, body-start, body-times}
-use Rattle.table.proofs.Stores.{numbers-there, body-stores}
-use Rattle.table.proofs.writer.put_body.Statement.{statement}
+use Rattle.table.proofs.{Stores.body-stores, Stores.numbers-there, writer.put_body.Statement.statement}
 use Rattle.table.proofs.writer.put_body.Tie as tie
 
 -- the length says how many bytes and how many times there are
@@ -34,24 +30,16 @@ slice-aggregate-put c =
 
 put-times-requires : tie.Need-put-times-requires
 put-times-requires c κs =
-    let at-count = c .before in
-    let at-put = at-count .before .before .before in
-    let at-byte = at-put .before .before .before .before .before in
-    let at-start = at-byte .before .before in
-    let begin = at-start .before .before .before .before .before .before in
-    let row = begin .args .row in
+    let at-count = c .before in let at-put = at-count .before .before .before in let at-byte = at-put .before .before .before .before .before in
+    let at-start = at-byte .before .before in let begin = at-start .before .before .before .before .before .before in let row = begin .args .row in
     let kept = at-put .put .kept .0 ∙ at-byte .put-byte .kept .0 in
     (omega (arith, start at-start, body-length row, begin .pre, kept), omega (arith, times at-count, regular row .sized .few-times))
 
 returns : tie.Need-returns
 returns c =
-    let at-count = c .before .before .before .before in
-    let at-put = at-count .before .before .before in
-    let at-byte = at-put .before .before .before .before .before in
-    let at-start = at-byte .before .before in
-    let at-fields = at-start .before .before .before .before in
-    let a = at-fields .before .before .args in
-    let held = at-fields .fields .ensures in
+    let at-count = c .before .before .before .before in let at-put = at-count .before .before .before in
+    let at-byte = at-put .before .before .before .before .before in let at-start = at-byte .before .before in
+    let at-fields = at-start .before .before .before .before in let a = at-fields .before .before .args in let held = at-fields .fields .ensures in
     let n = at-start .times-start .result in
     let count : n - 1 ≡ length (bytesIn (fieldsOf (a .row))) = omega (arith, start at-start) in
     body-stores (now (a .buffer)) _ _ _ (a .place) (a .row) _ (a .place + n) _ _ (held .typed)

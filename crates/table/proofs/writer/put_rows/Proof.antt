@@ -1,14 +1,7 @@
 -- The loop stores row after row: storing those left in what there is now gives the whole.
-use Rattle.constraint.proofs.Library.{arith, _+_, _-_, _^_, _≤_, _<_, _≡_, refl, sym, ap, _∙_, List, length, getD, drop, length-map}
-use Rattle.constraint.proofs.Library.{drop-of-length-le, sets}
-use Rattle.constraint.specs.Records.{rowsOf}
-use Rattle.constraint.specs.Table.{rowBody, rowsBytes}
-use Rattle.constraint.specs.declared.Constraint.{Constraint}
-use Rattle.constraint.specs.declared.Constraint.the-variants.{Delay}
-use Rattle.constraint.proofs.Rows.{rows-length}
-use Rattle.table.proofs.Bodies.{row-length}
-use Rattle.table.proofs.Stores.{rows-size, rows-more}
-use Rattle.table.proofs.writer.put_rows.Statement.{statement}
+use Rattle.table.proofs.Names.{Constraint, Delay, List, _+_, _-_, _<_, _^_, _∙_, _≡_, _≤_, ap, arith, drop, drop-of-length-le, getD, length}
+use Rattle.table.proofs.Names.{length-map, refl, rowBody, rows-length, rowsBytes, rowsOf, sets, sym}
+use Rattle.table.proofs.{Bodies.row-length, Stores.rows-more, Stores.rows-size, writer.put_rows.Statement.statement}
 use Rattle.table.proofs.writer.put_rows.Tie as tie
 
 abbrev Inv-loop : tie.InvT-loop
@@ -43,10 +36,8 @@ put-row-requires c κs = let at-turn = c .before .before in omega (arith, size a
 
 loop-again : tie.Need-loop-again Inv-loop μ-loop
 loop-again c =
-    let at-turn = c .before .before .before .before .before .before in
-    let loop = at-turn .before .loop in
-    let table = at-turn .before .before .before .args .t2 in
-    let put = c .before .before .before .put-row in (
+    let at-turn = c .before .before .before .before .before .before in let loop = at-turn .before .loop in
+    let table = at-turn .before .before .before .args .t2 in let put = c .before .before .before .put-row in (
       omega arith,
       put .kept .0 ∙ loop .inv .1,
       omega (arith, size at-turn, c .row-length .ensures),
@@ -57,9 +48,7 @@ loop-again c =
 returns : tie.Need-returns Inv-loop μ-loop
 unfolding rowsBytes
 returns c =
-    let at-loop = c .before in
-    let loop = at-loop .loop in
-    let table = at-loop .before .before .args .t2 in
+    let at-loop = c .before in let loop = at-loop .loop in let table = at-loop .before .before .args .t2 in
     sym (ap (λ (left : List Constraint). sets (loop .buffer) (loop .place) (rowsBytes left))
     (drop-of-length-le (rowsOf table) {i = loop .i} (omega (arith, rows-length table))))
     ∙ loop .inv .3

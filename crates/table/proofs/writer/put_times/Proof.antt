@@ -1,9 +1,7 @@
 -- The loop stores time after time: storing those left in what there is now gives the whole.
-use Rattle.constraint.proofs.Library.{arith, ℕ, _+_, _*_, _-_, _≤_, _≡_, refl, sym, ap, _∙_, List, length, getD, take, drop, drop-of-length-le, sets}
-use Rattle.constraint.proofs.Library.{length-take-le, getD-take}
-use Rattle.table.proofs.Stores.{times-more}
-use Rattle.constraint.specs.Records.{timesBytes}
-use Rattle.table.proofs.writer.put_times.Statement.{statement}
+use Rattle.table.proofs.Names.{List, _*_, _+_, _-_, _∙_, _≡_, _≤_, ap, arith, drop, drop-of-length-le, getD, getD-take, length, length-take-le}
+use Rattle.table.proofs.Names.{refl, sets, sym, take, timesBytes, ℕ}
+use Rattle.table.proofs.{Stores.times-more, writer.put_times.Statement.statement}
 use Rattle.table.proofs.writer.put_times.Tie as tie
 
 abbrev Inv-loop : tie.InvT-loop
@@ -20,9 +18,7 @@ long c = length-take-le (c .args .count) (c .args .t3) (omega arith)
 
 loop-again : tie.Need-loop-again Inv-loop μ-loop
 loop-again c =
-    let at-put = c .before .before in
-    let at-loop = at-put .before .before .before in
-    let start = at-loop .before .before in
+    let at-put = c .before .before in let at-loop = at-put .before .before .before in let start = at-loop .before .before in
     let loop = at-loop .loop in
     let xs = take (start .args .count) (start .args .t3) in
     let same : getD xs (loop .i) 0 ≡ getD (start .args .t3) (loop .i) 0 =
@@ -36,9 +32,7 @@ loop-again c =
 returns : tie.Need-returns Inv-loop μ-loop
 unfolding timesBytes
 returns c =
-    let at-loop = c .before in
-    let start = at-loop .before .before in
-    let loop = at-loop .loop in
+    let at-loop = c .before in let start = at-loop .before .before in let loop = at-loop .loop in
     let xs = take (start .args .count) (start .args .t3) in
     sym (ap (λ (left : List ℕ). sets (loop .buffer) (loop .next) (timesBytes left)) (drop-of-length-le xs {i = loop .i} (omega (arith, long start))))
     ∙ loop .inv .3

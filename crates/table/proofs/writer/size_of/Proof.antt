@@ -1,11 +1,7 @@
 -- The loop adds row after row: the size so far and the bytes of the rows left are the whole.
-use Rattle.constraint.proofs.Library.{arith, _+_, _*_, _-_, _≤_, _≡_, sym, _∙_, [], length, drop, length-map, drop-of-length-le}
-use Rattle.constraint.specs.Records.{rowsOf}
-use Rattle.constraint.specs.Table.{rowsBytes}
-use Rattle.constraint.proofs.Rows.{rows-length}
-use Rattle.table.proofs.Standing.{body-short}
-use Rattle.table.proofs.Stores.{rows-size}
-use Rattle.table.proofs.writer.size_of.Statement.{statement}
+use Rattle.table.proofs.Names.{[], _*_, _+_, _-_, _∙_, _≡_, _≤_, arith, drop, drop-of-length-le, length, length-map, rows-length, rowsBytes}
+use Rattle.table.proofs.Names.{rowsOf, sym}
+use Rattle.table.proofs.{Standing.body-short, Stores.rows-size, writer.size_of.Statement.statement}
 use Rattle.table.proofs.writer.size_of.Tie as tie
 
 abbrev Inv-loop : tie.InvT-loop
@@ -24,9 +20,7 @@ short c = rw (c .row-length .ensures) (body-short _)
 
 loop-again : tie.Need-loop-again Inv-loop μ-loop
 loop-again c =
-    let at-loop = c .before .before .before in
-    let i = at-loop .loop .i in
-    let table = at-loop .before .args .t1 in
+    let at-loop = c .before .before .before in let i = at-loop .loop .i in let table = at-loop .before .args .t1 in
     let next : length (rowsBytes (drop i (rowsOf table))) ≡ 2 + c .row-length .result + length (rowsBytes (drop (i + 1) (rowsOf table))) =
     rw (c .row-length .ensures) (rows-size table i _ (omega arith) (omega (arith, entries (at-loop .before)))) in
     omega (arith, short c)
@@ -34,8 +28,7 @@ loop-again c =
 returns : tie.Need-returns Inv-loop μ-loop
 unfolding rowsBytes
 returns c =
-    let at-loop = c .before in
-    let table = at-loop .before .args .t1 in
+    let at-loop = c .before in let table = at-loop .before .args .t1 in
     let none : drop (at-loop .loop .i) (rowsOf table) ≡ [] =
     drop-of-length-le (rowsOf table) {i = at-loop .loop .i} (omega (arith, rows-length table)) in
     omega (arith, rw none at (at-loop .loop .inv .2))

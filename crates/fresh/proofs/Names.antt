@@ -1,0 +1,33 @@
+-- The names of the definitions and laws below this crate that its proofs use, passed on from one place.
+pub use Rattle.constraint.proofs.Library.{Bool, List, List·getD-append, [], _%_, _*_, _++_, _+_, _-_, _/_, _<_, _||_, _∙_, _∷_, _≡_, _≤_, add-one, ap}
+pub use Rattle.constraint.proofs.Library.{append-assoc, append-nil, append-snoc, ap₂, arith, cond, drop, drop-cons, drop-length, drop-of-length-le}
+pub use Rattle.constraint.proofs.Library.{eqb, eqb-false, eqb-true, false, getD, getD-append-add, getD-at, getD-set-other, getD-set-same, getD-take}
+pub use Rattle.constraint.proofs.Library.{inl, inr, length, length-append, length-drop, length-map, length-replicate, length-set, length-take-le, ltb}
+pub use Rattle.constraint.proofs.Library.{ltb-false, ltb-true, map, mod-eq-of-lt, needs, now, refl, replicate, replicate-append-replicate, set}
+pub use Rattle.constraint.proofs.Library.{set-at, subst, subst₂, suc, sym, take, take-all, take-append-le, take-at, take-length, take-set-le}
+pub use Rattle.constraint.proofs.Library.{take-set-lt, take-suc, take-suc-set, true, zero, ℕ}
+pub use Rattle.constraint.proofs.Lists.{Each, each-append, each-cons, each-none, split}
+pub use Rattle.constraint.proofs.{Judged.never, Lengths.last-listed, Lengths.length-short}
+pub use Rattle.constraint.specs.Table.{ReadsRows, ReadsTableUpTo, ShapeFits, TableRead, bodyAt, lengthAt, no-more, row-refused, row-taken, rowThen}
+pub use Rattle.constraint.specs.Table.{table-of, table-refused, version-refused, version-taken}
+pub use Rattle.constraint.specs.{Accepted.Accepted, Limits.rowLimit, Limits.waitingLimit, Questions.Question, Records.filler, Steps.among, Steps.at}
+pub use Rattle.constraint.specs.{declared.Answer.the-variants.Refused, declared.Answer.the-variants.Taken, declared.Constraint.Constraint}
+pub use Rattle.fresh.specs.Fresh.{BeginsUpTo, ListsLie, RowsBehind, RowsLie, RowsPut, begun, freshLent, noWords, refused, withLists}
+pub use Rattle.lent.proofs.{Blocks.last-written, Blocks.row-lies, Parts.entries-read, Parts.half-written, Parts.numbers-read}
+pub use Rattle.lent.specs.Contract.{Indexes, Roomy, Sound, isOf, namedRows, numbers, rowsOf}
+pub use Rattle.lent.specs.Layout.{Lent, Shaped, Words, endOf, halves, heldRows, keptAt, lastBlocks, numberBlock, rowAt, rowNamed, startOf}
+pub use Rattle.lent.specs.Steps.{rowCount}
+pub use Rattle.machine.proofs.FitsRow.{words-few}
+pub use Rattle.machine.specs.{Words.ruleAt, declared.Rule.Rule}
+pub use Rattle.monitor.proofs.{Demand.accepted-few, Demand.accepted-sound, FittingRows.SoundRows}
+pub use Rattle.monitor.specs.{Machine.noRow, declared.Monitor.Monitor}
+pub use Rattle.row.proofs.{Filling.taken-few, Kept.rest-zero-fresh, OwnKinds.concerns-none}
+pub use Rattle.row.specs.{Machine.concerns, Machine.noEvent, Stored.RestZero, Undo.noBefore, declared.Before.Before, declared.Row.Row}
+pub use Rattle.table.proofs.{Places.place-taken, Scanning.scan-start, Scanning.scan-step}
+pub use Rattle.table.specs.{Scan.PlacedAt, declared.scan.Placed.Placed}
+unfoldable pub use Rattle.constraint.specs.{Promise.play, Questions.Judged, Table.placeQuestions}
+unfoldable pub use Rattle.fresh.specs.Fresh.{endsTo, listedTo, padded}
+unfoldable pub use Rattle.lent.specs.Layout.{rowBlocks, wordsOf}
+unfoldable pub use Rattle.machine.specs.Words.{numberWords, rowWords}
+unfoldable pub use Rattle.monitor.specs.{Contract.after, Machine.monitorOf}
+unfoldable pub use Rattle.row.specs.Machine.{rowOf}

@@ -1,0 +1,36 @@
+-- The names of the definitions and laws below this crate that its proofs use, passed on from one place.
+pub use Rattle.constraint.proofs.History.{Accepts, Past, Valid, clock-close, clock-event, clock-tick, closed-close, closed-event, closed-tick}
+pub use Rattle.constraint.proofs.History.{own-close, own-other, own-tick, past-of, valid-more}
+pub use Rattle.constraint.proofs.Library.{Bool, List, List·getD-eq-default, [], _&&_, _++_, _+_, _-_, _<_, _||_, _∙_, _∷_, _≡_, _≢_, _≤_, _⊎_, ap}
+pub use Rattle.constraint.proofs.Library.{append-nil, arith, cond, drop, eq-eqb, eqb, eqb-false, eqb-true, false, getD, inl, inr, le-ltb, length}
+pub use Rattle.constraint.proofs.Library.{length-append, length-drop, length-set, lt-ltb, ltb, ltb-false, ltb-true, min, ne-eqb, needs, not-false}
+pub use Rattle.constraint.proofs.Library.{not-true, now, refl, replicate, set, subst, suc, sym, take, true, zero, ℕ, ⊎-elim}
+pub use Rattle.constraint.proofs.{Continuations.continues-closed, Continuations.meets-same, Continuations.open-at-tick, Lists.both, Lists.split}
+pub use Rattle.constraint.proofs.{Streams.among-kinds, Streams.among-where, Streams.kind-small, Streams.streams, Types.regular, Verdicts.broken-later}
+pub use Rattle.constraint.proofs.{Verdicts.broken-now, Verdicts.broken-shut, Verdicts.open-of-meets}
+pub use Rattle.constraint.specs.Continuation.{BrokenAt, Open, Reads, reads-broken, reads-kept, reads-open}
+pub use Rattle.constraint.specs.Steps.{Step, among, at, clock, close, event, own, tick}
+pub use Rattle.constraint.specs.{Accepted.KindsFit, Accepted.kinds, Limits.lastTime, Limits.streamCount, Limits.waitingLimit, Meets.Meets}
+pub use Rattle.constraint.specs.{Streams.kindOf, Types.fieldsOf, Waiting.waiting, declared.Constraint.Constraint, declared.Verdict.Verdict}
+pub use Rattle.machine.proofs.FitsRow.{FitsRow, crowds-of, fits-none, neither, words-few}
+pub use Rattle.machine.proofs.{FieldNumbers.kinds-are, SeveralKinds.kinds-small}
+pub use Rattle.machine.specs.{Machine.Machine, Machine.noMachine, Parts.noMarks, Rule.noKind, Rule.ruleOf, Rule.waitsIn, Words.Applies, Words.askedOf}
+pub use Rattle.machine.specs.{Words.ruleAt, declared.Change.Change, declared.Rule.Rule, declared.State.State}
+pub use Rattle.queue.proofs.{Laws.edit-back, Laws.items-edited, Laws.ring-length, Laws.ring-zeros, Laws.same-back, Laws.times-edited, Shared.free}
+pub use Rattle.queue.specs.Ring.{Ring, changed, dropRing, editPlace, edited, items, putBack, ring, ringOf, ringPlace, secondAt, timeAt}
+pub use Rattle.queue.specs.declared.Edit.{Edit}
+pub use Rattle.queue.specs.declared.Edit.the-variants.{Drop, Push, PushTwo, Store}
+pub use Rattle.row.specs.Apart.{appliedBefore, appliedRow, appliesBy, changeBy, fills, writesAt}
+pub use Rattle.row.specs.Machine.{brokenState, closeAt, concerns, crowding, decide, eventAt, itemsOf, machineOf, machines, mark, noEvent}
+pub use Rattle.row.specs.Machine.{rowFrom, stays, tickAt}
+pub use Rattle.row.specs.Stored.{Changes, RestZero, Unused, endedRow, endedSaves, eventKeeps, eventRow, eventSaves, filledBy, keptAtPlace}
+pub use Rattle.row.specs.Stored.{keptMarks, larger, nothing, pastOf, roomIn, stateAt}
+pub use Rattle.row.specs.Undo.{beforeOf, noBefore, noState, savedAt, savedRow}
+pub use Rattle.row.specs.{declared.Before.Before, declared.Occurrence.Occurrence, declared.Row.Row, declared.RowStep.RowStep}
+unfoldable pub use Rattle.constraint.specs.{Accepted.KindsSuit, Steps.clockFrom, Steps.closed}
+unfoldable pub use Rattle.machine.specs.Words.{changedWords, numberWords, rowWords}
+unfoldable pub use Rattle.queue.specs.Ring.{pushRing, putRing}
+unfoldable pub use Rattle.row.specs.Apart.{crowdedBy, endedState, endsBy, fullFor, steppedRow, withChange}
+unfoldable pub use Rattle.row.specs.Machine.{applied, brokenRow, changedRow, rowOf, rowStep, rowVerdict}
+unfoldable pub use Rattle.row.specs.Stored.{appliedKeeps, stepKeeps, wordsOf}
+unfoldable pub use Rattle.row.specs.Undo.{backRow, keptWithout, movesBy, rowWithout, savedBy, stepPlace}

@@ -18,7 +18,7 @@ fn print_times(line: &Line) {
     let measured: Times = times(line, CALLS, RUNS);
     let (nanoseconds, ratio) = (measured.nanoseconds(), measured.ratio());
     println!(
-        "| {:<42} | {:>7.1} | {:>7.1} | {:>12.2} | {:>6.2} | {:>8.2} |",
+        "| {:<43} | {:>7.1} | {:>7.1} | {:>12.2} | {:>6.2} | {:>8.2} |",
         line.what(),
         nanoseconds.library.middle,
         nanoseconds.plain.middle,
@@ -30,7 +30,7 @@ fn print_times(line: &Line) {
 
 fn print_counts(line: &Line, count: &Both<f64>) {
     let Both { library, plain } = count;
-    println!("| {:<42} | {library:>7.1} | {plain:>7.1} | {:>5.2} |", line.what(), library / plain);
+    println!("| {:<43} | {library:>7.1} | {plain:>7.1} | {:>5.2} |", line.what(), library / plain);
 }
 
 /// Times every line.
@@ -41,8 +41,8 @@ fn bench() {
     println!(
         "times: how many times as long the library took, in each run for itself. Both monitors agree on every line.\n"
     );
-    println!("| what                                       | library | plain   | times, least | middle | greatest |");
-    println!("|--------------------------------------------|--------:|--------:|-------------:|-------:|---------:|");
+    println!("| what                                        | library | plain   | times, least | middle | greatest |");
+    println!("|---------------------------------------------|--------:|--------:|-------------:|-------:|---------:|");
     all_lines().iter().for_each(print_times);
 }
 
@@ -51,8 +51,8 @@ fn count() -> Result<(), String> {
     let lines = all_lines();
     let counts = instructions(&lines)?;
     println!("instructions of a call, by callgrind. Both monitors agree on every line.\n");
-    println!("| what                                       | library | plain   | times |");
-    println!("|--------------------------------------------|--------:|--------:|------:|");
+    println!("| what                                        | library | plain   | times |");
+    println!("|---------------------------------------------|--------:|--------:|------:|");
     lines.iter().zip(&counts).for_each(|(line, count)| print_counts(line, count));
     Ok(())
 }

@@ -84,6 +84,11 @@ def values_of(row, steps, clock):
         groups = list(zip(*(of[kind] for kind in get["kinds"])))
         widths = [max(group) - min(group) for group in groups]
         return widths, [get["tolerance"] - width for width in widths]
+    elif name == "Synchronization":
+        times = sorted(time for kind in get["kinds"] for time in of[kind])
+        widths = [min(end - begin for begin in times for end in times if begin <= time <= end
+                      and all(any(begin <= one <= end for one in of[kind]) for kind in get["kinds"])) for time in times]
+        return widths, [get["tolerance"] - width for width in widths]
     elif name == "ExecutionTime":
         found, sign = [], {get["start"]: -1, get["stop"]: 1, get["preempt"]: 1, get["resume"]: -1}
         for one, time, _ in steps:
@@ -190,6 +195,7 @@ EXAMPLES = [
     ("Burst a maximum 2, length 10, minimum 2", "a0 a2 a11 a12", (3, 1, 0, 10, 11, -1, 10, 4)),
     ("Order a -> b", "a0 b3 b9 a10 b10", (3, 0, 1, 0, 3, 0, 0, 5)),
     ("StrongSynchronization a b, tolerance 5", "a0 b3 b10 b20 a24 a30 b38", (4, 1, 1, 3, 8, -3, 8, 7)),
+    ("Synchronization a b, tolerance 5", "a0 b3 b4 a9 b20 a30 a31 b33", (8, 0, 1, 2, 5, 0, 5, 4)),
     ("ExecutionTime a -> b, preempt c, resume d, 2 .. 5", "a0 c2 d10 b13 a20 b21 b30", (3, 1, 1, 1, 5, -1, 1, 6)),
     ("Reaction s -> r, 4 .. 6", "s10 s11 r16 s20", (3, 0, 1, 5, 6, 0, 6, 3)),
     ("Repetition a span 2, 10 .. 10, jitter 5", "a5 a16 a17 a31", (2, 1, 0, 12, 15, -2, 15, 4)),

@@ -1,8 +1,10 @@
-//! Tables of 32 rows of all types, with signals on which every row stays open until the close.
+//! Tables of 32 rows, of all types of the first edition or of one of the second, with signals on which every row stays open until
+//! the close.
 
 use model::limits::stream;
 use model::types::{
     Burst, Delay, ExecutionTime, Order, Reaction, Repeat, Repetition, Sporadic, StrongDelay, StrongSynchronization,
+    Synchronization,
 };
 use model::{Constraint, FIRST_COLOURED, LAST_TIME, NO_LIMIT, Step};
 
@@ -108,12 +110,20 @@ fn order((source, target): (Signal, Signal)) -> Constraint {
     Constraint::Order(Order { source: source.stream, target: target.stream })
 }
 
+/// The kinds of a list of signals, and from the first to the last of them.
+fn kinds_and_tolerance(signals: &[Signal]) -> (Vec<u8>, u64) {
+    let kinds = signals.iter().map(|signal| signal.stream).collect();
+    (kinds, signals[signals.len() - 1].after(signals[0]) + WOBBLE)
+}
+
+fn strong_synchronization(signals: &[Signal]) -> Constraint {
+    let (kinds, tolerance) = kinds_and_tolerance(signals);
+    Constraint::StrongSynchronization(StrongSynchronization { kinds, tolerance })
+}
+
 fn synchronization(signals: &[Signal]) -> Constraint {
-    let tolerance = signals[signals.len() - 1].after(signals[0]) + WOBBLE;
-    Constraint::StrongSynchronization(StrongSynchronization {
-        kinds: signals.iter().map(|signal| signal.stream).collect(),
-        tolerance,
-    })
+    let (kinds, tolerance) = kinds_and_tolerance(signals);
+    Constraint::Synchronization(Synchronization { kinds, tolerance })
 }
 
 /// An execution from a start to a stop, with a pause.
@@ -188,7 +198,7 @@ pub fn sparse(full: bool) -> Table {
     rows.extend(repeated.iter().zip(MAXIMA).map(|((event, _), maximum)| burst(*event, maximum)));
     let rhythms = [repeated[4].0, signals.next(0), signals.next(0), signals.next(0)];
     rows.extend(rhythms.iter().zip(UPPERS).map(|(event, upper)| sporadic(*event, upper)));
-    rows.extend(LAGS.into_iter().zip([1, 1, 2, 1, 2]).map(|(lag, n)| synchronization(&signals.group(n, lag))));
+    rows.extend(LAGS.into_iter().zip([1, 1, 2, 1, 2]).map(|(lag, n)| strong_synchronization(&signals.group(n, lag))));
     let [preempt, resume, stop] = [0; 3].map(|lag| signals.next(lag));
     rows.push(execution_time(rhythms[3], (preempt, resume), stop));
     rows.push(repetition(signals.next(0), 8));
@@ -205,7 +215,7 @@ pub fn dense(full: bool) -> Table {
     let mut rows = vec![delay(pair); 5];
     rows.extend(vec![strong_delay(pair); 5]);
     rows.extend(vec![order(pair); 4]);
-    rows.extend(vec![synchronization(&[pair.0, pair.1]); 5]);
+    rows.extend(vec![strong_synchronization(&[pair.0, pair.1]); 5]);
     rows.extend(SPANS[1..].iter().enumerate().map(|(place, span)| repeat(either(place), *span)));
     rows.extend(MAXIMA.iter().enumerate().map(|(place, maximum)| burst(either(place), *maximum)));
     rows.extend(UPPERS[..3].iter().enumerate().map(|(place, upper)| sporadic(either(place + 1), *upper)));
@@ -214,5 +224,22 @@ pub fn dense(full: bool) -> Table {
     let [start, preempt, resume, stop] = [0; 4].map(|lag| signals.next(lag));
     rows.push(execution_time(start, (preempt, resume), stop));
     rows.push(signals.chain(1));
+    Table { rows, signals }
+}
+
+/// Synchronizations alone, over all plain kinds: pairs, and above them groups of three or four. An event concerns one row or two.
+pub fn sparse_synchronizations() -> Table {
+    let mut signals = Signals::default();
+    let list: Vec<Signal> = (0..FIRST_COLOURED).map(|_| signals.next(0)).collect();
+    let mut rows: Vec<Constraint> = list.chunks(2).map(synchronization).collect();
+    rows.extend(list.chunks(6).enumerate().map(|(place, six)| synchronization(&six[..3 + place % 2])));
+    Table { rows, signals }
+}
+
+/// Synchronizations alone, of the first two, three or all of four kinds: an event concerns 10, 21 or 32 rows.
+pub fn dense_synchronizations() -> Table {
+    let mut signals = Signals::default();
+    let four = [0; 4].map(|lag| signals.next(lag));
+    let rows = (0..32).map(|place| synchronization(&four[..2 + place % 3])).collect();
     Table { rows, signals }
 }

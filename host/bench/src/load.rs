@@ -67,6 +67,16 @@ pub fn dense(events: usize) -> Load {
     Load::new("dense", drive::dense(false), events)
 }
 
+/// So many events over Synchronizations alone, sparse.
+pub fn sparse_synchronizations(events: usize) -> Load {
+    Load::new("Synchronization, sparse", drive::sparse_synchronizations(), events)
+}
+
+/// The same, dense.
+pub fn dense_synchronizations(events: usize) -> Load {
+    Load::new("Synchronization, dense", drive::dense_synchronizations(), events)
+}
+
 /// So many events over the sparse table, from where 64 wait on.
 pub fn sparse_full(events: usize) -> Load {
     Load::full("sparse", drive::sparse(true), events)

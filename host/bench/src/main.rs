@@ -1,7 +1,7 @@
 //! Prints how fast the proved library is, beside plain Rust: `make bench` the times, `make count` the instructions.
 
 use bench::count::{PLAYED, instructions, played};
-use bench::line::{Line, lines, sizes};
+use bench::line::{Line, lines, second_edition, sizes};
 use bench::measure::{Both, Times, times};
 use std::process::ExitCode;
 
@@ -9,16 +9,16 @@ use std::process::ExitCode;
 const CALLS: usize = 1_000_000;
 const RUNS: usize = 7;
 
-/// The lines over whole tables, then those over more and more rows.
+/// The lines over whole tables, then those over more and more rows, and those of the second edition.
 fn all_lines() -> Vec<Line> {
-    lines().into_iter().chain(sizes()).collect()
+    lines().into_iter().chain(sizes()).chain(second_edition()).collect()
 }
 
 fn print_times(line: &Line) {
     let measured: Times = times(line, CALLS, RUNS);
     let (nanoseconds, ratio) = (measured.nanoseconds(), measured.ratio());
     println!(
-        "| {:<28} | {:>7.1} | {:>7.1} | {:>12.2} | {:>6.2} | {:>8.2} |",
+        "| {:<43} | {:>7.1} | {:>7.1} | {:>12.2} | {:>6.2} | {:>8.2} |",
         line.what(),
         nanoseconds.library.middle,
         nanoseconds.plain.middle,
@@ -30,7 +30,7 @@ fn print_times(line: &Line) {
 
 fn print_counts(line: &Line, count: &Both<f64>) {
     let Both { library, plain } = count;
-    println!("| {:<28} | {library:>7.1} | {plain:>7.1} | {:>5.2} |", line.what(), library / plain);
+    println!("| {:<43} | {library:>7.1} | {plain:>7.1} | {:>5.2} |", line.what(), library / plain);
 }
 
 /// Times every line.
@@ -41,8 +41,8 @@ fn bench() {
     println!(
         "times: how many times as long the library took, in each run for itself. Both monitors agree on every line.\n"
     );
-    println!("| what                         | library | plain   | times, least | middle | greatest |");
-    println!("|------------------------------|--------:|--------:|-------------:|-------:|---------:|");
+    println!("| what                                        | library | plain   | times, least | middle | greatest |");
+    println!("|---------------------------------------------|--------:|--------:|-------------:|-------:|---------:|");
     all_lines().iter().for_each(print_times);
 }
 
@@ -51,8 +51,8 @@ fn count() -> Result<(), String> {
     let lines = all_lines();
     let counts = instructions(&lines)?;
     println!("instructions of a call, by callgrind. Both monitors agree on every line.\n");
-    println!("| what                         | library | plain   | times |");
-    println!("|------------------------------|--------:|--------:|------:|");
+    println!("| what                                        | library | plain   | times |");
+    println!("|---------------------------------------------|--------:|--------:|------:|");
     lines.iter().zip(&counts).for_each(|(line, count)| print_counts(line, count));
     Ok(())
 }

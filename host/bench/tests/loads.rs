@@ -1,10 +1,12 @@
 //! The loads of the benchmark: what they claim to be, and the verdicts of both monitors on them.
 
-use bench::line::{lines, sizes};
-use bench::load::{Call, Load, dense, dense_full, sparse, sparse_full};
+use bench::line::{Line, lines, second_edition, sizes};
+use bench::load::{
+    Call, Load, dense, dense_full, dense_synchronizations, sparse, sparse_full, sparse_synchronizations,
+};
 use bench::measure::{Spread, agree};
 use bench::plain::report::report;
-use bench::plain::{LAST_TYPE, Plain};
+use bench::plain::{LAST_EDITION, LAST_TYPE, Plain};
 use model::random::Random;
 use model::random::recordings::{damaged_recording, recording};
 use model::random::tables::{any_table_in, damaged_table};
@@ -15,23 +17,43 @@ fn loads(events: usize) -> [Load; 2] {
     [sparse(events), dense(events)]
 }
 
+/// Rows of a type of the second edition alone.
+fn alone(events: usize) -> [Load; 2] {
+    [sparse_synchronizations(events), dense_synchronizations(events)]
+}
+
+fn all_lines() -> Vec<Line> {
+    [lines(), sizes(), second_edition()].concat()
+}
+
 #[test]
 fn thirty_two_rows_of_all_types_of_the_first_edition() {
     for load in [sparse, dense, sparse_full, dense_full].map(|load| load(10)) {
         let types: BTreeSet<u8> = load.rows.iter().map(Constraint::type_byte).collect();
-        assert_eq!((load.rows.len(), types), (32, BTreeSet::from_iter(1..=LAST_TYPE)));
+        assert_eq!((load.rows.len(), types), (32, BTreeSet::from_iter(1..=10)));
+    }
+}
+
+#[test]
+fn thirty_two_rows_of_the_type_of_the_second_edition() {
+    for load in alone(10) {
+        let numbers: BTreeSet<usize> = load.rows.iter().map(|row| row.kinds().len()).collect();
+        assert!(load.rows.len() == 32 && load.rows.iter().all(|row| row.type_byte() == LAST_TYPE), "{}", load.name);
+        assert_eq!((numbers, load.table()[0]), (BTreeSet::from([2, 3, 4]), LAST_EDITION));
     }
 }
 
 #[test]
 fn an_event_concerns_one_row_or_two_or_most_of_them() {
-    let [sparse, dense] = loads(10_000).map(|load| load.concerned());
-    assert!((1.0..2.0).contains(&sparse) && dense > 23.0, "{sparse}, {dense}");
+    for two in [loads(10_000), alone(10_000)] {
+        let [sparse, dense] = two.map(|load| load.concerned());
+        assert!((1.0..2.0).contains(&sparse) && dense > 23.0, "{sparse}, {dense}");
+    }
 }
 
 #[test]
 fn every_row_hears_events() {
-    for load in loads(5_000) {
+    for load in loads(5_000).into_iter().chain(alone(5_000)) {
         let heard: BTreeSet<u8> = load.steps.iter().filter_map(|step| step.kind()).collect();
         assert!(load.rows.iter().all(|row| row.kinds().iter().all(|kind| heard.contains(kind))), "{}", load.name);
     }
@@ -39,16 +61,15 @@ fn every_row_hears_events() {
 
 #[test]
 fn both_monitors_agree_and_rows_stay_open() {
-    lines().iter().chain(&sizes()).for_each(|line| agree(&line.load(10_000)));
+    all_lines().iter().for_each(|line| agree(&line.load(10_000)));
 }
 
 #[test]
 fn every_line_has_its_own_name_and_as_many_calls_as_asked() {
-    let (lines, sizes) = (lines(), sizes());
-    assert_eq!((lines.len(), sizes.len()), (14, 10));
-    let names: BTreeSet<String> = lines.iter().chain(&sizes).map(|line| line.what()).collect();
-    assert_eq!(names.len(), 24, "{names:?}");
-    lines.iter().chain(&sizes).for_each(|line| assert_eq!(line.load(10_000).number(), 10_000, "{}", line.what()));
+    assert_eq!((lines().len(), sizes().len(), second_edition().len()), (14, 10, 6));
+    let names: BTreeSet<String> = all_lines().iter().map(|line| line.what()).collect();
+    assert_eq!(names.len(), 30, "{names:?}");
+    all_lines().iter().for_each(|line| assert_eq!(line.load(10_000).number(), 10_000, "{}", line.what()));
 }
 
 #[test]
@@ -109,7 +130,7 @@ fn the_middle_of_runs() {
 
 #[test]
 fn the_model_agrees_too() {
-    for load in loads(1_500) {
+    for load in loads(1_500).into_iter().chain(alone(1_500)) {
         let mut monitor = model::Monitor::fresh(&load.rows).expect("an accepted table");
         load.steps.iter().for_each(|step| assert_eq!(monitor.step(*step), Ok(()), "{step}"));
         assert_eq!(monitor.verdicts(), vec![Verdict::Open; 32]);
@@ -129,7 +150,7 @@ fn many_wait() {
 
 #[test]
 fn the_reports_agree() {
-    for load in loads(6_000) {
+    for load in loads(6_000).into_iter().chain(alone(6_000)) {
         let (table, recording) = (load.table(), load.recording());
         let mut buffers = [[0; delkuthi::REPORT_LIMIT]; 2];
         let written = report(&table, &recording, &mut buffers[0]);
@@ -144,10 +165,10 @@ fn plain_reports_beside_the_model() {
     let check = |table: &[u8], recording: &[u8]| {
         let mut buffer = [0; 1024];
         let written = report(table, recording, &mut buffer).expect("a buffer that is long enough");
-        assert_eq!(buffer[..written], *report_text_up_to(1, table, recording).as_bytes());
+        assert_eq!(buffer[..written], *report_text_up_to(LAST_EDITION, table, recording).as_bytes());
     };
     for _ in 0..500 {
-        let rows = any_table_in(1, &mut random);
+        let rows = any_table_in(LAST_EDITION, &mut random);
         check(&table_bytes(&rows), &recording(&mut random, &rows, 40));
         check(&table_bytes(&rows), &damaged_recording(&mut random, &rows, 20));
         check(&damaged_table(&mut random), &[1]);

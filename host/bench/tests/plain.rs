@@ -1,26 +1,19 @@
 //! The plain monitor is held to the model too: a benchmark beside a wrong one would say nothing.
 
-use bench::plain::{LAST_TYPE, Plain};
+use bench::plain::{LAST_EDITION, LAST_TYPE, Plain};
 use model::random::Random;
 use model::random::calls::{Play, calls};
 use model::random::seen::Seen;
-use model::random::tables::any_table;
-use model::types::{Burst, Delay, Repeat, Repetition, StrongDelay, StrongSynchronization};
+use model::random::tables::any_table_in;
+use model::types::{Burst, Delay, Repeat, Repetition, StrongDelay, StrongSynchronization, Synchronization};
 use model::{Answer, Constraint, Monitor, Step};
-
-/// A table of the types that the plain monitor has.
-fn plain_table(random: &mut Random) -> Vec<Constraint> {
-    let mut rows = any_table(random);
-    rows.retain(|row| row.type_byte() <= LAST_TYPE);
-    rows
-}
 
 #[test]
 fn lists_of_calls_beside_the_model() {
     let mut random = Random::new(601);
     let mut seen = Seen::default();
     for _ in 0..1_500 {
-        let rows = plain_table(&mut random);
+        let rows = any_table_in(LAST_EDITION, &mut random);
         let mut plain = Plain::new(&rows);
         let mut play = Play::new(random.fork(), &rows, 150);
         while let Some((call, answer)) = play.call() {
@@ -141,7 +134,7 @@ fn lists_with_withdrawals_beside_the_model() {
     let mut random = Random::new(603);
     let mut seen = Withdrawals::default();
     for _ in 0..400 {
-        let rows = plain_table(&mut random);
+        let rows = any_table_in(LAST_EDITION, &mut random);
         let mut beside = Beside::new(&rows);
         let list = calls(&mut random, &rows, 60);
         beside.play(&mut random, list, &mut seen);
@@ -161,6 +154,7 @@ fn long_rows_with_withdrawals() {
         Constraint::Delay(Delay { source: 0, target: 1, lower: 80, upper: 500 }),
         Constraint::StrongDelay(StrongDelay { source: 0, target: 1, lower: 0, upper: 500 }),
         Constraint::StrongSynchronization(StrongSynchronization { kinds: vec![0, 1], tolerance: 500 }),
+        Constraint::Synchronization(Synchronization { kinds: vec![0, 1], tolerance: 90 }),
     ];
     let mut random = Random::new(604);
     for _ in 0..8 {

@@ -8,8 +8,8 @@ mod rule;
 
 use model::limits::stream;
 use model::{Answer, Constraint, FIRST_COLOURED, LAST_COLOUR, LAST_COUNT, LAST_KIND, LAST_TIME, Step, Verdict};
-pub use rule::LAST_TYPE;
 use rule::{Before, Left, Rule};
+pub use rule::{LAST_EDITION, LAST_TYPE};
 
 /// A row: its rule, the last clock at which it is open without an event of its own, and the step that broke it (or 0).
 #[derive(Clone, Debug)]

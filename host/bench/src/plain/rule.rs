@@ -4,15 +4,18 @@ use super::ring::{Ends, Ring};
 use model::limits::stream;
 use model::types::{
     Burst, Delay, ExecutionTime, Order, Reaction, Repeat, Repetition, Sporadic, StrongDelay, StrongSynchronization,
+    Synchronization,
 };
 use model::{Constraint, NO_LIMIT};
 
-/// The last type that the plain monitor has: it is for tables of the first edition, as the benchmark's are, so that a line
-/// of the benchmark is the same load in each release.
-pub const LAST_TYPE: u8 = 10;
+/// The last type that the plain monitor has, and the edition of the table that ends with it.
+pub const LAST_TYPE: u8 = 11;
+pub const LAST_EDITION: u8 = 2;
 
 /// No time: later than all.
 const NEVER: u64 = u64::MAX;
+/// No kind, in a list of fewer than four.
+const NO_KIND: u8 = u8::MAX;
 
 /// A row type with its fields and its state.
 #[derive(Clone, Debug)]
@@ -35,6 +38,8 @@ pub enum Rule {
     Reaction { stimuli: u8, minimum: u64, maximum: u64, colours: [Colour; 8] },
     /// From where to where each of the last hidden points can be, as many as the span: low and high in turn.
     Repetition { span: u64, lower: u64, upper: u64, jitter: u64, places: Ring },
+    /// The first time that is too late for a window with the last event of each kind, and the oldest event in no full window.
+    Synchronization { kinds: [u8; 4], tolerance: u64, over: [u64; 4], owed: u64 },
 }
 
 /// What an event changes of a rule, as it was before: of each type only its own part counts.
@@ -97,8 +102,8 @@ impl Rule {
             }
             Constraint::Order(Order { source, .. }) => Rule::Order { source, ahead: 0, early: NEVER },
             Constraint::StrongSynchronization(StrongSynchronization { kinds: ref list, tolerance }) => {
-                let kinds = std::array::from_fn(|place| list.get(place).copied().unwrap_or(u8::MAX));
-                Rule::StrongSynchronization { kinds, n: list.len(), tolerance, begun: Ring::default(), counts: [0; 4] }
+                let (kinds, n) = (four(list), list.len());
+                Rule::StrongSynchronization { kinds, n, tolerance, begun: Ring::default(), counts: [0; 4] }
             }
             Constraint::ExecutionTime(ExecutionTime { start, stop, preempt, resume, lower, upper }) => {
                 let kinds = [start, stop, preempt, resume];
@@ -109,6 +114,10 @@ impl Rule {
             }
             Constraint::Repetition(Repetition { span, lower, upper, jitter, .. }) => {
                 Rule::Repetition { span: span.into(), lower, upper, jitter, places: Ring::default() }
+            }
+            Constraint::Synchronization(Synchronization { kinds: ref list, tolerance }) => {
+                let kinds = four(list);
+                Rule::Synchronization { kinds, tolerance, over: kinds.map(over_before), owed: NEVER }
             }
             #[allow(unreachable_patterns, reason = "where no type is of a later edition")]
             ref later => panic!("type {} is of a later edition", later.type_byte()),
@@ -167,6 +176,13 @@ impl Rule {
                 };
                 open.then(|| Left { due: colours.iter().map(last_moment).min().unwrap_or(NEVER), full: false })
             }
+            Rule::Synchronization { kinds, tolerance, over, owed } => {
+                let one = &mut over[place(kinds, kind)];
+                (before.marks[0], before.marks[1]) = (*one, *owed);
+                *one = time + *tolerance + 1;
+                *owed = if over.iter().all(|over| time < *over) { NEVER } else { time.min(*owed) };
+                Some(Left { due: owed.saturating_add(*tolerance), full: false })
+            }
             Rule::Repeat { .. } => self.repeat_event(time, before),
             Rule::Sporadic { .. } => self.sporadic_event(time, before),
             Rule::ExecutionTime { .. } => self.execution_event(kind, time, before),
@@ -195,6 +211,7 @@ impl Rule {
             Rule::ExecutionTime { phase, last, ran, .. } => (*phase, *last, *ran) = (before.phase, first, second),
             Rule::Reaction { colours, .. } => colours[usize::from(stream % 8)] = before.colour,
             Rule::Repetition { places, .. } => places.restore(before.ends),
+            Rule::Synchronization { kinds, over, owed, .. } => (over[place(kinds, stream)], *owed) = (first, second),
         }
     }
 
@@ -275,6 +292,7 @@ impl Rule {
             Rule::StrongDelay { waiting, early, .. } => waiting.is_empty() && *early == NEVER,
             Rule::Order { ahead, early, .. } => *ahead == 0 && *early == NEVER,
             Rule::StrongSynchronization { begun, .. } => begun.is_empty(),
+            Rule::Synchronization { owed, .. } => *owed == NEVER,
             Rule::ExecutionTime { phase, .. } => *phase == Phase::Idle,
             Rule::Reaction { colours, .. } => !colours.iter().any(|colour| matches!(colour, Colour::Waits { .. })),
             Rule::Repeat { .. } | Rule::Sporadic { .. } | Rule::Repetition { .. } => true,
@@ -324,6 +342,16 @@ fn response(colour: &mut Colour, time: u64) -> bool {
 
 fn repeat(span: u8, lower: u64, upper: u64, minimum: u64) -> Rule {
     Rule::Repeat { span: span.into(), lower, upper, minimum, events: Ring::default(), last: NEVER }
+}
+
+/// The kinds of a list, and behind them no kind.
+fn four(list: &[u8]) -> [u8; 4] {
+    std::array::from_fn(|place| list.get(place).copied().unwrap_or(NO_KIND))
+}
+
+/// Before any event no window has one of the kind; where there is no kind, none is missing.
+fn over_before(kind: u8) -> u64 {
+    if kind == NO_KIND { NEVER } else { 0 }
 }
 
 /// The place of a kind in a row's list, which has it.

@@ -16,7 +16,7 @@ module _ (one other : ℕ) (bytes : List ℕ) (known : at bytes 0 ≤ one) (know
   reads-same (version-refused refused) = version-refused (λ version. refused (version-same version))
   reads-same (version-taken version rows) = version-taken (version .0, version .1, known′) rows
 
--- §4.15: bytes whose first byte is 1 are read by the calls that take both editions as by those that take the first alone
+-- §16.6: bytes whose first byte is 1 are read by the calls that take both editions as by those that take the first alone
 pub reads-as-before : (bytes : List ℕ) → at bytes 0 ≡ 1 → (read : TableRead) → ReadsTableUpTo 2 bytes read ↔ ReadsTable bytes read
 reads-as-before bytes first read =
     (reads-same 2 1 bytes (omega (arith, first)) (omega (arith, first)), reads-same 1 2 bytes (omega (arith, first)) (omega (arith, first)))
@@ -35,6 +35,6 @@ module _ (edition later : ℕ) (more : lastType edition ≤ lastType later) wher
       rows-taken later i c rows [] Taken (room .0) (judged-yes 4 _ _ Taken (omega (arith, known .0, more)) (parts .0))
       (rows-later (i + 1) rows (parts .1))
 
--- §4.14: those of the first edition are accepted in the second
+-- §16.2: those of the first edition are accepted in the second
 pub accepted-later : (rows : List Constraint) → AcceptedIn 1 rows → AcceptedIn 2 rows
 accepted-later rows accepted = rows-later 1 2 (omega arith) 0 rows accepted

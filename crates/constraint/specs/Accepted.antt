@@ -89,10 +89,10 @@ unfoldable pub rowsQuestions : ℕ → ℕ → List Constraint → List Question
 rowsQuestions edition i [] after = after
 rowsQuestions edition i (c ∷ rows) after = (3, i < rowLimit) ∷ rowQuestionsIn edition c ++ rowsQuestions edition (i + 1) rows after
 
--- §3.2, §4.14; 01, time: a table that is accepted in an edition, every question answered "yes"
+-- §3.2, §16.2; 01, time: a table that is accepted in an edition, every question answered "yes"
 abbrev pub AcceptedIn : ℕ → List Constraint → Type 0
 AcceptedIn edition rows = Judged (rowsQuestions edition 0 rows []) Taken
 
--- §3.2, §4.14; 01, time: a table that is accepted, in one of the editions
+-- §3.2, §16.2; 01, time: a table that is accepted, in one of the editions
 abbrev pub Accepted : List Constraint → Type 0
 Accepted rows = (edition : ℕ) × AcceptedIn edition rows

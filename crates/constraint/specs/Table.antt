@@ -43,7 +43,7 @@ unfoldable pub rowsBytes : List Constraint → List ℕ
 rowsBytes [] = []
 rowsBytes (c ∷ rows) = rowBytes c ++ rowsBytes rows
 
--- §4.2, §4.14; 01, table: the version byte, which is the edition, then the rows
+-- §4.2, §16.1; 01, table: the version byte, which is the edition, then the rows
 unfoldable pub tableBytesIn : ℕ → List Constraint → List ℕ
 tableBytesIn edition rows = edition ∷ rowsBytes rows
 
@@ -121,7 +121,7 @@ pub data ReadsRows (edition : ℕ) (bytes : List ℕ) : ℕ → ℕ → TableRea
       → Judged (placeQuestions edition bytes i place c) Taken → ReadsRows edition bytes (i + 1) (place + 2 + lengthAt bytes place) later
       → ReadsRows edition bytes i place (rowThen c later)
 
--- §8.1; 01, questions: the first byte is there, and is an edition up to the newest that the call takes
+-- §8.1, §16.3; 01, questions: the first byte is there, and is an edition up to the newest that the call takes
 abbrev pub VersionUpTo : ℕ → List ℕ → Type 0
 VersionUpTo newest bytes = (0 < length bytes) × (1 ≤ at bytes 0) × (at bytes 0 ≤ newest)
 

@@ -107,11 +107,11 @@ rowRead t b x =
 abbrev pub lengths : List ℕ
 lengths = 0 ∷ 19 ∷ 19 ∷ 19 ∷ 34 ∷ 19 ∷ 3 ∷ 10 ∷ 21 ∷ 19 ∷ 27 ∷ 10 ∷ []
 
--- §4.14: the last type of each edition of the table, by its version byte; no other number is an edition's
+-- §16.2: the last type of each edition of the table, by its version byte; no other number is an edition's
 abbrev pub lastTypes : List ℕ
 lastTypes = 0 ∷ 10 ∷ 11 ∷ []
 
--- §4.14: the last type of an edition; 0, which is no type's, where there is no such edition
+-- §16.2: the last type of an edition; 0, which is no type's, where there is no such edition
 abbrev pub lastType : ℕ → ℕ
 lastType edition = at lastTypes edition
 

@@ -18,7 +18,7 @@ returns : tie.Need-returns
 returns c w b number e =
     let i = c .before in let a = i .before .before .args in
     let more : 64 < w .now .len = subst (λ (n : ℕ). 64 < n) (many (a .row .now) w b e) (i .if1 .taken) in
-    c .applies_event .ensures w b e ∙ sym (step-crowds w (a .o) number ∙ rw (lt-ltb _ _ more, either _) refl)
+    c .applies-event .ensures w b e ∙ sym (step-crowds w (a .o) number ∙ rw (lt-ltb _ _ more, either _) refl)
 
 returns-2 : tie.Need-returns-2
 returns-2 c w b number e =

@@ -4,10 +4,12 @@ use Rattle.constraint.proofs.Library.{Bool, List, [], _&&_, _++_, _+_, _-_, _<_
 use Rattle.constraint.proofs.Library.{decLt, eq-eqb, eqb, eqb-false, false, false≢true, getD-replicate, inl, inr, length, length-append}
 use Rattle.constraint.proofs.Library.{length-replicate, ltb, ltb-false, ltb-true, ne-eqb, refl, replicate, subst, suc, sym, true, zero, ℕ, ⊎-elim}
 use Rattle.constraint.proofs.Lists.{at-left, at-right, split}
-use Rattle.constraint.specs.{Accepted.KindsFit, Limits.lastKind, Limits.noLimit, Steps.at}
+use Rattle.constraint.proofs.{Streams.streams}
+use Rattle.constraint.specs.{Accepted.KindsFit, Accepted.kinds, Limits.lastKind, Limits.noLimit, Meets.Meets, Steps.Step, Steps.at, Waiting.waiting}
+use Rattle.constraint.specs.{declared.Constraint.Constraint}
 use Rattle.groups.specs.StrongSynchronization.{complete, countOf, counted, has, oneMore, withoutOldest}
-use Rattle.machine.proofs.SeveralKinds.{kinds-apart, kinds-small}
-use Rattle.machine.specs.{Parts.noMarks, Rule.noKind, declared.Marks.Marks, declared.Rule.Rule}
+use Rattle.machine.proofs.{Exact.Sound, SeveralKinds.kinds-apart, SeveralKinds.kinds-small}
+use Rattle.machine.specs.{Parts.noMarks, Rule.noKind, Rule.ruleOf, Rule.startWords, Rule.waitsIn, declared.Marks.Marks, declared.Rule.Rule}
 
 -- the four kinds of a rule, some of which may be absent, and the count of each
 abbrev pub fourKinds : Rule → List ℕ
@@ -22,6 +24,29 @@ pub record Names (rule : Rule) (ks : List ℕ) : Type 0 where
   pub several : 2 ≤ length ks
   pub absent : ℕ
   pub padded : fourKinds rule ≡ ks ++ replicate absent noKind
+
+-- a row of a list of kinds: by these and its tolerance go what it asks and how many wait; and whether the times that it keeps are those that wait
+pub record OfKinds (Asks : List ℕ → ℕ → List Step → Type 0) (held : List ℕ → List Step → ℕ) (timed : Bool) (c : Constraint) : Type 1 where
+  pub names : Names (ruleOf c) (kinds c)
+  pub streams-are : streams c ≡ kinds c
+  pub no-words : startWords (ruleOf c) ≡ []
+  pub meets : (steps : List Step) → Meets c steps ≡ Asks (kinds c) (ruleOf c .upper) steps
+  pub waits-in : waitsIn (ruleOf c .form) ≡ timed
+  pub waits : (steps : List Step) → waiting c steps ≡ held (kinds c) steps
+
+pub of-kinds : {Asks : List ℕ → ℕ → List Step → Type 0} {held : List ℕ → List Step → ℕ} {timed : Bool} (c : Constraint) → Sound c → (absent : ℕ)
+    → 2 ≤ length (kinds c) → fourKinds (ruleOf c) ≡ kinds c ++ replicate absent noKind → streams c ≡ kinds c → startWords (ruleOf c) ≡ []
+    → ((steps : List Step) → Meets c steps ≡ Asks (kinds c) (ruleOf c .upper) steps) → waitsIn (ruleOf c .form) ≡ timed
+    → ((steps : List Step) → waiting c steps ≡ held (kinds c) steps) → OfKinds Asks held timed c
+of-kinds c sound absent several padded streams-are no-words meets waits-in waits =
+    record {
+      names = record { fit = sound .kinds-fit; several = several; absent = absent; padded = padded };
+      streams-are = streams-are;
+      no-words = no-words;
+      meets = meets;
+      waits-in = waits-in;
+      waits = waits;
+    }
 
 -- what holds of four places holds of each
 pub four-each : (P : ℕ → Type 0) → P 0 → P 1 → P 2 → P 3 → (i : ℕ) → i < 4 → P i

@@ -7,25 +7,20 @@ use Rattle.constraint.specs.declared.Constraint.the-variants.{StrongSynchroniza
 use Rattle.constraint.specs.{Accepted.kinds, Continuation.Open, Limits.lastTime, Limits.waitingLimit, Meets.Meets, Meets.MeetsStrongSynchronization}
 use Rattle.constraint.specs.{Waiting.begunIncomplete, Waiting.waiting, declared.Constraint.Constraint}
 use Rattle.groups.proofs.Laws.Columns.{behind-same, completes, groups-late, groups-left-over, groups-meet, groups-same, groups-wait}
-use Rattle.groups.proofs.Laws.Counts.{Names}
+use Rattle.groups.proofs.Laws.Counts.{OfKinds, of-kinds}
 use Rattle.groups.proofs.Laws.LiveGroups.{LiveGroups, due, event-does, kept, live-none}
 use Rattle.groups.specs.StrongSynchronization.{complete, countOf, counted, decideStrongSynchronization, fillsStrongSynchronization}
 use Rattle.groups.specs.StrongSynchronization.{machineStrongSynchronization, withCounts, withoutOldest}
 use Rattle.machine.proofs.Exact.{ByOutcome, Exact, GoesOn, OfStream, Sound, Starts}
 use Rattle.machine.proofs.FitsRow.{FitsRow, Unkept, calm-by, crowds-of, dropped, free-first, keeping-counts, neither, places-each, pushed, unkept-by}
 use Rattle.machine.proofs.{Oldest.due-passed, Oldest.due-within, SeveralKinds.by-place}
-use Rattle.machine.specs.{Parts.dueOldest, Parts.none-left, Parts.waits, Rule.ruleOf, Rule.startWords, Rule.waitsIn, Words.countsKept}
+use Rattle.machine.specs.{Parts.dueOldest, Parts.none-left, Parts.waits, Rule.ruleOf, Rule.startWords, Words.countsKept}
 use Rattle.machine.specs.{declared.Change.Change, declared.Marks.Marks, declared.Rule.Rule}
 use Rattle.queue.specs.declared.Edit.the-variants.{Drop, Push}
 
--- a row of a list of kinds: its rule, its definition and what waits are those of the list
-record Synchronized (c : Constraint) : Type 1 where
-  names : Names (ruleOf c) (kinds c)
-  streams-are : streams c ≡ kinds c
-  no-words : startWords (ruleOf c) ≡ []
-  meets : (steps : List Step) → Meets c steps ≡ MeetsStrongSynchronization (kinds c) (ruleOf c .upper) steps
-  waits-in : waitsIn (ruleOf c .form) ≡ true
-  waits : (steps : List Step) → waiting c steps ≡ begunIncomplete (kinds c) steps
+-- a row of a list of kinds
+abbrev Synchronized : Constraint → Type 1
+Synchronized = OfKinds MeetsStrongSynchronization begunIncomplete true
 
 module _ (c : Constraint) (s : Synchronized c) where
   abbrev tolerance : ℕ
@@ -117,40 +112,19 @@ pub exactStrongSynchronization2 : (a b tolerance : ℕ) → Sound (StrongSynchro
     → Exact (StrongSynchronization2 a b tolerance) (decideStrongSynchronization (ruleOf (StrongSynchronization2 a b tolerance)))
 unfolding Meets waiting
 exactStrongSynchronization2 a b tolerance sound =
-    exact-synchronized (StrongSynchronization2 a b tolerance) (record {
-      names = record { fit = sound .kinds-fit; several = omega arith; absent = 2; padded = refl };
-      streams-are = refl;
-      no-words = refl;
-      meets = λ steps. refl;
-      waits-in = refl;
-      waits = λ steps. refl;
-    })
+    exact-synchronized (StrongSynchronization2 a b tolerance) (of-kinds _ sound 2 (omega arith) refl refl refl (λ steps. refl) refl (λ steps. refl))
 
 pub exactStrongSynchronization3 : (a b c tolerance : ℕ) → Sound (StrongSynchronization3 a b c tolerance)
     → Exact (StrongSynchronization3 a b c tolerance) (decideStrongSynchronization (ruleOf (StrongSynchronization3 a b c tolerance)))
 unfolding Meets waiting
 exactStrongSynchronization3 a b c tolerance sound =
-    exact-synchronized (StrongSynchronization3 a b c tolerance) (record {
-      names = record { fit = sound .kinds-fit; several = omega arith; absent = 1; padded = refl };
-      streams-are = refl;
-      no-words = refl;
-      meets = λ steps. refl;
-      waits-in = refl;
-      waits = λ steps. refl;
-    })
+    exact-synchronized (StrongSynchronization3 a b c tolerance) (of-kinds _ sound 1 (omega arith) refl refl refl (λ steps. refl) refl (λ steps. refl))
 
 pub exactStrongSynchronization4 : (a b c d tolerance : ℕ) → Sound (StrongSynchronization4 a b c d tolerance)
     → Exact (StrongSynchronization4 a b c d tolerance) (decideStrongSynchronization (ruleOf (StrongSynchronization4 a b c d tolerance)))
 unfolding Meets waiting
 exactStrongSynchronization4 a b c d tolerance sound =
-    exact-synchronized (StrongSynchronization4 a b c d tolerance) (record {
-      names = record { fit = sound .kinds-fit; several = omega arith; absent = 0; padded = refl };
-      streams-are = refl;
-      no-words = refl;
-      meets = λ steps. refl;
-      waits-in = refl;
-      waits = λ steps. refl;
-    })
+    exact-synchronized (StrongSynchronization4 a b c d tolerance) (of-kinds _ sound 0 (omega arith) refl refl refl (λ steps. refl) refl (λ steps. refl))
 
 -- ---- In a row
 

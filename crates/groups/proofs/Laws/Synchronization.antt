@@ -14,8 +14,9 @@ use Rattle.constraint.specs.{Limits.lastTime, Limits.waitingLimit, Meets.Meets,
 use Rattle.constraint.specs.{declared.Constraint.Constraint, declared.Constraint.the-variants.Synchronization2}
 use Rattle.constraint.specs.{declared.Constraint.the-variants.Synchronization3, declared.Constraint.the-variants.Synchronization4}
 use Rattle.groups.proofs.Laws.Columns.{Reaches, reaches-before}
-use Rattle.groups.proofs.Laws.Counts.{Names, count-none, four-each, four-false, four-true, fourCounts, fourKinds, kind-absent, kind-present}
-use Rattle.groups.proofs.Laws.Counts.{names-four}
+use Rattle.groups.proofs.Laws.Counts.{Names, OfKinds, count-none, four-each, four-false, four-true, fourCounts, fourKinds, kind-absent}
+use Rattle.groups.proofs.Laws.Counts.{kind-present}
+use Rattle.groups.proofs.Laws.Counts.{names-four, of-kinds}
 use Rattle.groups.proofs.Laws.Windows.{Lasts, OneMore, Owing, Settled, SettledBefore, all-now, all-past, earlier-after, owing-begins}
 use Rattle.groups.proofs.Laws.Windows.{owing-ends, owing-late, owing-same, owing-stays, settled-on, settled-same}
 use Rattle.groups.specs.StrongSynchronization.{withCounts}
@@ -267,13 +268,9 @@ module _ (ks : List ℕ) (fit : KindsFit ks) (tolerance now u : ℕ) (begun : u 
 
 -- ---- a row of a list of kinds: its rule, its definition and what waits are those of the list
 
-record Synchronized (c : Constraint) : Type 1 where
-  names : Names (ruleOf c) (kinds c)
-  streams-are : streams c ≡ kinds c
-  no-words : startWords (ruleOf c) ≡ []
-  meets : (steps : List Step) → Meets c steps ≡ MeetsSynchronization (kinds c) (ruleOf c .upper) steps
-  waits-in : waitsIn (ruleOf c .form) ≡ false
-  waits : (steps : List Step) → waiting c steps ≡ 0
+-- a row of a list of kinds
+abbrev Synchronized : Constraint → Type 1
+Synchronized = OfKinds MeetsSynchronization (λ ks steps. 0) false
 
 module _ (c : Constraint) (s : Synchronized c) where
   abbrev tolerance : ℕ
@@ -417,40 +414,19 @@ pub exactSynchronization2 : (a b tolerance : ℕ) → Sound (Synchronization2 a 
     → Exact (Synchronization2 a b tolerance) (decideSynchronization (ruleOf (Synchronization2 a b tolerance)))
 unfolding Meets waiting
 exactSynchronization2 a b tolerance sound =
-    exact-synchronized (Synchronization2 a b tolerance) (record {
-      names = record { fit = sound .kinds-fit; several = omega arith; absent = 2; padded = refl };
-      streams-are = refl;
-      no-words = refl;
-      meets = λ steps. refl;
-      waits-in = refl;
-      waits = λ steps. refl;
-    })
+    exact-synchronized (Synchronization2 a b tolerance) (of-kinds _ sound 2 (omega arith) refl refl refl (λ steps. refl) refl (λ steps. refl))
 
 pub exactSynchronization3 : (a b c tolerance : ℕ) → Sound (Synchronization3 a b c tolerance)
     → Exact (Synchronization3 a b c tolerance) (decideSynchronization (ruleOf (Synchronization3 a b c tolerance)))
 unfolding Meets waiting
 exactSynchronization3 a b c tolerance sound =
-    exact-synchronized (Synchronization3 a b c tolerance) (record {
-      names = record { fit = sound .kinds-fit; several = omega arith; absent = 1; padded = refl };
-      streams-are = refl;
-      no-words = refl;
-      meets = λ steps. refl;
-      waits-in = refl;
-      waits = λ steps. refl;
-    })
+    exact-synchronized (Synchronization3 a b c tolerance) (of-kinds _ sound 1 (omega arith) refl refl refl (λ steps. refl) refl (λ steps. refl))
 
 pub exactSynchronization4 : (a b c d tolerance : ℕ) → Sound (Synchronization4 a b c d tolerance)
     → Exact (Synchronization4 a b c d tolerance) (decideSynchronization (ruleOf (Synchronization4 a b c d tolerance)))
 unfolding Meets waiting
 exactSynchronization4 a b c d tolerance sound =
-    exact-synchronized (Synchronization4 a b c d tolerance) (record {
-      names = record { fit = sound .kinds-fit; several = omega arith; absent = 0; padded = refl };
-      streams-are = refl;
-      no-words = refl;
-      meets = λ steps. refl;
-      waits-in = refl;
-      waits = λ steps. refl;
-    })
+    exact-synchronized (Synchronization4 a b c d tolerance) (of-kinds _ sound 0 (omega arith) refl refl refl (λ steps. refl) refl (λ steps. refl))
 
 -- ---- In a row
 

@@ -5,8 +5,8 @@ use Rattle.constraint.proofs.Library.{decLt, eq-eqb, eqb, eqb-false, false, fal
 use Rattle.constraint.proofs.Library.{length-replicate, ltb, ltb-false, ltb-true, ne-eqb, refl, replicate, subst, suc, sym, true, zero, ℕ, ⊎-elim}
 use Rattle.constraint.proofs.Lists.{at-left, at-right, split}
 use Rattle.constraint.proofs.{Streams.streams}
-use Rattle.constraint.specs.{Accepted.KindsFit, Accepted.kinds, Limits.lastKind, Limits.noLimit, Meets.Meets, Steps.Step, Steps.at, Waiting.waiting}
-use Rattle.constraint.specs.{declared.Constraint.Constraint}
+use Rattle.constraint.specs.{Accepted.KindsFit, Accepted.kinds, Limits.lastKind, Limits.noLimit, Meets.Meets, Steps.Step, Steps.at}
+use Rattle.constraint.specs.{Waiting.waiting, declared.Constraint.Constraint}
 use Rattle.groups.specs.StrongSynchronization.{complete, countOf, counted, has, oneMore, withoutOldest}
 use Rattle.machine.proofs.{Exact.Sound, SeveralKinds.kinds-apart, SeveralKinds.kinds-small}
 use Rattle.machine.specs.{Parts.noMarks, Rule.noKind, Rule.ruleOf, Rule.startWords, Rule.waitsIn, declared.Marks.Marks, declared.Rule.Rule}

@@ -124,7 +124,8 @@ pub exactStrongSynchronization4 : (a b c d tolerance : ℕ) → Sound (StrongSyn
     → Exact (StrongSynchronization4 a b c d tolerance) (decideStrongSynchronization (ruleOf (StrongSynchronization4 a b c d tolerance)))
 unfolding Meets waiting
 exactStrongSynchronization4 a b c d tolerance sound =
-    exact-synchronized (StrongSynchronization4 a b c d tolerance) (of-kinds _ sound 0 (omega arith) refl refl refl (λ steps. refl) refl (λ steps. refl))
+    exact-synchronized (StrongSynchronization4 a b c d tolerance)
+    (of-kinds _ sound 0 (omega arith) refl refl refl (λ steps. refl) refl (λ steps. refl))
 
 -- ---- In a row
 

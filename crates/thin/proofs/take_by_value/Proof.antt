@@ -7,7 +7,7 @@ use Rattle.thin.specs.{Number.steppedFrom, declared.Numbered.Numbered}
 use base.Fml.{GName, Lft, Share, fat, fbor, flft, fobs, ftrue}
 use base.Logic.{SProp, emp, ent, fst∗, id⊢, sep, via}
 use contract.{Monad.Fun, Monad.fact, Running.givenOf, Running.tables, Running.tablesOf}
-use denote.Steps.{after-event, closes, facts, nothing, only, opens, owned}
+use denote.Steps.{heard, closes, facts, nothing, only, opens, owned}
 use denote.{Exit.yes, Laws.Is, Laws.Makes, Laws.Typed, Laws.shows, Memory.cellAt, Memory.lone, Memory.mem, Plain.UInt, Plain.uint-lawful}
 use denote.{Plain.uint-makes, RattleType.RattleType, RattleType.owns, Signature.plain, Signature.typesAt}
 use denote.Struct.Steps.{spelt}
@@ -122,7 +122,7 @@ module _ {M : Type 1} (𝓤 : URA M) (H : Heap 𝓤) (A : Atoms 𝓤) (W : Given
           some (λ (ws : Lasts step.ended tt (h, (c, tt))). ‵ (lasts step.ended tt (h, (c, tt)) ws) ⊛
           raw (fact 𝓤 (Steps h (asks c) (steppedFrom (r .number) (r .monitor)))))))) (id⊢ 𝓤 _) $ await ! tt $
           pick ! (λ r. split ! $ move ! (1 ∷ []) $ pick ! (λ ws. split ! $ drop ! $
-          after-event ! (Steps h (asks c) (steppedFrom (r .number) (r .monitor))) (λ kept. split ! $ drop ! $
+          heard ! (Steps h (asks c) (steppedFrom (r .number) (r .monitor))) (λ kept. split ! $ drop ! $
           facts ! numbered.the-row (Is numbered.the-row) (shows 𝓤 H A numbered.the-row) r (v ∷ []) (λ r-is.
           land ! (from ! (stop !)) (init ! 6 refl (struct.lawful numbered.the-type numbered-laws.the-laws 𝓤 H A W .typed r (v ∷ []) r-is .0)) $
           rewrite ! 6 (λ (u : Val). ‵ (fat fullShare (lone (numbered.the-row .mir)) l₃ 0 u))

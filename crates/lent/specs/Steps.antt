@@ -205,8 +205,8 @@ abbrev pub appliedOn : Lent → ℕ → ℕ → Occurrence → ℕ → Lent
 appliedOn h first n o number = withRoom (visited h first n o number) (roomAfter h first n o number)
 
 -- those of a kind, by the step that the count says
-abbrev pub eventOn : ℕ → ℕ → ℕ → Lent → Lent
-eventOn kind stream t h = appliedOn h (startOf h kind) (rowCount h kind) (eventAt stream t) (h .monitor .count)
+abbrev pub kindApplied : ℕ → ℕ → ℕ → Lent → Lent
+kindApplied kind stream t h = appliedOn h (startOf h kind) (rowCount h kind) (eventAt stream t) (h .monitor .count)
 
 abbrev pub leftOn : Lent → ℕ → ℕ → ℕ → Lent
 leftOn h kind stream time =

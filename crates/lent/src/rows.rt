@@ -15,7 +15,7 @@ ghost use Prim.Native.Nat.{_-_, _<_, _≤_};
 ghost use mathlib.Core.Path.{_≡_};
 ghost use Rattle.row.specs.Machine.{eventAt};
 ghost use Rattle.lent.specs.Layout.{Lent, wordsOf, Shaped, rowNamed, startOf, endOf};
-ghost use Rattle.lent.specs.Steps.{Turns, appliedOn, eventOn, ended, soonestOf, crowded, fullest, backed, rowCount};
+ghost use Rattle.lent.specs.Steps.{Turns, appliedOn, kindApplied, ended, soonestOf, crowded, fullest, backed, rowCount};
 
 // The row that an entry names, whatever the word is.
 fn named(m: &Words, place: usize) -> usize
@@ -70,7 +70,7 @@ fn visits(m: &mut Words, first: usize, end: usize, stream: u64, t: u64, number: 
 // The rows of a kind after an event of it, which is the step that the count says.
 pub(crate) fn visits_of(m: &mut Words, kind: usize, stream: u64, t: u64)
     requires { ⌜ kind < 64 ⌝ }
-    ensures { λ _. ⌜ Turns (now (m .entry)) (eventOn kind stream t) (now (m .exit)) ⌝ }
+    ensures { λ _. ⌜ Turns (now (m .entry)) (kindApplied kind stream t) (now (m .exit)) ⌝ }
 {
     let first = start_of(m, kind);
     let end = end_of(m, kind);

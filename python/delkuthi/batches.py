@@ -1,7 +1,7 @@
 """Thousands of lines of a log at a time: their stamps and their events side by side, and the records that the library reads in one call.
 
 What is done for each line is done by what Python has in C: splitting, looking up, packing. Lines that are not all alike raise
-:class:`Irregular`, and are then looked at one by one; both ways give the same steps.
+:class:`NeedsSlowPath`, and are then looked at one by one; both ways give the same steps.
 """
 from __future__ import annotations
 
@@ -26,7 +26,7 @@ OTHER = 255
 BLOCK = 1 << 16
 
 
-class Irregular(Exception):
+class NeedsSlowPath(Exception):
     """Lines that are not all alike."""
 
 
@@ -42,11 +42,11 @@ class Codes:
     """A number below :data:`OTHER` for each signal of a table, so that the events of many lines are a string of bytes."""
 
     def __init__(self, table: Table):
-        """Codes for the signals of a table's event lines and of its rows; :class:`Irregular` if it has too many."""
+        """Codes for the signals of a table's event lines and of its rows; :class:`NeedsSlowPath` if it has too many."""
         named = {number for event in table.events for number in (event.kind, *signals_of(event.kind))}
         self.numbers = sorted(named | {number for row in table.rows for number in row.signals})
         if len(self.numbers) >= OTHER - 1:
-            raise Irregular
+            raise NeedsSlowPath
         self.of = {number: code for code, number in enumerate(self.numbers)}
         #: The signal of each code; none for other lines.
         self.signals: list[int | None] = [*self.numbers, *[None] * (256 - len(self.numbers))]
@@ -76,12 +76,12 @@ class Shape:
         self._cuts = bytes(10 if byte in marks else byte for byte in range(256))
 
     def cut(self, block: bytes) -> list[bytes]:
-        """The cells of a block of lines, one behind the other; :class:`Irregular` if a line is cut in another way."""
+        """The cells of a block of lines, one behind the other; :class:`NeedsSlowPath` if a line is cut in another way."""
         if b"\r" in block:
             block = block.replace(b"\r\n", b"\n")
         found = block.translate(None, self._others)
         if b'"' in block or b"\r" in block or not block.endswith(b"\n") or found != self._marks * (len(found) // len(self._marks)):
-            raise Irregular
+            raise NeedsSlowPath
         if len(set(self._marks)) == 2:
             cells = block.replace(b"\n", self._marks[:1]).split(self._marks[:1])
         else:
@@ -106,12 +106,12 @@ class Scale:
             else:
                 times = _whole(cells, joined)
         except (ValueError, RecursionError):
-            raise Irregular from None
+            raise NeedsSlowPath from None
         above, below = self.above, self.below * 10**digits
         common = gcd(above, below)
         above, below = above // common, below // common
         if below > 1 and any([time % below for time in times]):
-            raise Irregular
+            raise NeedsSlowPath
         return times if above == below == 1 else [time * above // below for time in times]
 
 
@@ -126,7 +126,7 @@ def _whole(cells: list[bytes], joined: bytes) -> list[int]:
     except (TypeError, ValueError):
         pass
     if not joined.replace(b",", b"").isdigit():
-        raise Irregular
+        raise NeedsSlowPath
     return list(map(int, cells))
 
 
@@ -134,12 +134,12 @@ def _digits(cells: list[bytes], joined: bytes) -> int:
     """How many digits each cell has behind its point."""
     number, size, point = len(cells), len(cells[0]), cells[0].find(b".")
     if joined.count(b".") != number or not joined.replace(b".", b"").isdigit():
-        raise Irregular
+        raise NeedsSlowPath
     if point > 0 and len(joined) == size * number and joined[point::size] == b"." * number and len(set(map(len, cells))) == 1:
         return size - point - 1
     behind = {len(cell) - cell.find(b".") for cell in cells if cell.find(b".") > 0}
     if len(behind) != 1 or not all([b"." in cell[1:] for cell in cells]):
-        raise Irregular
+        raise NeedsSlowPath
     return behind.pop() - 1
 
 
@@ -181,12 +181,12 @@ class Tally:
 
 def level(times: list[int], codes: bytes, clock: int, taken: set[int]) -> tuple[list[int], bytes]:
     """Lines of which some share a stamp, without those that are no event and do not move the clock. ``taken`` are the codes of the events
-    at the clock. :class:`Irregular` where two events of one code share a stamp, or a stamp is before another."""
+    at the clock. :class:`NeedsSlowPath` where two events of one code share a stamp, or a stamp is before another."""
     if any(map(gt, times, islice(times, 1, None))):
-        raise Irregular
+        raise NeedsSlowPath
     kept = [(time, code) for time, before, code in zip(times, chain((clock,), times), codes) if code != OTHER or time > before]
     if len(set(kept)) != len(kept) or any(code in taken for _, code in takewhile(lambda one: one[0] == clock, kept)):
-        raise Irregular
+        raise NeedsSlowPath
     return [time for time, _ in kept], bytes([code for _, code in kept])
 
 
@@ -224,7 +224,7 @@ class Records:
         try:
             stamps = array("Q", times)
         except (OverflowError, TypeError):
-            raise Irregular from None
+            raise NeedsSlowPath from None
         if sys.byteorder == "little":
             stamps.byteswap()
         data = stamps.tobytes()

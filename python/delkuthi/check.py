@@ -8,13 +8,13 @@ from itertools import islice
 from operator import itemgetter
 from typing import Callable, Iterable, Iterator, Sequence
 
-from .batches import Codes, Irregular, Tally
+from .batches import Codes, NeedsSlowPath, Tally
 from .library import Refused
 from .logs import Counts, Log, LogError, Policy, Step
 from .measure import Measuring
 from .measured import Described, described
-from .missing import warnings
-from .moments import Moments
+from .unseen_events import warnings
+from .time_format import TimeFormat
 from .monitor import Monitor
 from .monitors import Monitors, Recorder, monitor_of
 from .reasons import Case, Kind, Reason
@@ -70,7 +70,7 @@ class Outcome:
     closed: bool = False
     #: Is a row that was never exercised a failure?
     exercised: bool = False
-    moments: Moments = Moments()
+    time_format: TimeFormat = TimeFormat()
     warnings: list[str] = field(default_factory=list)
     error: str | None = None
     refused: int | None = None
@@ -107,8 +107,8 @@ class Outcome:
 
     def as_dict(self) -> dict[str, object]:
         """For JSON: the fields by their names, times as the log's stamps."""
-        found = {name: value for name, value in asdict(self).items() if name not in ("counts", "moments", "exercised", "files")}
-        return {**found, **asdict(self.counts), "offset": self.moments.shift, "status": self.status}
+        found = {name: value for name, value in asdict(self).items() if name not in ("counts", "time_format", "exercised", "files")}
+        return {**found, **asdict(self.counts), "offset": self.time_format.shift, "status": self.status}
 
 
 class StepRefused(Exception):
@@ -153,13 +153,13 @@ def run_log(table: Table, log: Log, close: bool) -> tuple[Run, Monitor | Monitor
     found when the log is read again. :class:`StepRefused` at the first step that is refused."""
     try:
         return _run_chunks(table, log, close)
-    except Irregular:
+    except NeedsSlowPath:
         monitor = monitor_of(table)
         return run(monitor, log.steps(), close), monitor
 
 
 def _run_chunks(table: Table, log: Log, close: bool) -> tuple[Run, Monitor | Monitors]:
-    """The same by chunks; :class:`Irregular` where they do not do."""
+    """The same by chunks; :class:`NeedsSlowPath` where they do not do."""
     codes, found, whole = Codes(table), Run(), table.whole
     tally = Tally(len(codes.numbers))
     recorders = [Recorder(Monitor(table if whole else part.data), codes, None if whole else part, len(table.parts)) for part in table.parts]
@@ -181,7 +181,7 @@ def _run_chunks(table: Table, log: Log, close: bool) -> tuple[Run, Monitor | Mon
         for row in range(len(recorder.monitor.table.rows)):
             number = recorder.monitor.step(row)
             if number is not None and not whole:
-                raise Irregular  # its steps are not numbered as those of the whole table
+                raise NeedsSlowPath  # its steps are not numbered as those of the whole table
             if number is not None:
                 found.broken[row] = number, None
     return found, recorders[0].monitor if whole else Monitors.closed(table, [recorder.monitor for recorder in recorders], found.steps)
@@ -193,7 +193,7 @@ def _flush(log: Log, recorders: list[Recorder]) -> None:
         recorder.flush()
         if recorder.refused is not None:
             if len(recorders) > 1 or recorder.refused[1] == 11:
-                raise Irregular  # what is out of order is for the policy, step by step
+                raise NeedsSlowPath  # what is out of order is for the policy, step by step
             step = next(islice(Log(log.files, log.table, log.policy).steps(), recorder.refused[0], None))
             raise StepRefused(step, Refused(recorder.refused[1]))
 
@@ -249,8 +249,8 @@ class Why:
 class _Reasons:
     """The reasons of a run, found in the same steps once more."""
 
-    def __init__(self, table: Table, found: Run, at: Callable[[int], str], moments: Moments):
-        self.table, self.at, self.moments = table, at, moments
+    def __init__(self, table: Table, found: Run, at: Callable[[int], str], time_format: TimeFormat):
+        self.table, self.at, self.time_format = table, at, time_format
         self.said: dict[int, Why] = {}
         self.open: dict[int, tuple[Case, Reason]] = {}
         self.ends: dict[int, list[int]] = {}
@@ -279,7 +279,7 @@ class _Reasons:
         """The rows that the step of a number broke."""
         rows = self.ends.pop(number, ())
         for row in rows:
-            case = Case(self.table, self.table.rows[row], self.events, time, closed, self.at, self.moments)
+            case = Case(self.table, self.table.rows[row], self.events, time, closed, self.at, self.time_format)
             reason = self.table.rows[row].type.reason(case)
             self.open[row] = case, reason or Reason(lambda ended: UNKNOWN)
             if reason is None or all(map(case.came, reason.awaited)):
@@ -301,10 +301,10 @@ class _Reasons:
         return not self.ends and not self.open
 
 
-def reasons_of(table: Table, steps: Iterable[Step], found: Run, at: Callable[[int], str], moments: Moments,
+def reasons_of(table: Table, steps: Iterable[Step], found: Run, at: Callable[[int], str], time_format: TimeFormat,
                ended: bool = True) -> dict[int, Why]:
     """Why each broken row is broken, from the same steps once more. Unless the log is at its end, what has not come may still."""
-    reasons = _Reasons(table, found, at, moments)
+    reasons = _Reasons(table, found, at, time_format)
     number, last = 0, Step(None, 0, 0)
     for number, last in enumerate(steps, 1):
         reasons.take(number, last)
@@ -331,14 +331,14 @@ def check(table: Table, path: str | Sequence[str], policy: Policy = Policy(), pr
     try:
         with bar(log):
             found, monitor = run_log(table, log, policy.close)
-        outcome.counts, outcome.moments = log.counts, log.moments
+        outcome.counts, outcome.time_format = log.counts, log.time_format
         outcome.warnings = warnings(table, log, found.seen)
         if found.broken or measuring is not None:
             with bar(log):
                 # A log that has grown since is read as far as before.
                 again = _noted(islice(log.steps(), found.steps - policy.close), found, policy.close)
                 steps = again if measuring is None else measuring.taking(again)
-                why = reasons_of(table, steps, found, log.at, outcome.moments, policy.close)
+                why = reasons_of(table, steps, found, log.at, outcome.time_format, policy.close)
                 deque(steps if measuring is not None else (), maxlen=0)
     except LogError as error:
         outcome.error = str(error)
@@ -347,20 +347,20 @@ def check(table: Table, path: str | Sequence[str], policy: Policy = Policy(), pr
         outcome.error = f"{error.filename or log.path}: {error.strerror or error}"
         return outcome
     except StepRefused as refused:
-        outcome.error = f"{log.placed(refused.step.place)}: {_refusal(table, log.moments, refused)}"
+        outcome.error = f"{log.placed(refused.step.place)}: {_refusal(table, log.time_format, refused)}"
         outcome.refused = refused.refusal.number
         return outcome
-    outcome.steps, outcome.clock, outcome.page = found.steps, outcome.moments.stamp(found.last.time), monitor.page()
-    outcome.rows = [_row(table, log, number, found, why, outcome.moments) for number in range(len(table.rows))]
+    outcome.steps, outcome.clock, outcome.page = found.steps, outcome.time_format.stamp(found.last.time), monitor.page()
+    outcome.rows = [_row(table, log, number, found, why, outcome.time_format) for number in range(len(table.rows))]
     for row, measure in zip(outcome.rows, [] if measuring is None else measuring.end(found.last.time, policy.close)):
-        row.measured = described(measure, outcome.moments.stamp, log.at)
+        row.measured = described(measure, outcome.time_format.stamp, log.at)
     for row in outcome.rows:
         if row.verdict != "broken":
             row.verdict = monitor.verdict(row.number).word + ("" if row.instances else IDLE)
     return outcome
 
 
-def _row(table: Table, log: Log, number: int, found: Run, why: dict[int, Why], moments: Moments) -> RowOutcome:
+def _row(table: Table, log: Log, number: int, found: Run, why: dict[int, Why], time_format: TimeFormat) -> RowOutcome:
     row = table.rows[number]
     outcome = RowOutcome(number, row.name or f"row {number}", row.type.name, "open", sum(found.seen[kind] for kind in row.signals),
                          judged(row.type, row.values, found.seen))
@@ -369,19 +369,19 @@ def _row(table: Table, log: Log, number: int, found: Run, why: dict[int, Why], m
     outcome.step, step = found.broken[number]
     outcome.verdict, outcome.by_close = "broken", step is None
     step = step or found.last
-    outcome.place, outcome.time, outcome.where = log.reader.number(step.place), moments.stamp(step.time), log.placed(step.place)
-    at = "at the end" if outcome.by_close else f"at {moments.at(step.time)}"
+    outcome.place, outcome.time, outcome.where = log.reader.number(step.place), time_format.stamp(step.time), log.placed(step.place)
+    at = "at the end" if outcome.by_close else f"at {time_format.at(step.time)}"
     outcome.reason = why[number].text if number in why else UNKNOWN
-    outcome.about = [(kind, moments.stamp(time)) for kind, time in why[number].about] if number in why else []
+    outcome.about = [(kind, time_format.stamp(time)) for kind, time in why[number].about] if number in why else []
     outcome.message = f"{outcome.where}: {table.row_name(number)} ({row.type.name}) broken {at}: {outcome.reason}"
     return outcome
 
 
-def _refusal(table: Table, moments: Moments, refused: StepRefused) -> str:
+def _refusal(table: Table, time_format: TimeFormat, refused: StepRefused) -> str:
     """What to do about a refused step."""
     kind, number = refused.step.kind, refused.refusal.number
     what = "the clock" if kind is None else table.event_name(kind)
-    text = f"{what} at {moments.at(refused.step.time)} {refused.refusal}"
+    text = f"{what} at {time_format.at(refused.step.time)} {refused.refusal}"
     if number == 10:
         return text + "; --from-zero counts the stamps from the first one"
     if number == 12 and kind is not None:

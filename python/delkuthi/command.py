@@ -19,10 +19,10 @@ from .library import LibraryMissing, Refused
 from .logs import Log, LogError, Policy
 from .measured import text_lines
 from .monitor import report
-from .on_logs import join_logs, late_stamps, record, shrink
+from .log_commands import join_logs, late_stamps, record, shrink
 from .output import as_json, as_junit, as_text, overall
 from .plot import PlotMissing, write_plot
-from .policies import add_databases, add_options, policy, read_table
+from .options import add_databases, add_options, policy, read_table
 from .readers.standard_input import NAME, kept
 from .table import Table, is_bytes
 from .text import TextError, grammar

@@ -122,10 +122,10 @@ def _log_html(table: Table, table_name: str, number: int, outcome: Outcome, pict
 
 def _read(outcome: Outcome) -> str:
     """What was read of the log, and up to when."""
-    unit, moments = outcome.moments.unit, outcome.moments
+    unit, time_format = outcome.time_format.unit, outcome.time_format
     end = shown(outcome.clock, unit)
-    if moments.long:
-        end += f", {moments.since(outcome.clock + moments.shift)[1:]} after its start at {shown(moments.stamp(moments.start), unit)}"
+    if time_format.long:
+        end += f", {time_format.since(outcome.clock + time_format.shift)[1:]} after its start at {shown(time_format.stamp(time_format.start), unit)}"
     return ", ".join([*notes(outcome, False), f"{outcome.steps:,} steps up to {end}", "closed" if outcome.closed else "left open"])
 
 

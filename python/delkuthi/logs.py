@@ -11,8 +11,8 @@ from itertools import islice
 from pathlib import Path
 from typing import Callable, Iterable, Iterator, NamedTuple, Sequence
 
-from .batches import OTHER, Batch, Codes, Irregular, ends, last_kept, level, rising
-from .moments import Moments
+from .batches import OTHER, Batch, Codes, NeedsSlowPath, ends, last_kept, level, rising
+from .time_format import TimeFormat
 from .readers import Lines, LogError, Policy, Stamped, reader
 from .table import Table
 
@@ -67,7 +67,7 @@ class Log:
         self.reader = reader(self.files, table, policy)
         self.path = self.reader.path
         self.word = self.reader.word
-        self.counts, self.moments = Counts(), Moments(table.unit)
+        self.counts, self.time_format = Counts(), TimeFormat(table.unit)
         #: Called with the number of bytes of each line, where they are known, for a progress bar.
         self.progress: Callable[[int], object] | None = None
 
@@ -100,7 +100,7 @@ class Log:
                 try:
                     yield from ordering.batch_steps(found, codes)
                     continue
-                except Irregular:
+                except NeedsSlowPath:
                     found = self._counted(batch_lines(found, codes))
             assert not isinstance(found, Batch)
             yield from ordering.steps(found)
@@ -115,7 +115,7 @@ class Log:
                 try:
                     yield ordering.chunk(found, codes)
                     continue
-                except Irregular:
+                except NeedsSlowPath:
                     found = self._counted(batch_lines(found, codes))
             yield from _chunks(ordering.steps(found), codes)
         yield from _chunks(ordering.end(), codes)
@@ -125,7 +125,7 @@ class Log:
         """What the reader finds: batches where it has a way for that, by the codes; else lines."""
         try:
             codes = codes or Codes(self.table)
-        except Irregular:
+        except NeedsSlowPath:
             pass
         if self.policy.unsorted == "sort" or codes is None:
             yield self._lines(), None
@@ -140,7 +140,7 @@ class Log:
 
     def _begun(self) -> Ordering:
         """The log from its beginning."""
-        self.counts, self.moments = Counts(), Moments(self.table.unit)
+        self.counts, self.time_format = Counts(), TimeFormat(self.table.unit)
         self.reader = reader(self.files, self.table, self.policy)
         self.reader.progress = self.progress
         return Ordering(self)
@@ -185,7 +185,7 @@ class Ordering:
         log = self.log
         room = 0 if log.policy.as_stamped else log.table.jitter
         self.add = room - (first if log.policy.from_zero else min(first, 0))
-        log.moments = Moments(log.table.unit, room if log.policy.from_zero else self.add, first + self.add)
+        log.time_format = TimeFormat(log.table.unit, room if log.policy.from_zero else self.add, first + self.add)
         return self.add
 
     def steps(self, lines: Iterable[Stamped]) -> Iterator[Step]:
@@ -194,7 +194,7 @@ class Ordering:
         for time, kinds, self.place in lines:
             time += self._start(time) if self.add is None else self.add
             if time < self.stamp:
-                at = self.log.moments.at
+                at = self.log.time_format.at
                 raise self.log.error(self.place, f"the stamp {at(time)} is before the one above it, {at(self.stamp)}; "
                                                  "--unsorted sort would sort the log first")
             self.stamp, time = time, max(time, self.clock)
@@ -217,11 +217,11 @@ class Ordering:
                 yield Step(kind, time, self.place)
 
     def batch_steps(self, batch: Batch, codes: Codes) -> Iterator[Step]:
-        """The steps of a batch whose stamps rise; :class:`Irregular` if they do not."""
+        """The steps of a batch whose stamps rise; :class:`NeedsSlowPath` if they do not."""
         add = self._start(batch.times[0]) if self.add is None else self.add
         times = [time + add for time in batch.times] if add else batch.times
         if not rising(times, self.clock):
-            raise Irregular
+            raise NeedsSlowPath
         self._passed(batch, times, batch.codes, codes)
         numbers = map(codes.signals.__getitem__, batch.codes)
         return map(_STEP, zip(numbers, times, range(batch.place, batch.place + len(times))))
@@ -237,14 +237,14 @@ class Ordering:
             self.last.update((codes.numbers[code], time) for code, time in ends(times, events))
 
     def chunk(self, batch: Batch, codes: Codes) -> Chunk:
-        """The steps of a batch; :class:`Irregular` where the policy on equal stamps may have something to say."""
+        """The steps of a batch; :class:`NeedsSlowPath` where the policy on equal stamps may have something to say."""
         first, events, place = batch.times[0], batch.codes, batch.place + len(batch.codes) - 1
         add = self._start(first) if self.add is None else self.add
         times = [time + add for time in batch.times] if add else batch.times
         # Where each line is an event that the one monitor takes, the library itself asks whether they are in order.
         if (OTHER in events or not self.log.table.whole) and not rising(times, self.clock):
             if times[0] < self.stamp or times[0] < self.clock:
-                raise Irregular
+                raise NeedsSlowPath
             place = batch.place + last_kept(times, events)
             times, events = level(times, events, self.clock, {codes.of[kind] for kind, time in self.last.items() if time == self.clock})
         self._passed(batch, times, events, codes)
@@ -253,12 +253,12 @@ class Ordering:
     def end(self) -> Iterator[Step]:
         """The step that takes the clock on to where it is asked to go."""
         until = self.log.policy.until
-        if until is not None and until + self.log.moments.shift > self.clock:
-            yield Step(None, until + self.log.moments.shift, self.place)
+        if until is not None and until + self.log.time_format.shift > self.clock:
+            yield Step(None, until + self.log.time_format.shift, self.place)
 
     def _twice(self, kind: int, time: int) -> LogError:
         name = self.log.table.event_name(kind)
-        return self.log.error(self.place, f"a second {name} at {self.log.moments.at(time)}; a finer unit tells them apart, --equal drop "
+        return self.log.error(self.place, f"a second {name} at {self.log.time_format.at(time)}; a finer unit tells them apart, --equal drop "
                                           "leaves it out, --equal later gives it the next time")
 
 
@@ -280,7 +280,7 @@ def _chunks(steps: Iterable[Step], codes: Codes) -> Iterator[Chunk]:
         try:
             events = bytes([OTHER if step.kind is None else codes.of[step.kind] for step in some])
         except KeyError:
-            raise Irregular from None
+            raise NeedsSlowPath from None
         if some:
             yield Chunk([step.time for step in some], events, some[-1])
     if wrong is not None:

@@ -47,7 +47,7 @@ def _summary(outcome: Outcome) -> str:
 
 def notes(outcome: Outcome, start: bool = True) -> list[str]:
     """What was read of a log, what became of lines that are not as they should be, and what a + before a time counts from."""
-    counts, moments = outcome.counts, outcome.moments
+    counts, time_format = outcome.counts, outcome.time_format
     read = [f"{number_of(counts.events, 'event')} in {number_of(counts.lines, outcome.word)}"]
     for count, word, said in (
         (counts.dropped, "event", "left out at equal stamps"), (counts.moved, "event", "moved one unit on at equal stamps"),
@@ -56,10 +56,10 @@ def notes(outcome: Outcome, start: bool = True) -> list[str]:
     ):
         if count:
             read.append(f"{number_of(count, word)} {said}")
-    if moments.shift and moments.start < 2 * moments.shift:
-        read.append(f"clock {shown(moments.shift, moments.unit)} ahead of the stamps (the largest jitter)")
-    if moments.long and start:
-        read.append(f"+ counts from {shown(moments.stamp(moments.start), moments.unit)}")
+    if time_format.shift and time_format.start < 2 * time_format.shift:
+        read.append(f"clock {shown(time_format.shift, time_format.unit)} ahead of the stamps (the largest jitter)")
+    if time_format.long and start:
+        read.append(f"+ counts from {shown(time_format.stamp(time_format.start), time_format.unit)}")
     return read
 
 

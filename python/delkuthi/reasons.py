@@ -9,7 +9,7 @@ from dataclasses import dataclass, field
 from typing import TYPE_CHECKING, Callable, Mapping, NamedTuple, Sequence
 
 from .library import NO_LIMIT
-from .moments import Moments
+from .time_format import TimeFormat
 from .units import shown
 
 if TYPE_CHECKING:
@@ -65,7 +65,7 @@ class Case:
     clock: int
     closed: bool
     at: Callable[[int], str]
-    moments: Moments
+    time_format: TimeFormat
 
     def of(self, signal: int) -> Kind:
         """The events of a signal."""
@@ -89,12 +89,12 @@ class Case:
 
     def moment(self, time: int) -> str:
         """A moment of the log."""
-        return self.moments.at(time)
+        return self.time_format.at(time)
 
     def event(self, one: Blamed, word: str = "the ") -> str:
         """``the pedal at 20.5 ms (line 7)``"""
         events = self.events[one.signal]
-        return f"{word}{self.name(one.signal)} at {self.moments.event(events.times[one.number], self.at(events.places[one.number]))}"
+        return f"{word}{self.name(one.signal)} at {self.time_format.event(events.times[one.number], self.at(events.places[one.number]))}"
 
     def came(self, one: Blamed) -> bool:
         """Is the event there?"""
@@ -148,7 +148,7 @@ def gap(case: Case, one: Blamed, before: Blamed, lower: int | None, upper: int |
     apart, places = case.time(one) - case.time(before), one.number - before.number
     which = "the one before it" if places == 1 else f"the one {places} places before it"
     events = case.events[before.signal]
-    at = case.moments.event(events.times[before.number], case.at(events.places[before.number]))
+    at = case.time_format.event(events.times[before.number], case.at(events.places[before.number]))
     if lower is not None:
         asked = f"{case.long(lower - apart)} too early, at least {case.long(lower)} is asked"
     else:

@@ -72,7 +72,7 @@ class _Drawing:
             # Events that are close together are thinner, so that each can be seen.
             width = 1.8 if len(times) < self.inner / 5 else max(round(0.4 * self.inner / len(times), 1), 0.3)
             for time in times:
-                tip = escape(f"{name} at {self.picture.moments.at(time)}")
+                tip = escape(f"{name} at {self.picture.time_format.at(time)}")
                 at, middle = self.x(time), self.middle(lane)
                 if (lane, time) in self.picture.blamed:
                     out.append(f"<circle class='dk-ring' cx='{at}' cy='{middle}' r='10' fill='none' stroke='{BROKEN}' stroke-width='1.6'/>")
@@ -87,7 +87,7 @@ class _Drawing:
             anchor, dx = ("end", -5) if self.x(time) > _WIDTH * 0.6 else ("start", 5)
             lines.append(f"<path class='dk-broken' d='M{self.x(time)} {y - 8} V{self.bottom}' stroke='{BROKEN}' stroke-width='1.4' "
                          "stroke-dasharray='4 2'/>")
-            text = escape(f"{short(label, 70)}, {self.picture.moments.at(time)}")
+            text = escape(f"{short(label, 70)}, {self.picture.time_format.at(time)}")
             labels.append(f"<text class='dk-say' x='{round(self.x(time) + dx, 1)}' y='{y}' text-anchor='{anchor}' fill='{BROKEN}' "
                           f"font-weight='bold' paint-order='stroke' stroke='white' stroke-width='4'>{text}</text>")
         return lines + labels
@@ -98,10 +98,10 @@ class _Drawing:
         colour = BROKEN if shade.broken else colour_of(shade.row)
         opacity = ".35" if shade.broken else ".08" if shade.end is None else ".22"
         width = max(round(self.x(end) - self.x(shade.begin), 1), 1.5)
-        upto = " on" if shade.end is None else f" to {picture.moments.at(shade.end)}"
+        upto = " on" if shade.end is None else f" to {picture.time_format.at(shade.end)}"
         # Dashed, where only the beginning of a stretch without an end is shown.
         dashed = " stroke-dasharray='2 2'" if shade.end is None else ""
-        tip = escape(f"{picture.rows[shade.row]}: from {picture.moments.at(shade.begin)}{upto}{', nothing came' if shade.broken else ''}")
+        tip = escape(f"{picture.rows[shade.row]}: from {picture.time_format.at(shade.begin)}{upto}{', nothing came' if shade.broken else ''}")
         return (f"<rect x='{self.x(shade.begin)}' y='{self.top + _LANE * shade.lane + 4}' width='{width}' height='{_LANE - 8}' "
                 f"fill='{colour}' fill-opacity='{opacity}' stroke='{colour}' stroke-opacity='.45' stroke-width='.7'{dashed}>"
                 f"<title>{tip}</title></rect>")

@@ -12,7 +12,7 @@ from typing import Iterable, Iterator
 from .check import Outcome, RowOutcome
 from .library import FIRST_COLOURED
 from .logs import Step
-from .moments import Moments
+from .time_format import TimeFormat
 from .signals import parts
 from .table import Table
 from .units import UNITS
@@ -41,7 +41,7 @@ class Scene:
     """What a picture shows, from ``begin`` to ``end``, times being the monitor's."""
 
     title: str
-    moments: Moments
+    time_format: TimeFormat
     begin: int
     end: int
     #: What is shown of the log, in words.
@@ -57,19 +57,19 @@ class Scene:
     @property
     def unit(self) -> str | None:
         """The unit of its times."""
-        return self.moments.unit
+        return self.time_format.unit
 
     @property
     def zero(self) -> int:
         """The time that stands for 0 on the axis: of a log with long stamps its start."""
-        return self.moments.start if self.moments.long else self.moments.shift
+        return self.time_format.start if self.time_format.long else self.time_format.shift
 
     def axis(self) -> tuple[list[tuple[int, str]], str]:
         """Times with the numbers that the axis has there, and what the numbers are."""
         places, unit, size = ticks(self.begin - self.zero, self.end - self.zero, self.unit)
         name = unit or "time"
-        if self.moments.long:
-            name = f"{name} from the start of the log, {self.moments.at(self.moments.start).split(' (')[0]}"
+        if self.time_format.long:
+            name = f"{name} from the start of the log, {self.time_format.at(self.time_format.start).split(' (')[0]}"
         return [(place + self.zero, _decimal(place, size)) for place in places], name
 
     def shown_end(self, shade: Shade) -> float:
@@ -122,17 +122,17 @@ def close_up(table: Table, gathered: Gathered, outcome: Outcome, row: RowOutcome
     """A broken row alone, around its break: from the last few events before it, and those that its reason is about, to a bit after."""
     at = _time(outcome, row)
     seen = sorted(time for kind in table.rows[row.number].signals for time in _between(gathered.times[kind], 0, at)[-6:])[-6:]
-    about = [time + outcome.moments.shift for _, time in row.about]
+    about = [time + outcome.time_format.shift for _, time in row.about]
     start, last = min([*seen, *about, at]), max([at, *about])
     room = max((last - start) // 8, 1)
-    begin = max(start - room, min(outcome.moments.start, start))
+    begin = max(start - room, min(outcome.time_format.start, start))
     return _scene(table, gathered, outcome, [row.number], row.name, (begin, last + room))
 
 
 def _scene(table: Table, gathered: Gathered, outcome: Outcome, rows: list[int], title: str, between: tuple[int, int]) -> Scene:
     begin, end = between
     kinds = sorted({kind for row in rows for kind in table.rows[row].signals})
-    picture = Scene(title, outcome.moments, begin, max(end, begin + 1))
+    picture = Scene(title, outcome.time_format, begin, max(end, begin + 1))
     asked = [shade for number in rows for shade in _shades(picture, table, outcome, number, gathered.times)]
     # A lane for what has an event in the log, or is asked for here; of the colours for those that have events.
     coloured = {parts(kind)[1] for kind in kinds if len(gathered.times[kind])}
@@ -147,13 +147,13 @@ def _scene(table: Table, gathered: Gathered, outcome: Outcome, rows: list[int], 
         time = _time(outcome, row)
         if row.verdict == "broken" and begin <= time <= end:
             picture.marks.append((time, f"{row.name} broken{' at the end' if row.by_close else ''}"))
-        picture.blamed |= {(lanes[kind], stamp + outcome.moments.shift) for kind, stamp in row.about if kind in lanes}
+        picture.blamed |= {(lanes[kind], stamp + outcome.time_format.shift) for kind, stamp in row.about if kind in lanes}
     return picture
 
 
 def _time(outcome: Outcome, row: RowOutcome) -> int:
     """The monitor's time at which a row broke."""
-    return (row.time or 0) + outcome.moments.shift
+    return (row.time or 0) + outcome.time_format.shift
 
 
 def _shades(picture: Scene, table: Table, outcome: Outcome, number: int, times: dict[int, array[int]]) -> Iterator[tuple[int, Shade]]:

@@ -25,7 +25,7 @@ def write_trace(file: IO[str], table: Table, log: Log, outcome: Outcome) -> None
     """Writes the trace of a log that was checked, and is read once more; stamps are the log's."""
     times = {number: array("q") for row in table.rows for number in row.signals}
     lanes = {number: lane for lane, number in enumerate(sorted(times), 1)}
-    end, shift = 0, outcome.moments.shift
+    end, shift = 0, outcome.time_format.shift
     file.write('{"displayTimeUnit":"ms","traceEvents":[\n')
     file.write(",\n".join(json.dumps(one) for one in _names(table)))
     for number, end, place in log.steps():

@@ -22,7 +22,7 @@ from .check import UNEXERCISED, UNKNOWN, Late, Run, reasons_of
 from .library import Refused
 from .logs import LogError, Step
 from .mapping import CanMapping
-from .moments import Moments
+from .time_format import TimeFormat
 from .monitor import Monitor
 from .monitors import Monitors, monitor_of
 from .output import number_of
@@ -60,7 +60,7 @@ class Watch:
         self.monitor: Monitor | Monitors = monitor_of(table)
         self.mapping = CanMapping(table)
         # The clock is ahead of the stamps by the largest jitter, as in a log.
-        self.moments = Moments(table.unit, table.jitter, table.jitter)
+        self.time_format = TimeFormat(table.unit, table.jitter, table.jitter)
         self.keys = {source.key: signal_of(event.kind, source.colour) for event in table.events for source in event.sources
                      if isinstance(source, KeySource)}
         self.clock = self.number = self.left_out = self.frames = 0
@@ -76,11 +76,11 @@ class Watch:
 
     def units(self, seconds: float) -> int:
         """The monitor's time of a moment in seconds from the start."""
-        return max(round(seconds * 1_000_000) * 1000 // UNITS[self.table.unit or "s"], 0) + self.moments.shift
+        return max(round(seconds * 1_000_000) * 1000 // UNITS[self.table.unit or "s"], 0) + self.time_format.shift
 
     def seconds(self, time: int) -> float:
         """The moment of a time of the monitor, in seconds from the start."""
-        return (time - self.moments.shift) * UNITS[self.table.unit or "s"] / 10**9
+        return (time - self.time_format.shift) * UNITS[self.table.unit or "s"] / 10**9
 
     def frame(self, frame: Any, seconds: float) -> None:
         """Takes a frame of python-can that came so many seconds after the start."""
@@ -108,7 +108,7 @@ class Watch:
     def marker(self, kind: int, time: int) -> None:
         """Takes an event that can be withdrawn."""
         before = (self.spool.tell(), self.clock, self.number, dict(self.last), dict(self.broken), Counter(self.seen))
-        self.say(f"{self.table.event_name(kind)} at {self.moments.at(max(time, self.clock))}")
+        self.say(f"{self.table.event_name(kind)} at {self.time_format.at(max(time, self.clock))}")
         self.event(kind, time)
         if self.number > before[2]:
             self._before, self._since = _Before(self.monitor.copy(), *before), []
@@ -144,7 +144,7 @@ class Watch:
         except Refused as refusal:
             self.left_out += 1
             name = "the clock" if step.kind is None else self.table.event_name(step.kind)
-            self.say(f"{name} at {self.moments.at(step.time)} {refusal}")
+            self.say(f"{name} at {self.time_format.at(step.time)} {refusal}")
             return
         if step.kind is not None:
             self.last[step.kind] = step.time
@@ -175,10 +175,10 @@ class Watch:
         new = sorted(set(found.broken) - set(silent))
         if not new:
             return
-        why = reasons_of(self.table, self.steps(), found, lambda place: f"step {place}", self.moments, ended=step is None)
+        why = reasons_of(self.table, self.steps(), found, lambda place: f"step {place}", self.time_format, ended=step is None)
         self.spool.seek(0, os.SEEK_END)
         for row in new:
-            at = "at the end" if step is None else f"at {self.moments.at(self.clock)}"
+            at = "at the end" if step is None else f"at {self.time_format.at(self.clock)}"
             text = why[row].text if row in why else UNKNOWN
             waiting = why[row].late if row in why else None
             if waiting is not None:

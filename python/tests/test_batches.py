@@ -114,7 +114,7 @@ def steps_of(table, path, policy):
     """The steps and counts of a log, or what is said against it."""
     log = Log(path, table, policy)
     try:
-        return [tuple(step) for step in log.steps()], log.counts, log.moments
+        return [tuple(step) for step in log.steps()], log.counts, log.time_format
     except LogError as error:
         return str(error)
 
@@ -164,7 +164,7 @@ def test_more_rows_than_a_monitor_has(tmp_path):
                     continue
                 one, other = found.rows[at], alone.rows[0]
                 assert (one.verdict, one.step, one.place, one.events) == (other.verdict, other.step, other.place, other.events)
-                if found.moments == alone.moments:
+                if found.time_format == alone.time_format:
                     assert one.reason == other.reason
                 broken += one.verdict == "broken"
         if not found.error:

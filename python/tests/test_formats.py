@@ -26,7 +26,7 @@ def said(table, path, **policy):
         return re.sub(r"^log(?::(\d+)|: (?=frame))", lambda match: f"log: frame {int(match[1]) - first + 1}" if match[1] else "log: ", text)
 
     rows = [(row.verdict, row.step, row.time, row.events, row.instances, plain(row.message), row.about) for row in outcome.rows]
-    counts = (outcome.counts.lines, outcome.counts.events, outcome.steps, outcome.clock, outcome.moments)
+    counts = (outcome.counts.lines, outcome.counts.events, outcome.steps, outcome.clock, outcome.time_format)
     # What a log has in the place of an event that never came is not the same in each format.
     missing = [re.sub(r"(the log has no \S+?):.*", r"\1", plain(warning)) for warning in outcome.warnings]
     return rows, counts, missing, plain(outcome.error), outcome.page

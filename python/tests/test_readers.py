@@ -203,7 +203,7 @@ def test_steps_of_a_log_that_begins_before_0(tmp_path):
     path.write_text("time,event\n-20,a\n0,a\n5,\n")
     log = Log(path, Table.from_text("unit ms\nevent a\n"))
     assert [tuple(step) for step in log.steps()] == [(0, 0, 2), (0, 20, 3), (None, 25, 4)]
-    assert log.moments.at(0) == "-20 ms"
+    assert log.time_format.at(0) == "-20 ms"
 
 
 @pytest.mark.parametrize("ending, pack", [(".gz", gzip.compress), (".bz2", bz2.compress), (".xz", lzma.compress)])

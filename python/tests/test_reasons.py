@@ -6,7 +6,7 @@ from hypothesis import strategies as st
 from delkuthi import Table
 from delkuthi.check import UNKNOWN, reasons_of, run
 from delkuthi.logs import Step
-from delkuthi.moments import Moments
+from delkuthi.time_format import TimeFormat
 from delkuthi.monitor import Monitor
 from delkuthi.reasons import Case, Kind
 from delkuthi.signals import signal
@@ -26,7 +26,7 @@ def reason(row, steps, close=False, ended=True):
     taken = [Step(SIGNALS[step[0]], int(step[1:]), number) for number, step in enumerate((before + later).split(), 1)]
     found = run(Monitor(table), taken, close)
     assert found.broken[0][0] == len(before.split()) + close
-    return reasons_of(table, taken, found, lambda place: f"line {place}", Moments("ms"), ended)[0].text
+    return reasons_of(table, taken, found, lambda place: f"line {place}", TimeFormat("ms"), ended)[0].text
 
 
 RUN = "ExecutionTime a -> b, preempt c, resume d, 2 .. 5"
@@ -184,7 +184,7 @@ def test_each_broken_row_has_a_reason(case):
     table, pairs = case
     steps = [Step(kind, time, number) for number, (kind, time) in enumerate(pairs, 1)]
     found = run(Monitor(table), steps, True)
-    said = reasons_of(table, steps, found, str, Moments())
+    said = reasons_of(table, steps, found, str, TimeFormat())
     assert set(said) == set(found.broken)
     for row, (number, step) in found.broken.items():
         assert said[row].text != UNKNOWN
@@ -194,7 +194,7 @@ def test_each_broken_row_has_a_reason(case):
                 events[kind].add(time, place)
         clock = steps[number - 2].time if number > 1 else 0
         if step is not None and table.rows[row].type.name in ("Repeat", "Sporadic", "Burst", "Repetition"):
-            assert not table.rows[row].type.reason(Case(table, table.rows[row], events, clock, False, str, Moments()))
+            assert not table.rows[row].type.reason(Case(table, table.rows[row], events, clock, False, str, TimeFormat()))
 
 
 @st.composite
@@ -226,7 +226,7 @@ def test_the_moments_that_are_named_are_the_first_and_the_last(case):
         if monitor.step(0) is None:
             continue
         steps = [Step(0, one, place) for place, one in enumerate(times[: number + 1])]
-        text = reasons_of(table, steps, run(Monitor(table), steps, False), str, Moments())[0].text
+        text = reasons_of(table, steps, run(Monitor(table), steps, False), str, TimeFormat())[0].text
         moment = int(text.split()[-1]) if text.split()[-1].isdigit() else int(text.split()[-2]) if text.endswith(" on") else None
         assert text != UNKNOWN
         if moment is not None and ("too early" in text or "too late" in text):

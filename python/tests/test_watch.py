@@ -187,7 +187,7 @@ def test_the_clock_is_ahead_by_the_jitter():
     watch = Watch(table, said.append, io.BytesIO())
     for seconds in (0.002, 0.009):
         watch.event(0, watch.units(seconds))
-    assert said == [] and watch.moments.at(watch.clock) == "9 ms"
+    assert said == [] and watch.time_format.at(watch.clock) == "9 ms"
 
 
 def test_an_answer_that_comes_late():

@@ -3,7 +3,7 @@ from __future__ import annotations
 
 from typing import Iterable, Iterator
 
-from ..batches import Batch, Codes, Irregular, blocks
+from ..batches import Batch, Codes, NeedsSlowPath, blocks
 from ..timestamps import DECIMAL
 from .base import Lines, Reader, Stamped, lines_of
 from .frames import Frames, written_in_hex
@@ -58,9 +58,9 @@ class AscReader(Reader):
                 lines = lines_of(block)
                 try:
                     if self.base != 16 or self.relative:
-                        raise Irregular
+                        raise NeedsSlowPath
                     yield frames.found(*_columns(lines), number)
-                except Irregular:
+                except NeedsSlowPath:
                     yield self._read((at, self.decoded(line, at)) for at, line in enumerate(lines, number))
                 number += len(lines)
 
@@ -89,19 +89,19 @@ class AscReader(Reader):
 
 
 def _columns(lines: list[bytes]) -> tuple[list[bytes], list[bytes], list[bytes], list[bytes]]:
-    """Stamps, channels, identifiers and data of lines that are all data frames of one to eight bytes; :class:`Irregular` if they are not."""
+    """Stamps, channels, identifiers and data of lines that are all data frames of one to eight bytes; :class:`NeedsSlowPath` if they are not."""
     words = [line.split(None, 6) for line in lines]
     if set(map(len, words)) != {7}:
-        raise Irregular
+        raise NeedsSlowPath
     stamps, buses, identifiers, _, marks, sizes, data = (list(column) for column in zip(*words))
     if set(marks) != {b"d"} or not set(sizes) <= _SIZES.keys() or not b"".join(buses).isdigit():
-        raise Irregular
+        raise NeedsSlowPath
     ends = [_SIZES[size] for size in sizes]
     found = [text[:end].replace(b" ", b"") for text, end in zip(data, ends)]
     # As many bytes as the frame says, two digits each, and no further digit beside them.
     if [2 * end + 2 for end in ends] != [3 * len(digits) for digits in found] or not {
             text[end : end + 1] for text, end in zip(data, ends)} <= {b" ", b"\n", b"\r", b""}:
-        raise Irregular
+        raise NeedsSlowPath
     return stamps, buses, identifiers, found
 
 

@@ -4,7 +4,7 @@ from __future__ import annotations
 import re
 from typing import Iterable, Iterator
 
-from ..batches import Batch, Codes, Irregular, Shape, blocks
+from ..batches import Batch, Codes, NeedsSlowPath, Shape, blocks
 from ..mapping import CanMapping
 from ..units import NUMBER
 from .base import Lines, Reader, Stamped, lines_of
@@ -55,7 +55,7 @@ class CandumpReader(Reader):
                     cells = _SHAPE.cut(block)
                     yield frames.found(cells[0::4], cells[1::4], cells[2::4], cells[3::4], number)
                     number += len(cells) // 4
-                except Irregular:
+                except NeedsSlowPath:
                     lines = lines_of(block)
                     yield self._read(mapping, ((at, self.decoded(line, at)) for at, line in enumerate(lines, number)))
                     number += len(lines)

@@ -6,7 +6,7 @@ from itertools import chain
 from operator import itemgetter
 from typing import Iterable, Iterator
 
-from ..batches import OTHER, Batch, Codes, Irregular, Scale, Shape, blocks
+from ..batches import OTHER, Batch, Codes, NeedsSlowPath, Scale, Shape, blocks
 from .base import Lines, Reader, Stamped, ending, lines_of
 from .python_can import PythonCanReader
 from .sheets import Columns, SheetReader
@@ -75,7 +75,7 @@ class CsvReader(SheetReader):
                     batch = several.batch(block, number)
                     number += len(batch.codes)
                     yield batch
-                except Irregular:
+                except NeedsSlowPath:
                     lines = lines_of(block)
                     yield self._one_by_one(columns, lines, number)
                     number += len(lines)

@@ -5,7 +5,7 @@ import re
 from operator import itemgetter
 from typing import Callable, Sequence
 
-from ..batches import OTHER, Batch, Codes, Irregular, Scale
+from ..batches import OTHER, Batch, Codes, NeedsSlowPath, Scale
 from ..mapping import CanMapping
 from .base import Lines, Reader, Stamped
 
@@ -25,7 +25,7 @@ class Frames:
         self._met: set[bytes] = set()
 
     def found(self, stamps: list[bytes], buses: list[bytes], identifiers: list[bytes], data: Sequence[bytes], place: int) -> Batch | Lines:
-        """The frames of lines that follow each other; :class:`Irregular`, before anything is looked at, if they are not all data frames.
+        """The frames of lines that follow each other; :class:`NeedsSlowPath`, before anything is looked at, if they are not all data frames.
         Where one of them is several events they are given as lines."""
         times, digits = self._scale.times(stamps), _hexadecimal(data)
         names = {bus: self._reader.decoded(bus, 2) for bus in set(buses)}
@@ -66,7 +66,7 @@ class Frames:
 def _hexadecimal(data: Sequence[bytes]) -> Sequence[bytes]:
     """The data, if it is all of whole bytes in hexadecimal digits."""
     if b"".join(data).translate(None, _HEX) or any(size % 2 for size in set(map(len, data))):
-        raise Irregular
+        raise NeedsSlowPath
     return data
 
 
@@ -78,10 +78,10 @@ def written_in_hex(pattern: str) -> Callable[[bytes], tuple[int, bool]]:
     def read(written: bytes) -> tuple[int, bool]:
         match = compiled.fullmatch(written)
         if match is None:
-            raise Irregular
+            raise NeedsSlowPath
         number = int(match[1], 16)
         if number >= 2**29:
-            raise Irregular
+            raise NeedsSlowPath
         return number, bool(match[2]) if compiled.groups > 1 else len(match[1]) > 3
 
     return read

@@ -10,7 +10,7 @@ from .check import reasons_of, run
 from .library import LAST_TIME, Refused
 from .logs import Log, LogError, Step
 from .monitor import JoinRefused, Monitor, join, stamps
-from .policies import policy, read_table, time_of
+from .options import policy, read_table, time_of
 from .recording import Record, recording_bytes
 from .shrink import shortest, stretch_to
 from .table import Table
@@ -29,13 +29,13 @@ def accepted(log: Log, steps: Iterable[Step]) -> Iterator[Step]:
 
 def _refused(log: Log, step: Step, number: int) -> LogError:
     what = "the clock" if step.kind is None else log.table.event_name(step.kind)
-    return log.error(step.place, f"{what} at {log.moments.at(step.time)} {Refused(number)}")
+    return log.error(step.place, f"{what} at {log.time_format.at(step.time)} {Refused(number)}")
 
 
 def _recorded(log: Log, steps: Iterable[Step], start: int = 0) -> Iterator[Record]:
     """The records of a log, at its own stamps or counted from a start; a tick at 0 would move nothing."""
     for kind, time, place in steps:
-        stamp = log.moments.stamp(time) - start
+        stamp = log.time_format.stamp(time) - start
         if stamp < 0:
             raise log.error(place, "a recording has no times below 0; --from-zero counts the stamps from the first one")
         if stamp or kind is not None:
@@ -56,7 +56,7 @@ def join_logs(given: argparse.Namespace) -> int:
     how = replace(policy(given, table), as_stamped=True, from_zero=False)
     logs = [Log(path, table, how) for path in given.log]
     steps = [list(accepted(log, log.steps())) for log in logs]
-    start = min(log.moments.stamp(log.moments.start) for log in logs) if given.from_zero else 0
+    start = min(log.time_format.stamp(log.time_format.start) for log in logs) if given.from_zero else 0
     first, second = (recording_bytes(_recorded(log, some, start)) for log, some in zip(logs, steps))
     try:
         write(given.output, join(first, second))
@@ -100,7 +100,7 @@ def shrink(given: argparse.Namespace) -> int:
         out(f"{given.log}: {name} is broken by the end of the log alone: no {log.word} before it breaks the row\n")
         return 1
     end = number - 1
-    why = reasons_of(alone, steps, found, log.at, log.moments)[0]
+    why = reasons_of(alone, steps, found, log.at, log.time_format)[0]
     start = stretch_to(table, row, steps, end, why.about)
     if start is not None:
         _tell(log, row, steps, start, end, f"{name} broke at {log.at(step.place)}: {why.text}")
@@ -124,7 +124,7 @@ def _lines(log: Log, stretch: Sequence[Step]) -> Iterator[str]:
     """The lines of a text log that the steps are from; of other logs the steps."""
     if log.word != "line":
         for kind, time, place in stretch:
-            yield f"{log.at(place)}: {'tick' if kind is None else log.table.event_name(kind)} {log.moments.at(time)}\n"
+            yield f"{log.at(place)}: {'tick' if kind is None else log.table.event_name(kind)} {log.time_format.at(time)}\n"
         return
     wanted = {step.place for step in stretch}
     for number, line in islice(log.reader.text_lines(), 0, max(wanted)):

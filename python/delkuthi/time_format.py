@@ -1,4 +1,4 @@
-"""Moments of a log as a person reads them: its stamps, and beside long ones how far they are from its start."""
+"""Times of a log as a person reads them: its stamps, and beside long ones how far they are from its start."""
 from __future__ import annotations
 
 from dataclasses import dataclass
@@ -10,7 +10,7 @@ LONG = 11
 
 
 @dataclass(frozen=True)
-class Moments:
+class TimeFormat:
     """How the monitor's times are said. ``shift`` is how far they are from the log's stamps: time = stamp + shift;
     ``start`` is the time of the log's first line."""
 

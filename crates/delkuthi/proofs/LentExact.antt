@@ -1,12 +1,13 @@
 -- §11.2: a host's calls on lent memory, one after the other, each known by its contract alone, are the machine's, so that they keep its promise;
 -- and each reader's contract speaks of every list of calls and withdrawals.
-use Rattle.delkuthi.proofs.Names.{Accepted, Answer, Begins, BeginsUpTo, Constraint, Holds, Host, Left, LeftBy, LentExact, LentExactUpTo, List}
-use Rattle.delkuthi.proofs.Names.{Memory, Monitor, Pages, ReadAnswer, ReadsAs, ReadsRecorded, ReadsRow, ReadsTableUpTo, RecordingTakenAs}
-use Rattle.delkuthi.proofs.Names.{Reported, ReportsOnUpTo, ReportsSteps, Request, Run, Step, Took, Untouched, _<_, _∷_, _≡_, after, answerFrom}
-use Rattle.delkuthi.proofs.Names.{ap₂, arith, asked, asks, at, begun, cut, map, monitor-is-exact, monitorOf, never, noneLeft, over, play}
-use Rattle.delkuthi.proofs.Names.{read-accepted, reads-once, refl, refused, resultOf, run-once, step, subst, sym, table-of, table-refused}
-use Rattle.delkuthi.proofs.Names.{unused, used, verdictOf, whole, ℕ}
-use Rattle.delkuthi.proofs.{Lying.call-holds, Reports.begun-over, Reports.reported-as-recorded}
+use Rattle.delkuthi.proofs.Names.{Accepted, Answer, Begins, BeginsUpTo, Call, Constraint, Holds, Host, Left, LeftBy, LentExact, LentExactUpTo}
+use Rattle.delkuthi.proofs.Names.{List, Memory, Monitor, Pages, ReadAnswer, ReadsAs, ReadsRecorded, ReadsRow, ReadsTableUpTo, RecordingTakenAs}
+use Rattle.delkuthi.proofs.Names.{Refused, Reported, ReportsOnUpTo, ReportsSteps, Request, Run, Step, TakesAll, [], _++_, _<_, _∷_, _≡_, after}
+use Rattle.delkuthi.proofs.Names.{arith, asks, at, begun, close, cut, map, monitor-is-exact, monitorOf, never, noneLeft, play, read-accepted}
+use Rattle.delkuthi.proofs.Names.{reads-once, refl, refused, run-once, step, subst, sym, table-of, table-refused, unused, used, verdictOf}
+use Rattle.delkuthi.proofs.Names.{whole, ℕ}
+use Rattle.delkuthi.proofs.Hosts.{follows, follows-fresh, untouched-all}
+use Rattle.delkuthi.proofs.Reports.{begun-over, begun-with, reported-as-recorded}
 
 -- ---- what is read
 
@@ -35,30 +36,35 @@ readers h m holds rows requests answers left accepted made run =
 
 -- ---- the report
 
-readers-after : (h : Memory) (m : Monitor) → Holds h m → (rows : List Constraint) (steps : List Step) → Took rows steps m → ReadsAs h rows steps
-readers-after h m holds rows steps took = readers h m holds rows (map asks (took .calls)) _ _ (took .accepted) (took .made) (took .all-taken .1)
+readers-after : (h : Memory) (rows : List Constraint) (steps : List Step) (calls : List Call) → Accepted rows → TakesAll rows calls steps
+    → Holds h (after rows (map asks calls)) → ReadsAs h rows steps
+readers-after h rows steps calls accepted taken holds =
+    readers h (after rows (map asks calls)) holds rows (map asks calls) _ _ accepted refl (taken .1)
 
-recorded : (h : Memory) (m : Monitor) → Holds h m → (rows : List Constraint) (recording : List ℕ) (answer : ReadAnswer)
-    → RecordingTakenAs rows recording answer m → ReadsRecorded h rows recording
-recorded h m holds rows recording ReadAnswer.Accepted taken = whole (taken .0) (taken .1) (readers-after h m holds rows _ (taken .2))
-recorded h m holds rows recording (ReadAnswer.Refused n place) taken =
-    cut n place (taken .0) (taken .3) (taken .1) (readers-after h m holds rows (taken .0) (taken .2))
+recorded : (h : Memory) (rows : List Constraint) (recording : List ℕ) (answer : ReadAnswer) (calls : List Call) → Accepted rows
+    → RecordingTakenAs rows recording answer calls → Holds h (after rows (map asks calls)) → ReadsRecorded h rows recording
+recorded h rows recording ReadAnswer.Accepted calls accepted (steps, reads, taken) holds =
+    whole steps reads (readers-after h rows (steps ++ (close ∷ [])) calls accepted taken holds)
+recorded h rows recording (ReadAnswer.Refused n place) calls accepted (steps, reads, before, taken) holds =
+    cut n place steps reads before (readers-after h rows steps calls accepted taken holds)
 
 module _ {newest : ℕ} (before : Memory) (table recording : List ℕ) where
   left-refused : {answer : ReadAnswer} {h : Memory} → LeftBy newest before table recording answer h → (n place : ℕ)
       → ReadsTableUpTo newest table (table-refused n place)
       → h ≡ before
   left-refused (unused m at reads) n place r = refl
-  left-refused (used rows answer h m reads taken holds) n place r = let same = reads-once table reads r in never (cc)
+  left-refused (used rows answer h reads begins left) n place r = let same = reads-once table reads r in never (cc)
 
   left-used : {answer : ReadAnswer} {h : Memory} → LeftBy newest before table recording answer h → (rows : List Constraint)
       → ReadsTableUpTo newest table (table-of rows)
       → ReadsRecorded h rows recording
   left-used (unused m at reads) rows r = let same = reads-once table reads r in never (cc)
-  left-used (used others answer h m reads taken holds) rows r =
+  left-used (used others answer h reads begins left) rows r =
       let both = reads-once table reads r in
       let same : others ≡ rows = cc in
-      recorded h m holds rows recording answer (subst (λ (list : List Constraint). RecordingTakenAs list recording answer m) same taken)
+      let there = follows-fresh others (begun-with table before others _ reads begins) (left .host) in
+      subst (λ (list : List Constraint). ReadsRecorded h list recording) same
+      (recorded h others recording answer (left .calls) (at table 0, read-accepted table others reads) (left .taken) there)
 
   reported-as : (buffer : List ℕ) (number : ℕ) (written : List ℕ) (h : Memory) → ReportsOnUpTo newest before table recording buffer number written h
       → Reported newest before table recording buffer number written h
@@ -66,25 +72,6 @@ module _ {newest : ℕ} (before : Memory) (table recording : List ℕ) where
       record { reports = on .reports; refused = left-refused (on .left-by); used = left-used (on .left-by) }
 
 -- ---- the calls
-
--- what a list of requests leaves of a monitor: the machine's answers, and the monitor that lies there then
-record Followed (m : Monitor) (requests : List Request) (numbers : List ℕ) (end : Memory) : Type 0 where
-  answers-are : map answerFrom numbers ≡ play step m requests .answers
-  left-there : Holds end (play step m requests .monitor)
-
--- they are those of the machine
-follows : {h end : Memory} {requests : List Request} {numbers : List ℕ} (m : Monitor) → Holds h m → Host h requests numbers end
-    → Followed m requests numbers end
-unfolding play
-follows m holds over = record { answers-are = refl; left-there = holds }
-follows m holds (asked r number takes rest) =
-    let one = call-holds m holds takes in
-    let later = follows (resultOf m r .monitor) (one .1) rest in
-    record { answers-are = ap₂ (λ (x : Answer) (l : List Answer). x ∷ l) (one .0) (later .answers-are); left-there = later .left-there }
-
-untouched-all : {h end : Memory} {requests : List Request} {numbers : List ℕ} (host : Host h requests numbers end) → Untouched host
-untouched-all over = tt
-untouched-all (asked r number takes rest) = (λ above. takes .untouched (λ zero. omega arith), untouched-all rest)
 
 fresh-refused : {newest : ℕ} {bytes : List ℕ} {before : Memory} {number : ℕ} {h : Memory} → BeginsUpTo newest bytes before number h → 0 < number
     → h ≡ before

@@ -1,10 +1,11 @@
 -- The laws of taking a recording and of telling its report.
 mod Names
+mod Lying
+pub mod Hosts
 pub mod Taking
 pub mod Progress
 pub mod Summaries
 pub mod Reports
-mod Lying
 mod Numbers
 pub mod Printing
 pub mod RecordNumbers

@@ -23,11 +23,11 @@ pub use Rattle.constraint.specs.{declared.Answer.the-variants.Refused, declared
 pub use Rattle.constraint.specs.{declared.Constraint.Constraint, declared.Constraint.the-variants.Repeat, declared.JoinAnswer.JoinAnswer}
 pub use Rattle.constraint.specs.{declared.StampedAnswer.StampedAnswer, declared.Verdict.Verdict}
 pub use Rattle.delkuthi.specs.Lent.{KnownWord, NumberOfRows, NumberOfVerdict, StepOfVerdict, WordOfVerdict, wordOf}
-pub use Rattle.delkuthi.specs.LentExact.{Host, LentExact, LentExactUpTo, Memory, ReadsAs, ReadsRecorded, Reported, Untouched, asked, cut, over}
-pub use Rattle.delkuthi.specs.LentExact.{whole}
+pub use Rattle.delkuthi.specs.Host.{Host, Memory, Untouched, asked, noneRefused, over}
+pub use Rattle.delkuthi.specs.LentExact.{LentExact, LentExactUpTo, ReadsAs, ReadsRecorded, Reported, cut, whole}
 pub use Rattle.delkuthi.specs.Printed.{WritesPage, brokenIn, printed, printedRows, typeIn}
 pub use Rattle.delkuthi.specs.Reporting.{LeftBy, ReportsOf, ReportsOn, ReportsOnUpTo, ReportsSteps, reported, unclosed, unused, used}
-pub use Rattle.delkuthi.specs.Taking.{RecordingTakenAs, StepsBefore, TakesRecording, TakesRecords, Took, at-first, at-version, behind}
+pub use Rattle.delkuthi.specs.Taking.{RecordingLeaves, RecordingTakenAs, StepsBefore, TakesRecords, at-first, at-version, behind}
 pub use Rattle.delkuthi.specs.{Joining.NumbersJoin, Joining.joinNumber, Joining.joinQuestions, Joining.joinRefusal, Program.fits}
 pub use Rattle.delkuthi.specs.{Program.too-large, Stamps.NumbersStamps, Stamps.NumbersStampsUpTo, Stamps.stampedNumber, Summary.refusalOf}
 pub use Rattle.delkuthi.specs.{Summary.reportText, Summary.summaryOf, Summary.verdictsIn, Tables.MakesTableIn, Tables.tableNumber}
@@ -41,7 +41,7 @@ pub use Rattle.monitor.proofs.Withdrawing.{after-call, after-follows, remains-f
 pub use Rattle.monitor.proofs.{Demand.has-row, FittingRows.FitRows, FittingRows.fit-reads, Following.Follows, RowVerdicts.place-small}
 pub use Rattle.monitor.proofs.{RowVerdicts.verdict-kept, Theorem.monitor-is-exact}
 pub use Rattle.monitor.specs.Contract.{Reading, Remains, Steps, resultOf, step, stepIn, verdictIn}
-pub use Rattle.monitor.specs.{Beside.allTaken, Machine.monitorOf, Machine.noRow, Machine.stepOf as machineStep, Parts.placeOf, Parts.verdictBy}
+pub use Rattle.monitor.specs.{Beside.TakesAll, Beside.allTaken, Machine.monitorOf, Machine.noRow, Parts.placeOf, Parts.verdictBy}
 pub use Rattle.monitor.specs.{declared.Monitor.Monitor, declared.RowVerdict.RowVerdict, declared.Stepped.Stepped}
 pub use Rattle.page.proofs.{Pages.same-rows, ReadBack.StepFits, ReadBack.equal-pages, ReadBack.page-reads-back}
 pub use Rattle.page.specs.{ReadBack.lineRead, Sheet.textOf, Sheet.verdictFor, Sheet.verdictsOf, declared.Summary.Summary}

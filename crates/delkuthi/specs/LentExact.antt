@@ -14,32 +14,13 @@ use Rattle.constraint.specs.Report.{ReportsUpTo}
 use Rattle.constraint.specs.declared.Constraint.{Constraint}
 use Rattle.constraint.specs.declared.Verdict.{Verdict}
 use Rattle.monitor.specs.Contract.{stepIn}
-use Rattle.lent.specs.Layout.{Words}
-use Rattle.lent.specs.Contract.{answerFrom, Takes, ReadOff}
+use Rattle.lent.specs.Contract.{answerFrom, ReadOff}
 use Rattle.fresh.specs.Fresh.{BeginsUpTo}
+use Rattle.delkuthi.specs.Host.{Memory, Host, Untouched}
 use Rattle.delkuthi.specs.Taking.{StepsBefore}
 use Rattle.delkuthi.specs.Lent.{wordOf, WordOfVerdict, StepOfVerdict, NumberOfRows}
 use Rattle.delkuthi.specs.Printed.{WritesPage}
 use Rattle.delkuthi.specs.Reporting.{ReportsOnUpTo, ReportsSteps, ReportsOf}
-
--- ---- the memory
-
--- what a host lends to the calls
-abbrev pub Memory : Type 0
-Memory = Words
-
--- ---- a host's calls
-
--- one after the other, from the memory before to the memory after, and the numbers that they answer: each known by its contract alone
-pub data Host : Memory → List Request → List ℕ → Memory → Type 0 where
-  over : {h : Memory} → Host h [] [] h
-  asked : {h mid end : Memory} {requests : List Request} {numbers : List ℕ} (r : Request) (number : ℕ)
-      → Takes h r number mid → Host mid requests numbers end → Host h (r ∷ requests) (number ∷ numbers) end
-
--- §9.2: each of them that is refused leaves the memory as it was
-abbrev pub Untouched : {h end : Memory} {requests : List Request} {numbers : List ℕ} → Host h requests numbers end → Type 0
-Untouched over = Unit {0}
-Untouched (asked {h = h} {mid = mid} r number takes rest) = (0 < number → mid ≡ h) × Untouched rest
 
 -- ---- what is read then
 

@@ -1,4 +1,5 @@
 -- What the parts of the report and the calls from C promise.
+pub mod Host
 pub mod Taking
 pub mod Reporting
 pub mod Summary

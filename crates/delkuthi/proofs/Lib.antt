@@ -12,6 +12,5 @@ pub mod RecordNumbers
 pub mod Refusals
 pub mod JoinNumbers
 pub mod StampWords
-pub mod LentExact
 pub mod Editions
 pub mod RoundTrip

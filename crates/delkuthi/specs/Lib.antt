@@ -8,5 +8,4 @@ pub mod Tables
 pub mod Printed
 pub mod Stamps
 pub mod Joining
-pub mod LentExact
 pub mod Program

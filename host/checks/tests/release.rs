@@ -140,6 +140,12 @@ fn a_bench_loop_in_python() {
     let said = ran(python.output());
     assert!(said.status == Some(1) && said.printed.lines().count() == 3, "{said:?}");
     assert_eq!(said, checks::hosts::c_host("bench_loop", "-O2").run(&drive_files()));
+    for (lag, status, lines) in [("3000", 1, 3), ("0", 2, 2)] {
+        python = Command::new("/usr/bin/python3");
+        python.arg(root().join("host/python/bench_loop.py")).args(drive_files()).args([lag, "3000"]);
+        let said = ran(python.env("PYTHONPATH", root().join("python")).env("DELKUTHI_LIB", copy.lib()).output());
+        assert!(said.status == Some(status) && said.printed.lines().count() == lines, "lag {lag}: {said:?}");
+    }
 }
 
 /// A host in Rust that has the wrapper's folder as a copy takes the archive; neither needs the Rattle kit then.

@@ -2,7 +2,7 @@
 """Tags each declaration that docs/READING.md links with the clauses of its rows, as `-- §1.3, §8.11` in the comment above it.
 
     tag-clauses.py            says which declarations lack which clauses; status 1 if there are any
-    tag-clauses.py --write    adds the tags
+    tag-clauses.py --write    adds the tags, and leaves in docs/READING.md only what is not in them
 
 It runs once, on a tree in which release/links.py finds nothing; then release/trace.py makes the page from the tags. A comment of definitions or laws
 gets its tags in front of its text. In code the tags are a line above the comment. The theorem of a list of examples gets the tags of the list from
@@ -22,6 +22,53 @@ WORDS = r"(?:(?:pub|abbrev|unfoldable|opaque|data|record|private)\s+)*"
 CODE_WORDS = r"(?:pub(?:\(crate\))? )?(?:extern \"C\" )?(?:fn|const|struct|enum|type|int)\s+"
 EXAMPLES, LISTS = "crates/examples/proofs/Examples.antt", "crates/examples/specs/Vectors.antt"
 LONGEST = 150
+# What the page then says before the signs of the language, and after them, before the parts of a call.
+OPENING = r"""# From a clause to its definition, theorem and function
+
+This page is for engineers who check that the product does what [the contract](CONTRACT.md) says. Each clause with a bold number leads to the
+definitions that state it, the theorems about it, the functions that do it and the tests that try it.
+
+**In the sources** the comment above a declaration begins with its clauses, as in `-- §2.1 to §2.3, §3.4: text`. So `grep -rn "§5.1\b" crates`
+finds what stands behind §5.1. A declaration in `specs` is a definition, one in `proofs` a theorem, one in `src` a function. The promise of a
+function is its contract: the `ensures` above its body, in the words of the definitions. If you add a definition, theorem or function for a clause,
+tag it.
+
+**As a page** `make trace` writes `build/READING.md`, a table of all clauses with links into the sources, and `build/TRACE.md`, the same table with
+the crates' names, which is installed with the library. `release/trace.py` makes both. A test checks that every promise has a row and a test.
+
+"""
+BY_HAND = """## Clauses that no declaration carries
+
+`release/trace.py` adds these rows to its table.
+
+| clause | definition | theorem | function |
+|---|---|---|---|
+| §3.5 |  | these functions borrow the monitor and cannot write it |  |
+| §7.13 | tested, not proved |  | `main` of the C program |
+| §10.13 | executed by a test |  |  |
+| §11.1 | the contract of every function, and that it is safe and ends | the check of every crate |  |
+| §11.3 | the language has no heap and no global memory | tested: `the_archive_without_a_c_library` |  |
+| §11.4 | no function on a monitor has a `requires` | the check of every crate; tested: `any_memory_is_safe` |  |
+
+## The parts of a call
+
+§11.2 and §11.4 rest on parts that no clause names: how a lent monitor is made fresh and stepped in place.
+
+| part | definition | theorem | function |
+|---|---|---|---|
+"""
+# The words of the parts of a call in plain English.
+PARTS = {
+    "made so: ": "established: ", "kept so: ": "preserved: ", "; to all rows: ": "; of all rows: ",
+    "a table's bytes are judged, and then read again row by row": "a table's bytes are validated, then read again row by row",
+    "every word is cleared, each row of the table is put, and the lists of rows by kind":
+        "every word is cleared, each row of the table is stored, and the lists of rows by kind are made",
+    "the question for 64, put to the rows of the kind's list": "the question for 64 is asked of the rows in the kind's list",
+    "beforehand is no other than within the step: ": "doing this before the step changes nothing: ",
+    "that is the step of all rows: ": "this is the step of all rows: ",
+    "what the words keep is all that the row was: ": "the saved words are the whole earlier row: ",
+    "a withdrawal puts each row back": "a withdrawal restores each row",
+}
 
 
 def parts(clause):
@@ -123,6 +170,15 @@ def tag(lines, place, clauses, mark):
     return True
 
 
+def shortened(text):
+    """The page without the rows that the tags have, and without links."""
+    signs = text[text.index("## The signs of the proof language"):text.index("## 1 Times, kinds, steps")]
+    parts_of_a_call = text[text.index("| the words of a monitor, and"):text.index("\n## 12 ")].rstrip("\n")
+    for old, new in PARTS.items():
+        parts_of_a_call = parts_of_a_call.replace(old, new)
+    return OPENING + signs.replace("| x is y;", "| x equals y;") + BY_HAND + NAME.sub(r"`\1`", parts_of_a_call) + "\n"
+
+
 def main():
     if sys.argv[1:] not in ([], ["--write"]):
         print(__doc__, file=sys.stderr)
@@ -140,6 +196,7 @@ def main():
     if sys.argv[1:]:
         for path, lines in files.items():
             (ROOT / path).write_text("\n".join(lines), encoding="utf-8")
+        (ROOT / READING).write_text(shortened((ROOT / READING).read_text(encoding="utf-8")), encoding="utf-8")
         lacking = [line for line in lacking if line.endswith("there")]
     print("\n".join(lacking), end="\n" if lacking else "")
     return 1 if lacking else 0

@@ -33,8 +33,8 @@ finds what stands behind §5.1. A declaration in `specs` is a definition, one in
 function is its contract: the `ensures` above its body, in the words of the definitions. If you add a definition, theorem or function for a clause,
 tag it.
 
-**As a page** `make trace` writes `build/READING.md`, a table of all clauses with links into the sources, and `build/TRACE.md`, the same table with
-the crates' names, which is installed with the library. `release/trace.py` makes both. A test checks that every promise has a row and a test.
+**As a page** `make trace` writes two tables of all clauses into `build`. `READING.md` has links into the sources. `TRACE.md` has the crates' names
+instead and is installed with the library. `release/trace.py` makes both. A test checks that every promise has a row and a test.
 
 """
 BY_HAND = """## Clauses that no declaration carries

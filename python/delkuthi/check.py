@@ -267,10 +267,10 @@ class _Reasons:
 
     def take(self, number: int, step: Step) -> None:
         """The step of a number: an event more, rows that it broke, answers that came late."""
-        kind, time, place = step
-        if kind in self.needed:
-            assert kind is not None
-            self.events.setdefault(kind, Kind()).add(time, place)
+        signal, time, place = step
+        if signal in self.needed:
+            assert signal is not None
+            self.events.setdefault(signal, Kind()).add(time, place)
             for row in [row for row, (case, reason) in self.open.items() if all(map(case.came, reason.awaited))]:
                 self.say(row, True)
         self.broken(number, time, False)
@@ -379,13 +379,13 @@ def _row(table: Table, log: Log, number: int, found: Run, why: dict[int, Why], t
 
 def _refusal(table: Table, time_format: TimeFormat, refused: StepRefused) -> str:
     """What to do about a refused step."""
-    kind, number = refused.step.kind, refused.refusal.number
-    what = "the clock" if kind is None else table.event_name(kind)
+    signal, number = refused.step.signal, refused.refusal.number
+    what = "the clock" if signal is None else table.event_name(signal)
     text = f"{what} at {time_format.at(refused.step.time)} {refused.refusal}"
     if number == 10:
         return text + "; --from-zero counts the stamps from the first one"
-    if number == 12 and kind is not None:
-        rows = [f"{table.row_name(number)}" for number, row in enumerate(table.rows) if _waits(row, kind)]
+    if number == 12 and signal is not None:
+        rows = [f"{table.row_name(number)}" for number, row in enumerate(table.rows) if _waits(row, signal)]
         return text + f" (one of {', '.join(rows)}): ask for less patience there" if rows else text
     return text
 

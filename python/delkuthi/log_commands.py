@@ -28,7 +28,7 @@ def accepted(log: Log, steps: Iterable[Step]) -> Iterator[Step]:
 
 
 def _refused(log: Log, step: Step, number: int) -> LogError:
-    what = "the clock" if step.kind is None else log.table.event_name(step.kind)
+    what = "the clock" if step.signal is None else log.table.event_name(step.signal)
     return log.error(step.place, f"{what} at {log.time_format.at(step.time)} {Refused(number)}")
 
 
@@ -114,7 +114,7 @@ def shrink(given: argparse.Namespace) -> int:
 def _tell(log: Log, row: int, steps: Sequence[Step], first: int, last: int, what: str) -> None:
     """The lines of a stretch that are events of the row, and the last one."""
     signals, stretch = log.table.rows[row].signals, steps[first : last + 1]
-    matter = [step for step in stretch[:-1] if step.kind in signals] + list(stretch[-1:])
+    matter = [step for step in stretch[:-1] if step.signal in signals] + list(stretch[-1:])
     lines = f"{log.word} {stretch[0].place} is" if len(stretch) == 1 else f"{log.word}s {stretch[0].place} to {stretch[-1].place} are"
     out(f"{log.path}: {what}\n{log.path}: {lines} enough, {len(stretch)} of {len(steps)} steps; the row's events among them, and the last:\n")
     out("".join(_lines(log, matter)))

@@ -22,10 +22,9 @@ CHUNK = 1024
 
 
 class Step(NamedTuple):
-    """A step that a log gives: an event, whose ``kind`` is the number of its signal, or a tick if that is ``None``;
-    ``place`` is its line."""
+    """A step that a log gives: an event, by the number of its signal, or a tick if that is ``None``; ``place`` is its line."""
 
-    kind: int | None
+    signal: int | None
     time: int
     place: int
 
@@ -278,7 +277,7 @@ def _chunks(steps: Iterable[Step], codes: Codes) -> Iterator[Chunk]:
         except LogError as error:
             wrong = error
         try:
-            events = bytes([OTHER if step.kind is None else codes.of[step.kind] for step in some])
+            events = bytes([OTHER if step.signal is None else codes.of[step.signal] for step in some])
         except KeyError:
             raise NeedsSlowPath from None
         if some:

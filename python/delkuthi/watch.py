@@ -140,26 +140,26 @@ class Watch:
 
     def _take(self, step: Step, silent: Collection[int] = ()) -> None:
         try:
-            self.monitor.take(step.kind, step.time)
+            self.monitor.take(step.signal, step.time)
         except Refused as refusal:
             self.left_out += 1
-            name = "the clock" if step.kind is None else self.table.event_name(step.kind)
+            name = "the clock" if step.signal is None else self.table.event_name(step.signal)
             self.say(f"{name} at {self.time_format.at(step.time)} {refusal}")
             return
-        if step.kind is not None:
-            self.last[step.kind] = step.time
-        self.seen[step.kind] += 1
+        if step.signal is not None:
+            self.last[step.signal] = step.time
+        self.seen[step.signal] += 1
         self.clock, self.number = step.time, self.number + 1
         if self._before is not None:
             self._since.append(step)
-        self.spool.write(record_bytes(step.kind, step.time))
+        self.spool.write(record_bytes(step.signal, step.time))
         self._answered(step)
         self._ask(step, silent)
 
     def _answered(self, step: Step) -> None:
         """Says each answer that comes too late, for a row that was said to be broken."""
         for row, late in list(self._late.items()):
-            text = None if step.kind is None else late.take(step.kind, step.time, self.number)
+            text = None if step.signal is None else late.take(step.signal, step.time, self.number)
             if text is not None:
                 del self._late[row]
                 self.say(f"{self.table.row_name(row)}: {text}")

@@ -139,7 +139,7 @@ def test_trc_of_every_version(tmp_path, version):
     steps = list(log.steps())
     first = len(head) + 2
     part = "000" if version == "1.0" else "900"
-    assert steps[0] == (0, int(f"1059{part}"), first) and [(step.kind, step.place) for step in steps[1:]] == [(1, first + 1), (None, first + 2)]
+    assert steps[0] == (0, int(f"1059{part}"), first) and [(step.signal, step.place) for step in steps[1:]] == [(1, first + 1), (None, first + 2)]
     assert (log.counts.lines, log.counts.events, log.counts.skipped) == (3, 2, 1)
     assert log.buses == ({"1", "2"} if version in ("1.3", "2.1") else {"1"})
 

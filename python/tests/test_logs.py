@@ -226,12 +226,12 @@ def test_colours(tmp_path):
     path.write_text("time,event\n1,request/1\n1,request/2\n2,Req\n3,request\n")
     assert check(table, str(path)).refused == 19
     path.write_text("time,event\n1,request/1\n1,request/2\n2,Req\n4,reply/1\n")
-    assert [(step.kind, step.time) for step in Log(str(path), table).steps()] == expected
+    assert [(step.signal, step.time) for step in Log(str(path), table).steps()] == expected
     assert "request/2 at 1 ms (line 3) had no reply/2" in check(table, str(path)).messages[0]
     (tmp_path / "a.bin").write_bytes(recording_bytes(expected))
     assert (tmp_path / "a.bin").read_bytes()[:1] == b"\x02"
-    assert [(step.kind, step.time) for step in Log(str(tmp_path / "a.bin"), table).steps()] == expected
+    assert [(step.signal, step.time) for step in Log(str(tmp_path / "a.bin"), table).steps()] == expected
     (tmp_path / "a.bin").write_bytes(b"\x01" + recording_bytes(expected[1:])[1:])
     assert check(table, str(tmp_path / "a.bin")).refused == 19
     (tmp_path / "a.log").write_text("(0.001000) can0 300#01\n(0.001000) can0 300#02FF\n")
-    assert [(step.kind, step.time) for step in Log(str(tmp_path / "a.log"), table).steps()] == expected[:2]
+    assert [(step.signal, step.time) for step in Log(str(tmp_path / "a.log"), table).steps()] == expected[:2]

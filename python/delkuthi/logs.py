@@ -52,8 +52,8 @@ class Counts:
     #: Lines that say nothing, and stamps that were rounded.
     skipped: int = 0
     rounded: int = 0
-    #: Lines of a scheduler trace about something that no table can name; they move the clock.
-    passed: int = 0
+    #: Lines about something that no table can name, such as the load of a bus; they move the clock.
+    other_lines: int = 0
 
 
 class Log:
@@ -135,7 +135,7 @@ class Log:
     def _done(self) -> None:
         """The log is at its end."""
         counts, read = self.counts, self.reader
-        counts.skipped, counts.rounded, counts.passed = read.skipped, read.rounded, read.passed
+        counts.skipped, counts.rounded, counts.other_lines = read.skipped, read.rounded, read.other_lines
 
     def _begun(self) -> Ordering:
         """The log from its beginning."""
@@ -221,11 +221,11 @@ class Ordering:
         times = [time + add for time in batch.times] if add else batch.times
         if not rising(times, self.clock):
             raise NeedsSlowPath
-        self._passed(batch, times, batch.codes, codes)
+        self._advance(batch, times, batch.codes, codes)
         numbers = map(codes.signals.__getitem__, batch.codes)
         return map(_STEP, zip(numbers, times, range(batch.place, batch.place + len(times))))
 
-    def _passed(self, batch: Batch, times: Sequence[int], events: bytes, codes: Codes) -> None:
+    def _advance(self, batch: Batch, times: Sequence[int], events: bytes, codes: Codes) -> None:
         """The state after the steps of a batch."""
         self.stamp = batch.times[-1] + (self.add or 0)
         self.counts.lines += len(batch.codes)
@@ -246,7 +246,7 @@ class Ordering:
                 raise NeedsSlowPath
             place = batch.place + last_kept(times, events)
             times, events = level(times, events, self.clock, {codes.of[kind] for kind, time in self.last.items() if time == self.clock})
-        self._passed(batch, times, events, codes)
+        self._advance(batch, times, events, codes)
         return Chunk(times, events, Step(None, self.clock, place))
 
     def end(self) -> Iterator[Step]:

@@ -51,6 +51,7 @@ class Policy:
     - ``until``: the clock goes on to this stamp, in the table's unit, after the last line.
     - ``close``: the end of the log is the end of the recording; else rows that are not broken stay open.
     - ``time_column`` and the others: what the columns of a sheet are called, where they have not the usual names.
+    - ``time_unit``: the unit of the stamps of a sheet, where the head of their column does not say it.
     - ``encoding``: how the characters of a text log are written.
     - ``format``: the ending that says what the log is, where its own name does not.
     """
@@ -68,6 +69,7 @@ class Policy:
     action_column: str | None = None
     encoding: str = "utf-8"
     format: str | None = None
+    time_unit: str | None = None
 
 
 class LogError(Exception):
@@ -96,7 +98,7 @@ class Reader:
         #: What goes on from one file to the next where several are one log: the samples before, and who waits.
         self.state: dict[str, Any] = {}
         #: Lines that say nothing, such as blank ones, stamps that were rounded, and lines about what no table can name.
-        self.skipped = self.rounded = self.passed = 0
+        self.skipped = self.rounded = self.other_lines = 0
         #: The buses of the frames that were read, as the log names them.
         self.buses: set[str] = set()
         #: What stands where an event of the table could, some of it.
@@ -122,8 +124,6 @@ class Reader:
             yield from found
         except DatabaseError as error:
             raise LogError(self.path, "", str(error)) from None
-        except UnicodeDecodeError as error:
-            raise LogError(self.path, "", f"not a text file: {error.reason} at byte {error.start}") from None
         except csv.Error as error:
             raise LogError(self.path, "", f"not a CSV file: {error}") from None
         except (EOFError, gzip.BadGzipFile, zlib.error, lzma.LZMAError) as error:
@@ -199,18 +199,37 @@ class Reader:
         """The text of a line; the mark at the beginning of a file is left out."""
         if number == 1 and line.startswith(codecs.BOM_UTF8):
             line = line[len(codecs.BOM_UTF8) :]
-        return line.decode(self.policy.encoding)
+        try:
+            return line.decode(self.policy.encoding)
+        except UnicodeError as error:
+            raise self._undecoded(error, number) from None
+
+    def _undecoded(self, error: UnicodeError, number: int) -> LogError:
+        """What is said of a line that is not in the encoding."""
+        encoding = self.policy.encoding
+        what = f"byte {error.start + 1} of the line, 0x{error.object[error.start]:02X}," if isinstance(error, UnicodeDecodeError) else "the line"
+        other = "cp1252 or utf-16" if encoding == "utf-8" else "utf-8 or cp1252"
+        return self.error(number, f"{what} is not text in {encoding}: --encoding says what the log is written in, such as {other}")
 
     def text_lines(self) -> Iterator[tuple[int, str]]:
         """The lines of a text file, with their numbers."""
         with self.opened() as file:
             if self.wide:
-                for number, text in enumerate(codecs.getreader(self.policy.encoding)(file), 1):
-                    yield number, text
+                yield from self._wide_lines(file)
                 return
             for number, line in enumerate(file, 1):
                 self.advance(len(line))
                 yield number, self.decoded(line, number)
+
+
+    def _wide_lines(self, file: IO[bytes]) -> Iterator[tuple[int, str]]:
+        """The lines of a file of which a character has several bytes."""
+        number = 0
+        try:
+            for number, text in enumerate(codecs.getreader(self.policy.encoding)(file), 1):
+                yield number, text
+        except UnicodeError:
+            raise self._undecoded(UnicodeError(), number + 1) from None
 
 
 def ending(path: str) -> str:

@@ -39,7 +39,7 @@ class BtfReader(Reader):
             target = TARGETS.get(cells[3].upper())
             kinds: tuple[int, ...] = ()
             if target is None or cells[6].lower() not in ACTIONS:
-                self.passed += 1
+                self.other_lines += 1
             else:
                 action = waiting.action((cells[3], cells[4], cells[5]), cells[6].lower())
                 kinds = sources.get((target, cells[4], action), ())

@@ -28,7 +28,10 @@ class Frames:
         """The frames of lines that follow each other; :class:`NeedsSlowPath`, before anything is looked at, if they are not all data frames.
         Where one of them is several events they are given as lines."""
         times, digits = self._scale.times(stamps), _hexadecimal(data)
-        names = {bus: self._reader.decoded(bus, 2) for bus in set(buses)}
+        try:
+            names = {bus: bus.decode(self._reader.policy.encoding) for bus in set(buses)}
+        except UnicodeError:
+            raise NeedsSlowPath from None
         events = self._events(identifiers)
         self._reader.buses.update(names.values())
         for written in {*identifiers} - self._met:
@@ -79,9 +82,9 @@ def written_in_hex(pattern: str) -> Callable[[bytes], tuple[int, bool]]:
         match = compiled.fullmatch(written)
         if match is None:
             raise NeedsSlowPath
-        number = int(match[1], 16)
-        if number >= 2**29:
+        number, extended = int(match[1], 16), bool(match[2]) if compiled.groups > 1 else len(match[1]) > 3
+        if number >= 2**29 or compiled.groups > 1 and not extended and number > 0x7FF:
             raise NeedsSlowPath
-        return number, bool(match[2]) if compiled.groups > 1 else len(match[1]) > 3
+        return number, extended
 
     return read

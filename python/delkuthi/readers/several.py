@@ -52,5 +52,5 @@ class SeveralReader(Reader):
         for number, one in enumerate(self._readers):
             one.progress, one.buses, one.others = self.progress, self.buses, self.others
             yield number << _BITS, one
-            before = before[0] + one.skipped, before[1] + one.rounded, before[2] + one.passed
-            self.skipped, self.rounded, self.passed = before
+            before = before[0] + one.skipped, before[1] + one.rounded, before[2] + one.other_lines
+            self.skipped, self.rounded, self.other_lines = before

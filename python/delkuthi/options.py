@@ -6,6 +6,7 @@ import codecs
 import re
 
 from .logs import LogError, Policy
+from .readers.base import ending
 from .table import Table
 from .units import NUMBER, UNITS, NotWhole, in_unit
 
@@ -61,7 +62,7 @@ def _encoding(text: str) -> str:
 
 
 def _format(text: str) -> str:
-    return f".{text.lower().lstrip('.')}"
+    return ending(f"log.{text.lower().lstrip('.')}")
 
 
 def read_table(given: argparse.Namespace, recorded: bool = False) -> Table:

@@ -7,7 +7,7 @@ from typing import Iterable, Iterator
 from ..batches import Batch, Codes, NeedsSlowPath, blocks
 from ..timestamps import DECIMAL
 from .base import Lines, Reader, Stamped, lines_of
-from .frames import Frames, written_in_hex
+from .frames import TextFrames, whole_data
 
 #: What lines without a stamp begin with, in small letters: the header, comments, and the marks of a trigger block.
 _UNSTAMPED = ("date", "internal", "no", "//", "begin", "end")
@@ -16,8 +16,6 @@ _FRAMES, _REQUEST = ("Rx", "Tx"), "TxRq"
 _IDENTIFIER = {16: re.compile("[0-9A-Fa-f]{1,8}[xX]?"), 10: re.compile("[0-9]{1,10}[xX]?")}
 _OCTET = {16: re.compile("[0-9A-Fa-f]{1,2}"), 10: re.compile("[0-9]{1,3}")}
 _EXAMPLE = "expected a line of ASC, such as 0.020500 1 1A0 Rx d 1 01"
-#: The lengths of data that many lines are read together with, and how many characters such data has.
-_SIZES = {b"%d" % size: 3 * size - 1 for size in range(1, 9)}
 
 
 class AscReader(Reader):
@@ -36,7 +34,7 @@ class AscReader(Reader):
             yield self.lines()
             return
         measurement, number = _Measurement(self), 1
-        frames = Frames(self, self.mapping(), codes, written_in_hex("([0-9A-Fa-f]{1,8})([xX])?"))
+        frames = TextFrames(self, codes, "s", "(?P<number>[0-7][0-9A-Fa-f]{0,2}|[0-9A-Fa-f]{1,2}|[0-9A-Fa-f]{1,8}(?=[xX]))(?P<extended>[xX])?")
         with self.opened() as file:
             for block in blocks(file):
                 self.advance(len(block))
@@ -44,7 +42,7 @@ class AscReader(Reader):
                 try:
                     if measurement.base != 16 or measurement.relative:
                         raise NeedsSlowPath
-                    yield frames.found(*_columns(lines), number)
+                    yield frames.written(*_columns(lines), number)
                 except NeedsSlowPath:
                     yield measurement.read((at, self.decoded(line, at)) for at, line in enumerate(lines, number))
                 number += len(lines)
@@ -166,15 +164,9 @@ def _columns(lines: list[bytes]) -> tuple[list[bytes], list[bytes], list[bytes],
     if set(map(len, words)) != {7}:
         raise NeedsSlowPath
     stamps, buses, identifiers, directions, marks, sizes, data = (list(column) for column in zip(*words))
-    if set(marks) != {b"d"} or not {*directions} <= {b"Rx", b"Tx"} or not set(sizes) <= _SIZES.keys() or not b"".join(buses).isdigit():
+    if {*marks} != {b"d"} or not {*directions} <= {b"Rx", b"Tx"} or not b"".join(buses).isdigit():
         raise NeedsSlowPath
-    ends = [_SIZES[size] for size in sizes]
-    found = [text[:end].replace(b" ", b"") for text, end in zip(data, ends)]
-    # As many bytes as the frame says, two digits each, and no further digit beside them.
-    if [2 * end + 2 for end in ends] != [3 * len(digits) for digits in found] or not {
-            text[end : end + 1] for text, end in zip(data, ends)} <= {b" ", b"\n", b"\r", b""}:
-        raise NeedsSlowPath
-    return stamps, buses, identifiers, found
+    return stamps, buses, identifiers, whole_data(sizes, data)
 
 
 def _sum(first: str, second: str) -> str:

@@ -33,8 +33,9 @@ Lines = Iterable[Stamped]
 _Found = TypeVar("_Found")
 #: So many names that are no events of the table are noted.
 OTHERS = 500
-#: How the files of each ending are unpacked.
+#: How the files of each ending are unpacked, and what they begin with.
 PACKED: dict[str, Callable[..., Any]] = {".gz": gzip.open, ".bz2": bz2.open, ".xz": lzma.open}
+_PACKED_BEGIN = {b"\x1f\x8b": ".gz", b"BZh": ".bz2", b"\xfd7zXZ\x00": ".xz"}
 
 
 @dataclass(frozen=True)
@@ -103,6 +104,9 @@ class Reader:
         self.buses: set[str] = set()
         #: What stands where an event of the table could, some of it.
         self.others: set[str] = set()
+        #: The columns of a sheet, and what a scheduler trace is about, some of it: what it is (nothing where that is not said) and its name.
+        self.columns: list[str] = []
+        self.targets: set[tuple[str, str]] = set()
         #: Called with the number of bytes of each line, where they are known, for a progress bar.
         self.progress: Callable[[int], object] | None = None
 
@@ -147,6 +151,11 @@ class Reader:
             self.others.add(name)
         return ()
 
+    def target(self, what: str, name: str) -> None:
+        """Notes a task, an interrupt routine or a runnable that the log has."""
+        if len(self.targets) < OTHERS:
+            self.targets.add((what, name))
+
     def placed(self, place: int) -> str:
         """A place with its file, as messages begin."""
         return f"{self.path}{self.where(place)}"
@@ -188,7 +197,7 @@ class Reader:
 
     def opened(self) -> IO[bytes]:
         """The file, unpacked if it is packed."""
-        return PACKED.get(Path(self.file).suffix.lower(), open)(self.file, "rb")  # type: ignore[no-any-return]
+        return unpacked(self.file)
 
     @property
     def wide(self) -> bool:
@@ -230,6 +239,16 @@ class Reader:
                 yield number, text
         except UnicodeError:
             raise self._undecoded(UnicodeError(), number + 1) from None
+
+
+def unpacked(file: str) -> IO[bytes]:
+    """A file, unpacked if its name ends as that of a packed one, or if it begins as one."""
+    suffix = Path(file).suffix.lower()
+    if suffix not in PACKED:
+        with open(file, "rb") as packed:
+            begin = packed.read(8)
+        suffix = next((one for first, one in _PACKED_BEGIN.items() if begin.startswith(first)), "")
+    return PACKED.get(suffix, open)(file, "rb")  # type: ignore[no-any-return]
 
 
 def ending(path: str) -> str:

@@ -7,7 +7,8 @@ from typing import Iterator
 
 from ..conditions import Edge, Sample
 from ..signals import is_coloured, colours, parts, signal
-from ..sources import ColumnSource
+from ..sources import ColumnSource, TaskSource
+from ..spelling import did_you_mean
 from ..table import CsvSource, Table
 from ..timestamps import Stamps
 from ..units import UNITS, unit_of
@@ -38,13 +39,18 @@ def named_kinds(table: Table) -> dict[str, tuple[int, ...]]:
     return kinds
 
 
+def _as_a_word(capital: re.Match[str]) -> str:
+    """A capital within a word, as in ``timeMs``, where a word of its own begins."""
+    return f"_{capital[0].lower()}"
+
+
 def unit_word(head: str) -> str | None:
     """The word of a column's head that says the unit of its times: what stands in brackets at its end, or its last word if there are several
     and that is no usual one, such as the stamp of ``time_stamp``."""
     found = _BRACKETS.fullmatch(head)
     if found is not None:
         return found[1] or None
-    words = re.split(r"[\W_]+", re.sub("(?<=[a-z])([A-Z])", lambda match: f"_{match[1].lower()}", head))
+    words = re.split(r"[\W_]+", re.sub("(?<=[a-z])[A-Z]", _as_a_word, head))
     return None if len(words) < 2 or words[-1].lower() in ("", *_NO_UNIT) else words[-1]
 
 
@@ -70,6 +76,18 @@ class Columns:
             raise self._lacks(policy.event_column or "event")
         used = [self.time, self.event, *(place for place, _, _, _ in self.samples), *((self.task, self.action) if self.tasks else ())]
         self.last = max(place for place in used if place is not None)
+        reader.columns += [cell.strip() for cell in header]
+        self._ask_for_columns()
+
+    def _ask_for_columns(self) -> None:
+        """An event of a row that can only come from columns that are not there is an error."""
+        asked = {kind for row in self.reader.table.rows for kind in row.kinds}
+        for event in self.reader.table.events if self.event is None else ():
+            columns = [source.column for source in event.sources if isinstance(source, ColumnSource)]
+            there = any(column.strip().lower() in self.names for column in columns)
+            if event.kind in asked and columns and not there and not (self.tasks and any(isinstance(one, TaskSource) for one in event.sources)):
+                hint = did_you_mean(columns[0], self.reader.columns) or f"; the columns are {', '.join(self.header)}"
+                raise self.reader.error(1, f"no column {columns[0]}, from which {event.name} would come{hint}")
 
     def _lacks(self, name: str) -> Exception:
         wanted = [source.column for event in self.reader.table.events for source in event.sources if isinstance(source, ColumnSource)]
@@ -128,6 +146,7 @@ class Columns:
         kinds = self.kinds.get(name) or self.reader.other(name)
         if self.tasks:
             name, action = cells[self.task or 0].strip(), cells[self.action or 0].strip().lower()
+            self.reader.target("", name)
             kinds += self.tasks.get((name, self.waiting.action((name,), action)), ())
         for place, edge, one, numeric in self.samples:
             sample = self._sample(cells[place].strip(), numeric, place, number)

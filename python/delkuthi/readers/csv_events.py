@@ -6,7 +6,7 @@ from itertools import chain
 from operator import itemgetter
 from typing import Iterable, Iterator
 
-from ..batches import OTHER, Batch, Codes, NeedsSlowPath, Scale, Shape, blocks
+from ..batches import OTHER, Batch, Codes, NeedsSlowPath, Scale, Shape, blocks, with_events
 from .base import Lines, Reader, Stamped, ending, lines_of
 from .python_can import PythonCanReader
 from .sheets import Columns, SheetReader
@@ -60,7 +60,7 @@ class CsvReader(SheetReader):
                 yield self.lines()
                 return
             columns = Columns(self, header, self.comma)
-            if columns.event is None or columns.samples or columns.tasks or columns.unknown_unit:
+            if columns.tasks or columns.unknown_unit:
                 yield self.lines()
                 return
             several = _Blocks(self, columns, codes)
@@ -73,7 +73,7 @@ class CsvReader(SheetReader):
                     return
                 try:
                     batch = several.batch(block, number)
-                    number += len(batch.codes)
+                    number += batch.lines
                     yield batch
                 except NeedsSlowPath:
                     lines = lines_of(block)
@@ -111,12 +111,12 @@ class _Events:
 
 
 class _Blocks:
-    """Blocks of lines that all have a plain stamp and an event."""
+    """Blocks of lines that all have a plain stamp, and an event or samples."""
 
     def __init__(self, reader: CsvReader, columns: Columns, codes: Codes):
         self.reader, self.columns = reader, columns
         self.shape = Shape(reader.delimiter.encode() * (len(columns.header) - 1) + b"\n")
-        self.events = _Events(reader, columns, codes)
+        self.events, self.codes = _Events(reader, columns, codes), codes
         if columns.unit is not None and reader.table.unit is None:
             raise reader.error(2, f"the stamps are in {columns.unit}, but the table has no unit line")
         self.scale = Scale(columns.unit, reader.table.unit)
@@ -132,4 +132,11 @@ class _Blocks:
         stamps = cells[self.columns.time :: number_of]
         if self.reader.comma:
             stamps = b"\n".join(stamps).replace(b",", b".").split(b"\n")
-        return Batch(self.scale.times(stamps), self.events.of(cells[self.columns.event or 0 :: number_of]), number)
+        times, event = self.scale.times(stamps), self.columns.event
+        found = bytes([OTHER]) * len(times) if event is None else self.events.of(cells[event::number_of])
+        samples = [(column, *column.states(cells[column.place :: number_of])) for column in self.columns.samples]
+        more: dict[int, list[int]] = {}
+        for column, places, states in samples:
+            for at in column.events(places, states):
+                more.setdefault(at, []).append(self.codes.of[column.signal])
+        return with_events(times, found, more, number)

@@ -1,15 +1,22 @@
 """Edges of formats: units that a column's head may have, frames of all lengths, damaged lines, other encodings, names that a log does not have."""
 import gzip
+import os
 import random
 
 import can
 import pytest
 
 from delkuthi import Table
+from delkuthi.command import main
 from delkuthi.logs import Log, Policy
+from delkuthi.monitor import JoinRefused, join
+from delkuthi.recording import recording_bytes
+from delkuthi.signals import signal
 
 from test_readers import EVENTS, error, read
 
+#: How many pairs of recordings are joined.
+JOINS = int(os.environ.get("JOINS", "300"))
 TABLE = Table.from_text(EVENTS)
 MS = Table.from_text("unit ms\nevent a\n")
 
@@ -138,3 +145,39 @@ def test_random_frames_in_the_fast_and_the_slow_path(tmp_path):
     steps = [(step.time, step.signal) for step in Log(path, TABLE).steps()]
     assert steps == [(time, kinds[0] if kinds else None) for time, kinds, _ in one if kinds or time]
     assert read(tmp_path / "a.asc.gz", gzip.compress(path.read_bytes())) == one
+
+
+# joining
+
+
+def test_join_is_the_library_s(tmp_path, monkeypatch, capsys):
+    """The command gives the bytes of the library's own join on the two recordings, of whichever versions, or refuses them as it does."""
+    monkeypatch.chdir(tmp_path)
+    rng, versions, refused = random.Random(7), set(), 0
+    (tmp_path / "table.txt").write_text("".join(f"event e{kind} = {kind}\n" for kind in (0, 1, 2, 3, 48, 49)))
+    for number in range(JOINS):
+        both = [random_recording(rng, kinds) for kinds in ((0, 1, 48), (2, 3, 49, *([1] if rng.random() < 0.05 else [])))]
+        for name, data in zip(("a.bin", "b.bin"), both):
+            (tmp_path / name).write_bytes(data)
+        status = main(["join", "table.txt", "a.bin", "b.bin", "-o", "out.bin"])
+        try:
+            expected = join(*both)
+        except JoinRefused as refusal:
+            refused += 1
+            assert status == 2 and f"refused with {refusal.number}" in capsys.readouterr().err
+            continue
+        assert status == 0 and (tmp_path / "out.bin").read_bytes() == expected
+        versions.add((both[0][0], both[1][0], expected[0]))
+    assert versions == {(1, 1, 1), (1, 2, 2), (2, 1, 2), (2, 2, 2)} and refused
+
+
+def random_recording(rng, kinds):
+    """A recording of some kinds, of version 2 also where it has no colours; now and then a damaged one."""
+    steps, clock, version = [], 0, rng.choice([1, 2])
+    for _ in range(rng.randint(0, 6)):
+        kind = rng.choice([None, *kinds])
+        clock += rng.randint(1, 3)
+        if kind is None or kind < 48 or version == 2:
+            steps.append((kind if kind is None or kind < 48 else signal(kind, rng.randint(0, 7)), clock))
+    data = recording_bytes(steps, version)
+    return data if rng.random() < 0.97 else data[:-1]

@@ -17,6 +17,7 @@ from typing import IO, Any, Callable, ClassVar, Iterable, Iterator, NamedTuple, 
 from ..batches import Batch, Codes
 from ..database import DatabaseError
 from ..mapping import CanMapping
+from ..scope import Scope
 from ..table import Table
 from ..units import NotWhole, in_unit, nearest_in_unit
 
@@ -53,6 +54,7 @@ class Policy:
     - ``time_column`` and the others: what the columns of a sheet are called, where they have not the usual names.
     - ``encoding``: how the characters of a text log are written.
     - ``format``: the ending that says what the log is, where its own name does not.
+    - ``scope``: which part of the log is taken, and whether its beginning and its end are cut or closed.
     """
 
     equal: str = "refuse"
@@ -68,6 +70,7 @@ class Policy:
     action_column: str | None = None
     encoding: str = "utf-8"
     format: str | None = None
+    scope: Scope = Scope()
 
 
 class LogError(Exception):

@@ -79,7 +79,7 @@ class Columns:
 
     def _ask_for_columns(self) -> None:
         """An event of a row that can only come from columns that are not there is an error."""
-        asked = {kind for row in self.reader.table.rows for kind in row.kinds}
+        asked = {kind for row in self.reader.table.rows for kind in (*row.kinds, *(row.window or ()))}
         for event in self.reader.table.events if self.event is None else ():
             columns = [source.column for source in event.sources if isinstance(source, ColumnSource)]
             there = any(column.strip().lower() in self.names for column in columns)

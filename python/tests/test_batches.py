@@ -226,7 +226,7 @@ OTHERS = {"samples.csv": (SAMPLES, as_samples), "tasks.btf": (TASKS, as_btf), "s
 def outcome_of(table, path, policy):
     """All that a check says; of an error the text alone."""
     found = check(table, str(path), policy, measured=True)
-    return found.error or replace(found)
+    return found.error or replace(found, started="", seconds=0.0)
 
 
 def steps_of(table, path, policy):

@@ -1,20 +1,25 @@
 """CSV and TSV."""
 from __future__ import annotations
 
+import base64
 import csv
+import re
+from decimal import Decimal
 from itertools import chain
 from operator import itemgetter
 from typing import Iterable, Iterator
 
 from ..batches import OTHER, Batch, Codes, NeedsSlowPath, Scale, Shape, blocks, with_events
 from .base import Lines, Reader, Stamped, ending, lines_of
-from .python_can import PythonCanReader
 from .sheets import Columns, SheetReader
+
+#: A stamp as Python writes a floating-point number, and an identifier.
+_STAMP, _IDENTIFIER = re.compile(r"[0-9]{1,40}(?:\.[0-9]{0,40})?(?:e[+-]?[0-9]{1,2})?"), re.compile("(?:0x)?[0-9A-Fa-f]{1,8}")
 
 
 class CsvReader(SheetReader):
-    """Columns by name, between commas, semicolons or tabs; with semicolons a comma is the point of a number. A file of python-can's own
-    columns is read by python-can."""
+    """Columns by name, between commas, semicolons or tabs; with semicolons a comma is the point of a number. A file with python-can's own
+    columns has frames."""
 
     endings = (".csv", ".tsv")
     delimiter = ","
@@ -46,12 +51,21 @@ class CsvReader(SheetReader):
             yield number, cells
 
     def _frames(self) -> Iterator[Stamped]:
-        """A file of python-can, whose first frame is in the second line."""
-        frames = PythonCanReader(self.path, self.table, self.policy)
-        frames.buses, frames.progress, frames.state, frames.file = self.buses, self.progress, self.state, self.file
-        for time, kinds, place in frames.lines():
-            yield Stamped(time, kinds, place + 1)
-            self.rounded = frames.rounded
+        """The frames of a file of python-can: timestamp, arbitration_id, extended, remote, error, dlc, and data in base 64."""
+        mapping, rows = self.mapping(), self.rows()
+        next(rows)
+        for number, cells in rows:
+            if not cells:
+                self.skipped += 1
+                continue
+            if len(cells) < 7 or not _STAMP.fullmatch(cells[0]) or not _IDENTIFIER.fullmatch(cells[1]):
+                raise self.error(number, "expected a frame of python-can, such as 0.0205,0x1a0,0,0,0,1,AQ==")
+            try:
+                data = base64.b64decode(cells[6], validate=True)
+            except ValueError:
+                raise self.error(number, f"expected data in base 64, found {cells[6]}") from None
+            kinds = () if "1" in cells[3:5] else mapping.kinds(int(cells[1], 16), cells[2] == "1", "", data)
+            yield Stamped(self.time(f"{Decimal(cells[0]):f}", "s", number), kinds, number)
 
     def batches(self, codes: Codes) -> Iterator[Batch | Lines]:
         with self.opened() as file:

@@ -9,9 +9,9 @@ import pytest
 
 from delkuthi import Table
 from delkuthi.check import check
-from delkuthi.command import pictured
-from delkuthi.html_page import as_html
+from delkuthi.html_page import as_html, pictured
 from delkuthi.logs import Policy
+from delkuthi.provenance import provenance
 
 from conftest import EXAMPLES
 

@@ -34,9 +34,9 @@ def test_what_the_drives_picture_shows():
     signals = sorted(signal(event.kind, source.colour) for event in table.events for source in event.sources)
     assert [name for name, _ in picture.lanes] == [table.event_name(number) for number in signals]
     assert sum(len(times) for _, times in picture.lanes) == outcome.counts.events
-    marks = [(row.time, f"{row.name} broken") for row in sorted(outcome.broken, key=lambda row: row.step)]
+    marks = [(row.time, row.number, f"{row.name} broken") for row in sorted(outcome.broken, key=lambda row: row.step)]
     ahead = table.jitter
-    assert picture.marks == [(time + ahead, text) for time, text in marks] and (118300, "steering reply broken") in marks
+    assert picture.marks == [(time + ahead, row, text) for time, row, text in marks] and (118300, 1, "steering reply broken") in marks
     red = [(shade.row, shade.begin - ahead, shade.end - ahead) for shade in picture.shades if shade.broken]
     assert {(1, 96100, 115100), (7, 70100, 220100)} <= set(red) and {row for row, _, _ in red} == {row.number for row in outcome.broken}
 
@@ -75,7 +75,7 @@ def test_a_long_log_is_shown_around_the_first_break(tmp_path):
     picture, outcome = pictured(table, path)
     assert outcome.broken[0].time == 40005
     assert (picture.begin, picture.end) == (times[3700], times[4100])
-    assert picture.marks == [(40005, "row 0 broken")]
+    assert picture.marks == [(40005, 0, "row 0 broken")]
     assert picture.caption == "An excerpt: steps 3,701 to 4,101 of 9,000, around the first that broke a row"
     assert picture.caption in svg(picture)
     assert picture.axis()[0][0] == (37000, "37000") and picture.axis()[1] == "ms"

@@ -3,7 +3,7 @@ from __future__ import annotations
 
 from collections import Counter, deque
 from contextlib import AbstractContextManager, nullcontext
-from dataclasses import asdict, dataclass, field
+from dataclasses import asdict, dataclass, field, replace
 from itertools import islice
 from operator import itemgetter
 from typing import Callable, Iterable, Iterator, Sequence
@@ -20,6 +20,7 @@ from .monitors import Monitors, Recorder, monitor_of
 from .reasons import Case, Kind, Reason
 from .rowtypes import judged
 from .table import Row, Table
+from .violations import Violations
 
 #: What watches a log while it is read.
 Progress = Callable[[Log], AbstractContextManager[None]]
@@ -53,8 +54,15 @@ class RowOutcome:
     #: The events that the reason is about: their signals and stamps.
     about: list[tuple[int, int]] = field(default_factory=list)
     message: str | None = None
-    #: What it measured, where that was asked for.
+    #: What it measured, and how many instances are outside or missing, where that was asked for.
     measured: Described | None = None
+    violations: int | None = None
+    #: In a log that was cut: how much had not come yet and was not due yet at its end, and how many instances that began before it
+    #: were left out.
+    not_yet_due: int = 0
+    left_out: int = 0
+    #: Of a row with a ``while`` window in how many stretches of the log it was judged.
+    stretches: int | None = None
 
 
 @dataclass
@@ -77,6 +85,13 @@ class Outcome:
     page: str | None = None
     #: The file, or the files, that the log is in.
     files: str | tuple[str, ...] = ""
+    #: Which part of the log was checked, and how its beginning and its end were taken, in words.
+    scope: str = ""
+    #: Every instance that is outside or missing, where that was asked for.
+    violations: Violations | None = None
+    #: When the check began (ISO 8601, universal time), and how many seconds it took.
+    started: str = ""
+    seconds: float = 0.0
 
     @property
     def broken(self) -> list[RowOutcome]:
@@ -107,7 +122,8 @@ class Outcome:
 
     def as_dict(self) -> dict[str, object]:
         """For JSON: the fields by their names, times as the log's stamps."""
-        found = {name: value for name, value in asdict(self).items() if name not in ("counts", "time_format", "exercised", "files")}
+        hidden = ("counts", "time_format", "exercised", "files", "violations", "started", "seconds")
+        found = {name: value for name, value in asdict(replace(self, violations=None)).items() if name not in hidden}
         return {**found, **asdict(self.counts), "offset": self.time_format.shift, "status": self.status}
 
 

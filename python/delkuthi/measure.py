@@ -1,7 +1,7 @@
 """What each row measures, beside what it asks: latencies, distances, widths, running times, and how near they come to a limit.
 
-The steps are read once, and what is kept of them does not grow with the log. The library alone says whether a row is kept; what
-stands here is tested against it: a row that it breaks has an instance outside its limits or a missing one, a kept row has none.
+The steps are read once, and the memory that is needed does not grow with the log. The library alone says whether a row is kept; the
+measures are tested against it: a row that it breaks has an instance outside its limits or a missing one, a kept row has none.
 Once something is missing, the count of instances begins anew behind it, so that one lost answer does not put all later ones out.
 """
 from __future__ import annotations
@@ -9,14 +9,14 @@ from __future__ import annotations
 from collections import deque
 from dataclasses import dataclass, field
 from fractions import Fraction
-from typing import TYPE_CHECKING, Any, Callable, Iterable, Iterator, TypeVar
+from typing import TYPE_CHECKING, Any, Callable, Iterable, Iterator, NamedTuple, TypeVar
 
 from .library import NO_LIMIT
 
 if TYPE_CHECKING:
     from .table import Row, Table
 
-#: How many sources or groups are kept while they wait; of more than these the oldest counts as missing.
+#: How many groups, or events of a Synchronization, wait at a time; of more than these the oldest counts as missing.
 WAITING = 4096
 #: How many bins of a histogram may have something in them.
 BINS = 64
@@ -69,6 +69,34 @@ class Instance:
     margin: int | None
 
 
+#: The time and the place of an event.
+Moment = tuple[int, int]
+
+
+class Finding(NamedTuple):
+    """An instance that is not as asked.
+
+    ``violation`` is ``outside`` for one with a value that is not as asked, or ``missing``, and ``what`` says in a few words what is
+    wrong. ``begin`` and ``end`` are the events that the instance begins and ends with, where there are such. ``by`` is how far the
+    value is outside; of a missing one how long it was overdue when it was given up. ``due`` is the last time at which it could come.
+    """
+
+    violation: str
+    what: str
+    value: int | None = None
+    by: int | None = None
+    begin: Moment | None = None
+    end: Moment | None = None
+    due: int | None = None
+
+    @property
+    def moment(self) -> Moment:
+        """The time and the place of the event that is blamed."""
+        found = self.end or self.begin
+        assert found is not None
+        return found
+
+
 @dataclass
 class Measure:
     """What a row measures.
@@ -89,8 +117,10 @@ class Measure:
     greatest: int | None = None
     total: int = 0
     worst: Instance | None = None
-    missed: tuple[int, int] | None = None
+    missed: Moment | None = None
     histogram: Histogram = field(default_factory=Histogram)
+    #: Called with each instance that is not as asked.
+    note: Callable[[Finding], None] | None = None
 
     @property
     def mean(self) -> Fraction | None:
@@ -102,14 +132,24 @@ class Measure:
         """The least margin of all values."""
         return None if self.worst is None else self.worst.margin
 
-    def add(self, value: int, time: int, place: int, margin: int | None) -> None:
-        """One instance with a value; it is outside where its margin is negative."""
-        outside = margin is not None and margin < 0
+    def add(self, value: int, time: int, place: int, margin: int | None, begin: Moment | None = None, what: str | None = None) -> None:
+        """One instance with a value, which ends at this time and place; it is outside where its margin is negative."""
         self.judged += 1
-        self.value(value, outside)
-        self.outside += outside
+        self.value(value, margin is not None and margin < 0)
+        self.compare(value, time, place, margin, begin, what)
+
+    def compare(self, value: int, time: int, place: int, margin: int | None, begin: Moment | None, what: str | None = None) -> None:
+        """Is the value of an instance outside, or the worst so far?"""
+        if margin is not None and margin < 0:
+            self.outside += 1
+            if self.note is not None:
+                self.note(Finding("outside", what or self._side(value), value, -margin, begin, (time, place)))
         if self.worst is None or margin is not None and (self.worst.margin is None or margin < self.worst.margin):
             self.worst = Instance(value, time, place, margin)
+
+    def _side(self, value: int) -> str:
+        """On which side of its limits a value is."""
+        return f"{self.quantity} too {'short' if self.lower is not None and value < self.lower else 'long'}"
 
     def value(self, value: int, outside: bool) -> None:
         """A value for the statistics."""
@@ -119,12 +159,19 @@ class Measure:
         self.greatest = value if self.greatest is None else max(self.greatest, value)
         self.histogram.add(value, outside)
 
-    def miss(self, time: int, place: int) -> None:
-        """One instance that has no partner, or is out of order, by the event at this time and place."""
+    def miss(self, moment: Moment, what: str, due: int | None = None, now: int | None = None) -> None:
+        """One instance that has no partner, or is out of order, by the event of this moment; ``now`` is when that is certain."""
         self.judged += 1
         self.missing += 1
         if self.missed is None:
-            self.missed = (time, place)
+            self.missed = moment
+        if self.note is not None:
+            self.note(Finding("missing", what, None, _overdue(due, now), moment, None, due))
+
+
+def _overdue(due: int | None, now: int | None) -> int | None:
+    """How long something was overdue, if it was."""
+    return None if due is None or now is None or now <= due else now - due
 
 
 def margin_of(value: int, lower: int, upper: int | None) -> int | None:
@@ -170,7 +217,7 @@ class HiddenPoints(RowMeasuring):
     def __init__(self, row: Row):
         super().__init__(row)
         self.jitter: int = self.values["jitter"]
-        self.before: deque[int] = deque(maxlen=self.values.get("span", 1))
+        self.before: deque[Moment] = deque(maxlen=self.values.get("span", 1))
         self.points: deque[tuple[int, int]] = deque()
 
     def limits(self) -> tuple[int | None, int | None]:
@@ -183,17 +230,22 @@ class HiddenPoints(RowMeasuring):
     def take(self, time: int, place: int) -> None:
         whole = len(self.before) == self.before.maxlen
         margin = self.margin(time)
+        wrong = margin is not None and margin < 0
         if whole:
-            self.measure.add(time - self.before[0], time, place, margin)
-        self.before.append(time)
-        if margin is not None and margin < 0:
+            begin = self.before[0]
+            self.measure.add(time - begin[0], time, place, margin, begin, self.wrong(time) if wrong else None)
+        if wrong:
             self.points.clear()
             self.before.clear()
-            self.before.append(time)
+        self.before.append((time, place))
         self.step(time)
 
     def margin(self, time: int) -> int | None:
         """How far an event at this time is from the ends of the stretch in which it can come."""
+        raise NotImplementedError
+
+    def wrong(self, time: int) -> str:
+        """What is wrong with an event at this time."""
         raise NotImplementedError
 
     def step(self, time: int) -> None:

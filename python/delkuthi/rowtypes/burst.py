@@ -4,7 +4,7 @@ from __future__ import annotations
 from typing import TYPE_CHECKING, Iterator
 
 from ..fields import RowType
-from ..measure import Instance, margin_of
+from ..measure import margin_of
 from ..reasons import Blamed, Case, Reason, Times, Window, gap, plain
 from .repeat import Spans
 
@@ -49,24 +49,22 @@ class Bursts(Spans):
     def take(self, time: int, place: int) -> None:
         if self.last:
             gap, minimum, sides = time - self.last[-1][0], self.values["minimum"], []
+            close = "gap shorter than minimum" if gap < minimum else None
             if minimum:
                 sides.append(gap - minimum)
             if len(self.last) == self.span:
                 value = time - self.last[0][0]
                 side = margin_of(value, self.values["length"], None)
                 sides += [] if side is None else [side]
-                self.measure.add(value, time, place, min(sides, default=None))
+                many = "more than maximum within length" if value < self.values["length"] else None
+                begin = self.last[-1] if close and not many else self.last[0]
+                self.measure.add(value, time, place, min(sides, default=None), begin, many or close)
             else:
-                self._gap(gap, time, place, min(sides, default=None))
+                # Before the first whole span an event is judged by its gap alone, which is no distance over the span.
+                self.measure.judged += 1
+                if close:
+                    self.measure.compare(gap, time, place, gap - minimum, self.last[-1], close)
         self.last.append((time, place))
-
-    def _gap(self, gap: int, time: int, place: int, margin: int | None) -> None:
-        """An event before the first whole span is judged by its gap alone; what it measures is no distance over the span."""
-        self.measure.judged += 1
-        if margin is not None and margin < 0:
-            self.measure.outside += 1
-            if self.measure.worst is None or self.measure.worst.margin is None or margin < self.measure.worst.margin:
-                self.measure.worst = Instance(gap, time, place, margin)
 
 
 TYPE = RowType(

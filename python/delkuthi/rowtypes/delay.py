@@ -2,12 +2,12 @@
 from __future__ import annotations
 
 from bisect import bisect_left
-from collections import deque
 from typing import TYPE_CHECKING, Iterator
 
 from ..fields import RowType
+from ..fifo import Fifo
 from ..library import NO_LIMIT
-from ..measure import WAITING, RowMeasuring, Taker, margin_of
+from ..measure import Moment, RowMeasuring, Taker, margin_of
 from ..reasons import Blamed, Case, Reason, Times, Window, unanswered, until
 
 if TYPE_CHECKING:
@@ -41,34 +41,39 @@ class Delays(RowMeasuring):
     def __init__(self, row: Row):
         super().__init__(row)
         self.lower, self.upper = self.values["lower"], self.values["upper"]
-        self.waiting: deque[tuple[int, int]] = deque()
+        self.waiting = Fifo()
         #: The last target, which answers a source that is given after it at the same time.
-        self.target = -1, 0
+        self.target: Moment = (-1, 0)
 
     def takers(self) -> dict[int, Taker]:
         return {self.values["source"]: self.take_source, self.values["target"]: self.take_target}
 
     def take_source(self, time: int, place: int) -> None:
         if self.lower == 0 and self.target[0] == time:
-            self.measure.add(0, time, self.target[1], margin_of(0, 0, self.upper))
+            self.measure.add(0, time, self.target[1], margin_of(0, 0, self.upper), (time, place))
             return
         # Of a source whose time is over when the next one comes no later target is the answer.
-        while self.waiting and self._over(time) or len(self.waiting) >= WAITING:
-            self.measure.miss(*self.waiting.popleft())
-        self.waiting.append((time, place))
+        while self._over(time):
+            self._miss(time)
+        self.waiting.append(time, place)
 
     def _over(self, time: int) -> bool:
-        return self.upper is not None and time > self.waiting[0][0] + self.upper
+        return self.upper is not None and len(self.waiting) > 0 and time > self.waiting.first[0] + self.upper
+
+    def _miss(self, now: int) -> None:
+        source = self.waiting.pop()
+        self.measure.miss(source, "no target came for it", None if self.upper is None else source[0] + self.upper, now)
 
     def take_target(self, time: int, place: int) -> None:
         self.target = time, place
-        while self.waiting and self.waiting[0][0] + self.lower <= time:
-            value = time - self.waiting.popleft()[0]
-            self.measure.add(value, time, place, margin_of(value, self.lower, self.upper))
+        while self.waiting and self.waiting.first[0] + self.lower <= time:
+            source = self.waiting.pop()
+            value = time - source[0]
+            self.measure.add(value, time, place, margin_of(value, self.lower, self.upper), source)
 
     def end(self, clock: int, closed: bool) -> None:
         while self.waiting and (closed or self._over(clock)):
-            self.measure.miss(*self.waiting.popleft())
+            self._miss(clock)
 
 
 TYPE = RowType(

@@ -126,8 +126,10 @@ class Executions(RowMeasuring):
         act = getattr(self, name)
 
         def take(time: int, place: int) -> None:
-            if time == self.last or not self.fits(name):
-                self.measure.miss(time, place)
+            if time == self.last:
+                self.measure.miss((time, place), "shares its time with another event of the row")
+            elif not self.fits(name):
+                self.measure.miss((time, place), f"{name} may not come here")
             act(time, place)
             self.last = time
 
@@ -153,7 +155,7 @@ class Executions(RowMeasuring):
     def stop(self, time: int, place: int) -> None:
         if self.since is not None:
             value = self.ran + time - self.since
-            self.measure.add(value, time, place, margin_of(value, self.lower or 0, self.upper))
+            self.measure.add(value, time, place, margin_of(value, self.lower or 0, self.upper), self.begun)
         self.begun, self.since = None, None
 
     def end(self, clock: int, closed: bool) -> None:
@@ -161,7 +163,8 @@ class Executions(RowMeasuring):
             return
         soonest = self.ran + (1 if self.since is None else max(clock - self.since, 1))
         if closed or soonest > self.upper:
-            self.measure.miss(*self.begun)
+            due = None if self.since is None else self.since + self.upper - self.ran
+            self.measure.miss(self.begun, "its run did not end", due, clock)
 
 
 TYPE = RowType(

@@ -54,12 +54,13 @@ class Spans(RowMeasuring):
     def take(self, time: int, place: int) -> None:
         if len(self.last) == self.span:
             value = time - self.last[0][0]
-            self.measure.add(value, time, place, margin_of(value, self.lower or 0, self.upper))
+            self.measure.add(value, time, place, margin_of(value, self.lower or 0, self.upper), self.last[0])
         self.last.append((time, place))
 
     def end(self, clock: int, closed: bool) -> None:
         if self.upper is not None and self.last and clock > self.last[0][0] + self.upper:
-            self.measure.miss(*self.last[0])
+            missing = "no event came after it" if self.span == 1 else f"fewer than {self.span} events came after it"
+            self.measure.miss(self.last[0], missing, self.last[0][0] + self.upper, clock)
 
 
 TYPE = RowType(

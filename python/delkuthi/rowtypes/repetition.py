@@ -70,6 +70,12 @@ class Repetitions(HiddenPoints):
         sides = [time - begin] if self.lower or time < begin else []
         return min([*sides, end + self.jitter - time, *([end - begin] if begin > end else [])])
 
+    def wrong(self, time: int) -> str:
+        first, last = self.points[0]
+        if self.upper < self.span or first + self.lower > last + self.upper:
+            return "no moment is left for it"
+        return f"came too {'early' if time < first + self.lower else 'late'} for the events before it"
+
     def step(self, time: int) -> None:
         kept = len(self.points)
         first, last = self.points[0] if self.points else (0, time)

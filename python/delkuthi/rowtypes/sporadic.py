@@ -76,13 +76,20 @@ class Gaps(HiddenPoints):
         if not self.points:
             return None
         first, last = self.points[0]
-        begin, gap = first + self.apart, time - self.before[-1]
+        begin, gap = first + self.apart, time - self.before[-1][0]
         sides = [time - begin] if self.values["lower"] or time < begin else []
         if self.minimum:
             sides.append(gap - self.minimum)
         if self.upper is not None:
             sides += [last + self.upper + self.jitter - time, *([self.upper - self.apart] if self.upper < self.apart else [])]
         return min(sides, default=None)
+
+    def wrong(self, time: int) -> str:
+        if time - self.before[-1][0] < self.minimum:
+            return "gap shorter than minimum"
+        if self.upper is not None and self.upper < self.apart:
+            return "no moment is left for it"
+        return f"came too {'early' if time < self.points[0][0] + self.apart else 'late'} for the events before it"
 
     def step(self, time: int) -> None:
         if not self.points:
@@ -93,14 +100,10 @@ class Gaps(HiddenPoints):
         self.points.append((max(first + self.apart, time - self.jitter), later))
 
     def end(self, clock: int, closed: bool) -> None:
-        if self.upper is not None and self.points and clock > self.points[0][1] + self.upper + self.jitter:
-            self.measure.miss(self.before[-1], self.place)
-
-    place = 0
-
-    def take(self, time: int, place: int) -> None:
-        super().take(time, place)
-        self.place = place
+        if self.upper is not None and self.points:
+            due = self.points[0][1] + self.upper + self.jitter
+            if clock > due:
+                self.measure.miss(self.before[-1], "no event came after it", due, clock)
 
 
 TYPE = RowType(

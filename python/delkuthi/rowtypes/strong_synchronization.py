@@ -72,21 +72,25 @@ class Groups(RowMeasuring):
         return lambda time, place: self.take(kind, time, place)
 
     def take(self, kind: int, time: int, place: int) -> None:
-        for begin, _, seen in self.waiting:
+        for begin, first, seen in self.waiting:
             if kind not in seen:
                 seen.add(kind)
                 if len(seen) == len(self.kinds):
                     self.waiting.popleft()
-                    self.measure.add(time - begin, time, place, self.tolerance - (time - begin))
+                    self.measure.add(time - begin, time, place, self.tolerance - (time - begin), (begin, first))
                 return
         while self.waiting and time > self.waiting[0][0] + self.tolerance or len(self.waiting) >= WAITING:
-            self.measure.miss(*self.waiting.popleft()[:2])
+            self._miss(*self.waiting.popleft(), time)
         self.waiting.append((time, place, {kind}))
 
+    def _miss(self, begin: int, place: int, seen: set[int], now: int) -> None:
+        lacking = len(self.kinds) - len(seen)
+        self.measure.miss((begin, place), f"{lacking} of its {len(self.kinds)} events did not come", begin + self.tolerance, now)
+
     def end(self, clock: int, closed: bool) -> None:
-        for begin, place, _ in self.waiting:
+        for begin, place, seen in self.waiting:
             if closed or clock > begin + self.tolerance:
-                self.measure.miss(begin, place)
+                self._miss(begin, place, seen, clock)
 
 
 TYPE = RowType(

@@ -102,7 +102,7 @@ class Widths(RowMeasuring):
         self._settle(time)
         self.last[kind] = time
         if len(self.open) >= WAITING:
-            self._close(*self.open.popleft())
+            self._close(*self.open.popleft(), time)
         self.open.append((time, place, None))
         begin = min(self.last.values()) if len(self.last) == len(self.kinds) else None
         if begin is not None and time - begin <= self.tolerance:
@@ -115,18 +115,18 @@ class Widths(RowMeasuring):
     def _settle(self, time: int) -> None:
         """No stretch that ends at this time or later is shorter than what the oldest events have, or is short enough for them."""
         while self.open and time - self.open[0][0] >= (self.tolerance + 1 if self.open[0][2] is None else self.open[0][2]):
-            self._close(*self.open.popleft())
+            self._close(*self.open.popleft(), time)
 
-    def _close(self, time: int, place: int, width: int | None) -> None:
+    def _close(self, time: int, place: int, width: int | None, now: int) -> None:
         if width is None:
-            self.measure.miss(time, place)
+            self.measure.miss((time, place), "no stretch of tolerance around it has every kind", time + self.tolerance, now)
         else:
             self.measure.add(width, time, place, self.tolerance - width)
 
     def end(self, clock: int, closed: bool) -> None:
         for time, place, width in self.open:
             if width is not None or closed or clock > time + self.tolerance:
-                self._close(time, place, width)
+                self._close(time, place, width, clock)
 
 
 TYPE = RowType(

@@ -25,13 +25,14 @@ from .template import Markup, file_text, fill, joined
 from .text import row_text
 from .timeline import Scene, Strip, close_up, gather, overview, strip
 from .units import UNITS, decimal, shown
+from .violations import Violation
 
 #: Of so many rows the stretches are shown together; of more those of one row, as the reader chooses.
 TOGETHER = 6
 #: The close-ups of so many broken rows are open.
 OPEN = 8
-#: So many warnings are shown; more are folded.
-WARNINGS = 4
+#: So many warnings are shown; more are folded. So many violations of a row are shown; more are folded, and at most so many listed.
+WARNINGS, VIOLATIONS, LISTED = 4, 8, 2000
 #: The states of a row, the worst first, and what each is called.
 STATES = {"broken": "broken", "idle": "never exercised", "open": "open", "kept": "kept"}
 
@@ -46,6 +47,7 @@ class Pictured:
     picture: Scene | None = None
     close_ups: dict[int, Scene] = field(default_factory=dict)
     lines: dict[int, list[RawLine]] = field(default_factory=dict)
+    violations: dict[int, list[Violation]] = field(default_factory=dict)
 
 
 def pictured(table: Table, policy: Policy, outcome: Outcome) -> Pictured:
@@ -56,7 +58,16 @@ def pictured(table: Table, policy: Policy, outcome: Outcome) -> Pictured:
     gathered = gather(table, log.steps(), outcome)
     close_ups = {row.number: close_up(table, gathered, outcome, row) for row in outcome.broken}
     whole = None if gathered.whole else strip(table, gathered, outcome)
-    return Pictured(outcome, whole, overview(table, gathered, outcome), close_ups, raw_lines(log, gathered, outcome))
+    return Pictured(outcome, whole, overview(table, gathered, outcome), close_ups, raw_lines(log, gathered, outcome), _by_row(outcome))
+
+
+def _by_row(outcome: Outcome) -> dict[int, list[Violation]]:
+    """The violations of each row, as many as a page lists."""
+    found: dict[int, list[Violation]] = {}
+    for one in outcome.violations or ():
+        if len(found.setdefault(one.row, [])) < LISTED:
+            found[one.row].append(one)
+    return found
 
 
 def as_html(table: Table, table_name: str, logs: Sequence[Pictured], made: Provenance) -> str:
@@ -142,7 +153,7 @@ def _log(table: Table, number: int, log: Pictured, several: bool) -> Markup:
     if outcome.error is not None:
         error = fill("error", text=outcome.error)
         return fill("log", number=number, heading=heading, read="", warnings=error, rows="", pictures="")
-    return fill("log", number=number, heading=heading, read=fill("read", text=_read(outcome)), warnings=_warnings(outcome),
+    return fill("log", number=number, heading=heading, read=_read(outcome), warnings=_warnings(outcome),
                 rows=_rows(table, number, log), pictures=_pictures(number, log))
 
 
@@ -151,14 +162,15 @@ def _plain(text: str) -> str:
     return re.sub(r"(?<=\d),(?=\d{3})", "", text)
 
 
-def _read(outcome: Outcome) -> str:
-    """What was read of the log, and up to when."""
+def _read(outcome: Outcome) -> Markup:
+    """Which part of the log was checked, what was read of it, and up to when."""
     unit, time_format = outcome.time_format.unit, outcome.time_format
     end = shown(outcome.clock, unit)
     if time_format.long:
         end += f", {time_format.since(outcome.clock + time_format.shift)[1:]} after its start at {shown(time_format.stamp(time_format.start), unit)}"
     closed = "closed at its end" if outcome.closed else "left open at its end"
-    return _plain(", ".join([*notes(outcome, False), f"{outcome.steps} steps up to {end}", closed]))
+    read = fill("read", text=_plain(", ".join([*notes(outcome, False), f"{outcome.steps} steps up to {end}", closed])))
+    return joined([fill("scope", text=outcome.scope), read]) if outcome.scope else read
 
 
 def _warnings(outcome: Outcome) -> Markup:
@@ -186,9 +198,11 @@ def _row(table: Table, number: int, log: Pictured, row: RowOutcome, order: int, 
     if row.verdict == "broken":
         at = log.outcome.time_format.at((row.time or 0) + log.outcome.time_format.shift)
         place = "at the end" if row.by_close else f"at {at}, {log.outcome.word} {row.place}"
-        verdict, evidence = fill("verdict_broken", where=place), _evidence(number, log, row, order, 12 if measured else 4)
+        verdict, evidence = fill("verdict_broken", where=place), _evidence(table, log, row, order, 12 if measured else 4)
     else:
         verdict, evidence = fill("verdict_other", word=row.verdict), Markup()
+    more = [(row.not_yet_due, "not yet due"), (row.left_out, "left out at the beginning"), (row.stretches or 0, "windows")]
+    verdict = joined([verdict, *(fill("verdict_more", text=f"{count} {word}") for count, word in more if count)])
     figures = "" if not measured else fill("not_measured") if row.measured is None else _measured(row.measured, table)
     return fill("row", number=number, row=row.number, state=state_of(row), name=row.name, asks=row_text(table, table.rows[row.number]),
                 verdict=verdict, order=order, judged=row.instances, measured=figures, evidence=evidence)
@@ -224,12 +238,29 @@ def mean_text(mean: float | None, size: int) -> str:
     return text.rstrip("0").rstrip(".") if "." in text else text
 
 
-def _evidence(number: int, log: Pictured, row: RowOutcome, order: int, columns: int) -> Markup:
-    """Why a row is broken: the reason, a close-up, and the lines of the log."""
+def _evidence(table: Table, log: Pictured, row: RowOutcome, order: int, columns: int) -> Markup:
+    """Why a row is broken: the reason, a close-up, the lines of the log, and every violation."""
     picture = log.close_ups.get(row.number)
     drawn = "" if picture is None else fill("picture", drawing=Markup(svg(picture, style=False)))
     return fill("evidence", columns=columns, reason=row.reason or "", open=Markup(" open") if order < OPEN else "", picture=drawn,
-                lines=_raw_lines(log.lines.get(row.number, [])), violations="")
+                lines=_raw_lines(log.lines.get(row.number, [])),
+                violations=_violations(table, log.violations.get(row.number, []), row.violations or 0))
+
+
+def _violations(table: Table, found: list[Violation], count: int) -> Markup:
+    """Each instance of a row that is outside or missing; many are folded."""
+    if not found:
+        return Markup()
+    size = _size(table)
+
+    def time(value: int | None) -> str:
+        return "" if value is None else decimal(value, size)
+
+    lines = [fill("violation", number=number, what=one.what, where=one.end_where or one.begin_where or "", begin=time(one.begin), end=time(one.end),
+                  value=time(one.value), by=time(one.by), due=time(one.due)) for number, one in enumerate(found, 1)]
+    more = fill("violations_more", count=count - len(found)) if count > len(found) else Markup()
+    return fill("violations", count=_plain(number_of(count, "violation")), unit=_unit(table), lines=lines, more=more,
+                open=Markup(" open") if count <= VIOLATIONS else "")
 
 
 _ROLES = {"broke": "broke the row", "about": "named in the reason", "": ""}

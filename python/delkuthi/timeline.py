@@ -152,7 +152,7 @@ def overview(table: Table, gathered: Gathered, outcome: Outcome) -> Scene:
     picture = _scene(table, gathered, outcome, list(range(len(table.rows))), outcome.log, (gathered.begin, gathered.end))
     if not gathered.whole:
         hidden = len(outcome.broken) - len(picture.marks)
-        picture.caption = f"An excerpt: steps {gathered.first:,} to {gathered.last:,} of {gathered.steps:,}" + (
+        picture.caption = f"An excerpt: steps {gathered.first} to {gathered.last} of {gathered.steps}" + (
             ", around the first that broke a row" if outcome.broken else "") + (
             f"; {hidden} of the {len(outcome.broken)} breaks are outside it" if hidden else "")
     return picture

@@ -76,7 +76,7 @@ def test_a_long_log_is_shown_around_the_first_break(tmp_path):
     assert outcome.broken[0].time == 40005
     assert (picture.begin, picture.end) == (times[3700], times[4100])
     assert picture.marks == [(40005, 0, "row 0 broken")]
-    assert picture.caption == "An excerpt: steps 3,701 to 4,101 of 9,000, around the first that broke a row"
+    assert picture.caption == "An excerpt: steps 3701 to 4101 of 9000, around the first that broke a row"
     assert picture.caption in svg(picture)
     assert picture.axis()[0][0] == (37000, "37000") and picture.axis()[1] == "ms"
 

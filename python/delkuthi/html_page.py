@@ -196,9 +196,10 @@ def _rows(table: Table, number: int, log: Pictured) -> Markup:
 def _row(table: Table, number: int, log: Pictured, row: RowOutcome, order: int, measured: bool) -> Markup:
     """A row of the table, and beside a broken one why it is."""
     if row.verdict == "broken":
-        at = log.outcome.time_format.at((row.time or 0) + log.outcome.time_format.shift)
-        place = "at the end" if row.by_close else f"at {at}, {log.outcome.word} {row.place}"
-        verdict, evidence = fill("verdict_broken", where=place), _evidence(table, log, row, order, 12 if measured else 4)
+        time_format, time = log.outcome.time_format, row.time or 0
+        at = "the end" if row.by_close else time_format.since(time + time_format.shift) or shown(time, table.unit)
+        place = "" if row.by_close else f"{log.outcome.word} {row.place}"
+        verdict, evidence = fill("verdict_broken", when=f"at {at}", where=place), _evidence(table, log, row, order, 12 if measured else 4)
     else:
         verdict, evidence = fill("verdict_other", word=row.verdict), Markup()
     more = [(row.not_yet_due, "not yet due"), (row.left_out, "left out at the beginning"), (row.stretches or 0, "windows")]

@@ -3,16 +3,20 @@ from __future__ import annotations
 
 from html import escape
 from itertools import groupby
+from typing import NamedTuple
 
 from .timeline import BINS, BROKEN, COLOURS, Mark, Scene, Shade, Strip, View
 
-_WIDTH, _LANE, _LETTER = 1000, 26, 6.4
-#: Right of the lanes there is so much room; an overview has the number of events there.
-_RIGHT, _RIGHT_OF_STRIP, _STRIP_LANE = 20, 80, 17
+_WIDTH, _LANE, _LETTER, _BOLD = 1000, 26, 6.4, 7.7
+#: Lanes begin so long before the first time and end so long after the last, so that rings are whole. Right of them there is so much
+#: room; an overview has the number of events there.
+_PAD, _RIGHT, _RIGHT_OF_STRIP, _STRIP_LANE = 12, 20, 80, 15
 #: The widest that names may be before they are cut in the middle, in letters.
 _NAME = 44
 #: Of so many breaks each has its row's name in the picture; of more the row's number.
 NAMED = 6
+#: Breaks have one label where they are nearer than this.
+_NEAR = 60
 #: How many shades of grey an overview has.
 _LEVELS = 4
 #: What the classes of the drawing look like on a dark screen; on a light one their attributes say it.
@@ -31,6 +35,15 @@ def colour_of(row: int) -> str:
     return COLOURS[row % len(COLOURS)]
 
 
+class _Label(NamedTuple):
+    """A label of breaks: its text, whether it is left of its line, and how many others are above it."""
+
+    marks: list[Mark]
+    text: str
+    left: bool
+    level: int
+
+
 class _Canvas:
     """The measures of a picture: names at the left, lanes, above them the breaks and below them the axis."""
 
@@ -41,14 +54,15 @@ class _Canvas:
         self.right = _WIDTH - right
         self.inner = self.right - self.left
         self.labels = self._placed(view.marks)
-        self.top = 34 + 15 * max((level + 1 for _, _, _, level in self.labels), default=0)
+        self.top = 34 + 15 * max((label.level + 1 for label in self.labels), default=0)
         self.bottom = self.top + lane * len(names)
         self.height = self.bottom + 44
 
     def x(self, time: float) -> float:
         """Where a time is, within the lanes."""
-        scale = self.inner / (self.view.end - self.view.begin)
-        return round(self.left + min(max((time - self.view.begin) * scale, 0), self.inner), 1)
+        inner = self.inner - 2 * _PAD
+        scale = inner / (self.view.end - self.view.begin)
+        return round(self.left + _PAD + min(max((time - self.view.begin) * scale, 0), inner), 1)
 
     def middle(self, lane: int) -> int:
         """The height of a lane."""
@@ -77,33 +91,57 @@ class _Canvas:
             out.append(f"<text class='dk-text' x='20' y='{self.bottom + 32}' font-weight='bold' fill='#444'>{escape(self.view.caption)}</text>")
         return out
 
-    def _placed(self, marks: list[Mark]) -> list[tuple[Mark, str, bool, int]]:
-        """Of each break its label, whether that is left of its line, and how many others are above it: none covers another."""
-        found: list[tuple[Mark, str, bool, int]] = []
-        ends: list[list[tuple[float, float]]] = []
+    def _groups(self, marks: list[Mark]) -> list[list[Mark]]:
+        """The breaks that have one label: each its own where they are few, else those that are close together."""
+        groups: list[list[Mark]] = []
         for mark in marks:
-            text = f"row {mark.row}" if len(marks) > NAMED else f"{short(mark.label, 70)}, {self.view.time_format.at(mark.time)}"
-            at, width, left = self.x(mark.time), len(text) * _LETTER * 1.15 + 10, self.x(mark.time) > _WIDTH * 0.6
+            if len(marks) > NAMED and groups and self.x(mark.time) - self.x(groups[-1][0].time) < _NEAR:
+                groups[-1].append(mark)
+            else:
+                groups.append([mark])
+        return groups
+
+    def _placed(self, marks: list[Mark]) -> list[_Label]:
+        """The labels of the breaks, none of which covers another."""
+        found: list[_Label] = []
+        taken: list[list[tuple[float, float]]] = []
+        for group in self._groups(marks):
+            at = self.x(group[0].time)
+            left = at > _WIDTH / 2
+            text = self._text(group, len(marks) <= NAMED, (at if left else _WIDTH - at) - 10)
+            width = len(text) * _BOLD + 10
             begin, end = (at - width, at) if left else (at, at + width)
-            level = next((level for level, taken in enumerate(ends) if all(end <= one or two <= begin for one, two in taken)), len(ends))
-            if level == len(ends):
-                ends.append([])
-            ends[level].append((begin, end))
-            found.append((mark, text, left, level))
+            level = next((level for level, others in enumerate(taken) if all(end <= one or two <= begin for one, two in others)), len(taken))
+            taken += [[]] if level == len(taken) else []
+            taken[level].append((begin, end))
+            found.append(_Label(group, text, left, level))
         return found
+
+    def _text(self, group: list[Mark], named: bool, room: float) -> str:
+        """What is said of the breaks of a label, in so much room."""
+        if not named:
+            return f"row {group[0].row}" if len(group) == 1 else f"{len(group)} rows"
+        time = f", {self.view.time_format.at(group[0].time)}"
+        return short(group[0].label, max(int(room / _BOLD) - len(time), 12)) + time
 
     def marks(self) -> list[str]:
         """The steps that broke a row: all lines, and then all labels before them."""
         lines, labels = [], []
-        for mark, text, left, level in self.labels:
-            at, y = self.x(mark.time), 18 + 15 * level
-            lines.append(f"<path class='dk-broken' d='M{at} {y - 8} V{self.bottom}' stroke='{BROKEN}' stroke-width='1.4' stroke-dasharray='4 2'/>")
-            said = escape(f"{mark.label}, {self.view.time_format.at(mark.time)}")
-            label = (f"<text class='dk-say' x='{round(at + (-5 if left else 5), 1)}' y='{y}' text-anchor='{'end' if left else 'start'}' "
-                     f"fill='{BROKEN}' font-weight='bold' paint-order='stroke' stroke='white' stroke-width='4'>{escape(text)}"
-                     f"<title>{said}</title></text>")
-            labels.append(f"<a href='{escape(self.links)}{mark.row}'>{label}</a>" if self.links else label)
+        for group, text, left, level in self.labels:
+            at, y = self.x(group[0].time), 18 + 15 * level
+            lines += [self._linked(mark, f"<path class='dk-broken' d='M{self.x(mark.time)} {y - 8} V{self.bottom}' stroke='{BROKEN}' "
+                                         f"stroke-width='1.4' stroke-dasharray='4 2'>{self._tip([mark])}</path>") for mark in group]
+            place = f"x='{round(at + (-5 if left else 5), 1)}' y='{y}' text-anchor='{'end' if left else 'start'}'"
+            labels.append(self._linked(group[0], f"<text class='dk-say' {place} fill='{BROKEN}' font-weight='bold' paint-order='stroke' "
+                                                 f"stroke='white' stroke-width='4'>{escape(text)}{self._tip(group)}</text>"))
         return lines + labels
+
+    def _tip(self, group: list[Mark]) -> str:
+        """What the pointer says on breaks."""
+        return "<title>" + escape("\n".join(f"{mark.label}, {self.view.time_format.at(mark.time)}" for mark in group)) + "</title>"
+
+    def _linked(self, mark: Mark, drawn: str) -> str:
+        return f"<a href='{escape(self.links)}{mark.row}'>{drawn}</a>" if self.links else drawn
 
     def drawn(self, parts: list[list[str]], style: bool) -> str:
         """The whole as one SVG element, of the title and these parts."""
@@ -165,7 +203,7 @@ class _Drawing(_Canvas):
             parts.append(("nothing came", BROKEN))
         found, x, line = [], 20, 0
         for name, colour in parts:
-            width = round(len(name) * _LETTER) + 34
+            width = round(len(name) * _BOLD) + 34
             if x + width > _WIDTH - 20 and x > 20:
                 x, line = 20, line + 1
             found.append((x, line, name, colour))
@@ -203,12 +241,12 @@ class _StripDrawing(_Canvas):
 
     def _runs(self, lane: int, levels: list[int], level: int) -> str:
         """Bins of one level, those side by side as one."""
-        width, y, place, out = self.inner / BINS, self.middle(lane) - 6, 0, ""
+        width, y, place, out = (self.inner - 2 * _PAD) / BINS, self.middle(lane) - 5, 0, ""
         for one, group in groupby(levels):
             length = len(list(group))
             if one == level:
                 wide = f"{max(length * width, 1.2):.1f}"
-                out += f"M{self.left + place * width:.1f} {y}h{wide}v12h-{wide}z"
+                out += f"M{self.left + _PAD + place * width:.1f} {y}h{wide}v10h-{wide}z"
             place += length
         return out
 

@@ -7,6 +7,7 @@ from __future__ import annotations
 from array import array
 from bisect import bisect_left, bisect_right
 from dataclasses import dataclass, field, replace
+from fractions import Fraction
 from typing import Iterable, Iterator, NamedTuple
 
 from .check import Outcome, RowOutcome
@@ -169,37 +170,49 @@ def strip(table: Table, gathered: Gathered, outcome: Outcome) -> Strip:
 
 def _counts(times: array[int], shown: View) -> list[int]:
     """How many of the times are in each of the bins of a stretch."""
-    span = shown.end - shown.begin
-    places = [bisect_left(times, shown.begin - -number * span // BINS) for number in range(1, BINS)]
-    edges = [0, *places, len(times)]
-    return [after - before for before, after in zip(edges, edges[1:])]
+    bins = [shown.begin + Fraction((shown.end - shown.begin) * number, BINS) for number in range(1, BINS)]
+    places = [0, *(bisect_left(times, begin) for begin in bins), len(times)]
+    return [after - before for before, after in zip(places, places[1:])]
 
 
-def close_up(table: Table, gathered: Gathered, outcome: Outcome, row: RowOutcome) -> Scene:
-    """A broken row alone, around its break: it fits the events that the reason is about."""
-    picture = _scene(table, gathered, outcome, [row.number], row.name, _fitted(table, gathered, outcome, row))
+def close_up(table: Table, gathered: Gathered, outcome: Outcome, row: RowOutcome, stretched: int = STRETCHED) -> Scene:
+    """A broken row alone, around its break. It fits the events that the reason is about, and with earlier events, the break and what was
+    asked for it is at most ``stretched`` times as long."""
+    picture = _scene(table, gathered, outcome, [row.number], row.name, _fitted(table, gathered, outcome, row, stretched))
     if not picture.marks:
         at = outcome.time_format.at(_time(outcome, row))
         picture.caption = f"Broken {'by the end of the log' if row.by_close else 'by the next step'}, at {at}, right of this picture"
     return picture
 
 
-def _fitted(table: Table, gathered: Gathered, outcome: Outcome, row: RowOutcome) -> tuple[int, int]:
-    """From when to when a close-up is. What the reason is about is in it, and the stretch that nothing came in. The break is, unless it
-    is far behind these, and so are earlier events of the row as far as they are near."""
+def _fitted(table: Table, gathered: Gathered, outcome: Outcome, row: RowOutcome, stretched: int) -> tuple[int, int]:
+    """From when to when a close-up is."""
     at, signals = _time(outcome, row), table.rows[row.number].signals
     seen = sorted(time for signal in signals for time in _between(gathered.times[signal], 0, at)[-CONTEXT:])[-CONTEXT:]
     about = [time + outcome.time_format.shift for _, time in row.about] or seen[-1:] or [at]
     start, last = min(about), max(about)
-    if at - last > STRETCHED * (last - start):
-        shades = _shades(View("", outcome.time_format, start, at), table, outcome, row.number, gathered.times)
-        last = max([last, *(shade.end for _, shade in shades if shade.broken and shade.end is not None)])
-    if at - last <= STRETCHED * (last - start):
+    asked, missed = _asked(table, gathered, outcome, row, View("", outcome.time_format, start, max(at, last + stretched * (last - start))))
+    if at - last > stretched * (last - start):
+        last = max(last, missed)
+    elif asked > last:
+        last = min(asked, start + stretched * (last - start))
+    if at - last <= stretched * (last - start):
         last = max(last, at)
     start = min([start, *(seen[-2:] if start == last else ())])
-    start = min([start, *(time for time in seen if last - time <= STRETCHED * (last - start))])
+    start = min([start, *(time for time in seen if last - time <= stretched * (last - start))])
     room = max((last - start) // 8, 1)
     return max(start - room, min(outcome.time_format.start, start)), last + room
+
+
+def _asked(table: Table, gathered: Gathered, outcome: Outcome, row: RowOutcome, view: View) -> tuple[int, int]:
+    """When the first stretch of a view begins that a row asks for, and when the last one ends that nothing came in; the beginning of the
+    view where there is none."""
+    first, missed = None, view.begin
+    for _, shade in _shades(view, table, outcome, row.number, gathered.times):
+        first = shade.begin if first is None else min(first, shade.begin)
+        if shade.broken and shade.end is not None:
+            missed = max(missed, shade.end)
+    return view.begin if first is None else first, missed
 
 
 def _scene(table: Table, gathered: Gathered, outcome: Outcome, rows: list[int], title: str, between: tuple[int, int]) -> Scene:

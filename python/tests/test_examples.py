@@ -83,7 +83,7 @@ def test_the_row_types():
     gathered = gather(table, Log(ROWS / "rows.csv", table).steps(), outcome)
     manual = (ROOT / "python/README.md").read_text(encoding="utf-8")
     for row in outcome.broken:
-        stored(PICTURES / f"{row.type}.svg", svg(close_up(table, gathered, outcome, row)))
+        stored(PICTURES / f"{row.type}.svg", svg(close_up(table, gathered, outcome, row, 100)))
         assert f"**{row.type}** " in manual and f"](pictures/{row.type}.svg)" in manual
 
 

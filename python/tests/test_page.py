@@ -291,7 +291,8 @@ def test_many_broken_rows(tmp_path):
     (tmp_path / "a.csv").write_text("time,event\n" + "".join(f"{time},{name}\n" for time, name in lines))
     page = page_of(many_rows(40), tmp_path / "a.csv")
     assert page.count('<details class="proof" open>') == 8 and page.count('<details class="proof">') == 32
-    assert len(re.findall(r"<a href='#log1-row\d+'><text[^>]*>row \d+<title>", page)) == 40
+    links = re.findall(r"<a href='#log1-row(\d+)'><path", page)
+    assert [int(row) for row in links] == list(range(40)) and re.search(r"<a href='#log1-row0'><text[^>]*>\d rows<title>row 0 broken, 10 ms\nrow 1", page)
     seen_of(page)
 
 

@@ -13,19 +13,17 @@ from .library import Refused
 from .logs import Counts, Log, LogError, Policy, Step
 from .measure import Measuring
 from .measured import Described, described
-from .unseen_events import warnings
+from .explain import Explanation, reasons_of
 from .time_format import TimeFormat
+from .unseen_events import warnings
 from .monitor import Monitor
 from .monitors import Monitors, Recorder, monitor_of
-from .reasons import Case, Kind, Reason
 from .rowtypes import judged
 from .table import Row, Table
 from .violations import Violations
 
 #: What watches a log while it is read.
 Progress = Callable[[Log], AbstractContextManager[None]]
-#: What is said where no reason is found.
-UNKNOWN = "nothing that could still come would meet it"
 #: What is said behind the verdict of a row that is kept, or open, because nothing of it was in the log.
 IDLE = ", never exercised"
 UNEXERCISED = f"kept{IDLE}"
@@ -145,6 +143,11 @@ class Run:
     last: Step = Step(None, 0, 0)
     seen: Counter[int | None] = field(default_factory=Counter)
 
+    @property
+    def breaks(self) -> dict[int, int]:
+        """The number of the step that broke each broken row."""
+        return {row: number for row, (number, _) in self.broken.items()}
+
 
 def run(monitor: Monitor | Monitors, steps: Iterable[Step], close: bool) -> Run:
     """Gives the steps to the monitor, and closes it if asked; :class:`StepRefused` at the first that is refused."""
@@ -236,102 +239,6 @@ def _ask(monitor: Monitor | Monitors, found: Run, chunk: list[Step]) -> None:
                 found.broken[row] = number, (chunk[number - found.steps - 1] if chunk else None)
 
 
-@dataclass(frozen=True)
-class Late:
-    """A reason that waits for an answer, which comes too late if it comes."""
-
-    case: Case
-    reason: Reason
-
-    def take(self, kind: int, time: int, place: int) -> str | None:
-        """One more event; what is to be said once all that was awaited has come."""
-        if kind in self.reason.needs:
-            self.case.of(kind).add(time, place)
-            if all(map(self.case.came, self.reason.awaited)):
-                return self.reason.say(True)
-        return None
-
-
-@dataclass(frozen=True)
-class Why:
-    """Why a row is broken: the reason, and the signals and times of the events that it is about."""
-
-    text: str
-    about: tuple[tuple[int, int], ...] = ()
-    #: What the reason still waits for, while a bus is watched.
-    late: Late | None = None
-
-
-class _Reasons:
-    """The reasons of a run, found in the same steps once more."""
-
-    def __init__(self, table: Table, found: Run, at: Callable[[int], str], time_format: TimeFormat):
-        self.table, self.at, self.time_format = table, at, time_format
-        self.said: dict[int, Why] = {}
-        self.open: dict[int, tuple[Case, Reason]] = {}
-        self.ends: dict[int, list[int]] = {}
-        for row, (number, _) in found.broken.items():
-            self.ends.setdefault(number, []).append(row)
-        self.events: dict[int, Kind] = {}
-        self.needed = self.needs()
-
-    def needs(self) -> set[int]:
-        """The signals whose events are looked at from now on."""
-        rows = [row for rows in self.ends.values() for row in rows]
-        late = {number for _, reason in self.open.values() for number in reason.needs}
-        return late | {number for row in rows for number in self.table.rows[row].signals}
-
-    def take(self, number: int, step: Step) -> None:
-        """The step of a number: an event more, rows that it broke, answers that came late."""
-        signal, time, place = step
-        if signal in self.needed:
-            assert signal is not None
-            self.events.setdefault(signal, Kind()).add(time, place)
-            for row in [row for row, (case, reason) in self.open.items() if all(map(case.came, reason.awaited))]:
-                self.say(row, True)
-        self.broken(number, time, False)
-
-    def broken(self, number: int, time: int, closed: bool) -> None:
-        """The rows that the step of a number broke."""
-        rows = self.ends.pop(number, ())
-        for row in rows:
-            case = Case(self.table, self.table.rows[row], self.events, time, closed, self.at, self.time_format)
-            reason = self.table.rows[row].type.reason(case)
-            self.open[row] = case, reason or Reason(lambda ended: UNKNOWN)
-            if reason is None or all(map(case.came, reason.awaited)):
-                self.say(row, True)
-        if rows:
-            self.needed = self.needs()
-
-    def say(self, row: int, ended: bool) -> None:
-        """The reason of a row, now that nothing more is awaited."""
-        case, reason = self.open.pop(row)
-        about = tuple((one.signal, case.time(one)) for one in reason.about if case.came(one))
-        waits = not ended and not all(map(case.came, reason.awaited))
-        self.said[row] = Why(reason.say(ended), about, Late(case, reason) if waits else None)
-        self.needed = self.needs()
-
-    @property
-    def done(self) -> bool:
-        """Is there nothing more to look for?"""
-        return not self.ends and not self.open
-
-
-def reasons_of(table: Table, steps: Iterable[Step], found: Run, at: Callable[[int], str], time_format: TimeFormat,
-               ended: bool = True) -> dict[int, Why]:
-    """Why each broken row is broken, from the same steps once more. Unless the log is at its end, what has not come may still."""
-    reasons = _Reasons(table, found, at, time_format)
-    number, last = 0, Step(None, 0, 0)
-    for number, last in enumerate(steps, 1):
-        reasons.take(number, last)
-        if reasons.done:
-            break
-    reasons.broken(number + 1, last.time, True)
-    for row in list(reasons.open):
-        reasons.say(row, ended)
-    return reasons.said
-
-
 def _without(log: Log) -> AbstractContextManager[None]:
     """Nothing that watches a log."""
     return nullcontext()
@@ -354,7 +261,7 @@ def check(table: Table, path: str | Sequence[str], policy: Policy = Policy(), pr
                 # A log that has grown since is read as far as before.
                 again = _noted(islice(log.steps(), found.steps - policy.close), found, policy.close)
                 steps = again if measuring is None else measuring.taking(again)
-                why = reasons_of(table, steps, found, log.at, outcome.time_format, policy.close)
+                why = reasons_of(table, steps, found.breaks, log.at, outcome.time_format, policy.close)
                 deque(steps if measuring is not None else (), maxlen=0)
     except LogError as error:
         outcome.error = str(error)
@@ -376,7 +283,7 @@ def check(table: Table, path: str | Sequence[str], policy: Policy = Policy(), pr
     return outcome
 
 
-def _row(table: Table, log: Log, number: int, found: Run, why: dict[int, Why], time_format: TimeFormat) -> RowOutcome:
+def _row(table: Table, log: Log, number: int, found: Run, why: dict[int, Explanation], time_format: TimeFormat) -> RowOutcome:
     row = table.rows[number]
     outcome = RowOutcome(number, row.name or f"row {number}", row.type.name, "open", sum(found.seen[kind] for kind in row.signals),
                          judged(row.type, row.values, found.seen))
@@ -387,8 +294,8 @@ def _row(table: Table, log: Log, number: int, found: Run, why: dict[int, Why], t
     step = step or found.last
     outcome.place, outcome.time, outcome.where = log.reader.number(step.place), time_format.stamp(step.time), log.placed(step.place)
     at = "at the end" if outcome.by_close else f"at {time_format.at(step.time)}"
-    outcome.reason = why[number].text if number in why else UNKNOWN
-    outcome.about = [(kind, time_format.stamp(time)) for kind, time in why[number].about] if number in why else []
+    outcome.reason = why[number].text
+    outcome.about = [(signal, time_format.stamp(time)) for signal, time in why[number].about]
     outcome.message = f"{outcome.where}: {table.row_name(number)} ({row.type.name}) broken {at}: {outcome.reason}"
     return outcome
 

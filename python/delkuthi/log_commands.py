@@ -6,7 +6,8 @@ from dataclasses import replace
 from itertools import islice
 from typing import Iterable, Iterator, Sequence
 
-from .check import reasons_of, run
+from .check import run
+from .explain import reasons_of
 from .library import LAST_TIME, Refused
 from .logs import Log, LogError, Step
 from .monitor import JoinRefused, Monitor, join, stamps
@@ -100,7 +101,7 @@ def shrink(given: argparse.Namespace) -> int:
         out(f"{given.log}: {name} is broken by the end of the log alone: no {log.word} before it breaks the row\n")
         return 1
     end = number - 1
-    why = reasons_of(alone, steps, found, log.at, log.time_format)[0]
+    why = reasons_of(alone, steps, {0: number}, log.at, log.time_format)[0]
     start = stretch_to(table, row, steps, end, why.about)
     if start is not None:
         _tell(log, row, steps, start, end, f"{name} broke at {log.at(step.place)}: {why.text}")

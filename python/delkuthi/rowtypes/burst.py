@@ -5,7 +5,7 @@ from typing import TYPE_CHECKING, Iterator
 
 from ..fields import RowType
 from ..measure import margin_of
-from ..reasons import Blamed, Case, Reason, Times, Window, gap, plain
+from ..reasons import Blamed, Case, Reason, Times, Window, drop_to_last, gap, plain
 from .repeat import Spans
 
 if TYPE_CHECKING:
@@ -27,6 +27,11 @@ def reason(case: Case) -> Reason | None:
             return plain(f"{case.event(one)} is number {maximum + 1} within {case.long(inside)}, from {case.event(first)} on: "
                          f"{case.long(early)} too early, at most {maximum} in {case.long(length)} are asked", first, one)
     return None
+
+
+def forget(case: Case) -> None:
+    """Forgets all but the last maximum events."""
+    drop_to_last(case, "event", case.number("maximum"))
 
 
 def windows(row: Row, times: Times) -> Iterator[Window]:
@@ -76,7 +81,7 @@ TYPE = RowType(
     manual="""any stretch shorter than length has at most maximum events, and neighbours are at least minimum apart. Silence
         breaks nothing.""",
     measures="distance over maximum places; the least distance of neighbours counts in the margin", each="each event but the first",
-    reason=reason, windows=windows, measuring=Bursts, instance=("event", 1),
+    reason=reason, forget=forget, windows=windows, measuring=Bursts, instance=("event", 1),
     example=("burst", "fault maximum 3, length 50 ms, minimum 2 ms",
              {"fault": "10 14 18 62 66 70 74"}),
 )

@@ -1,7 +1,7 @@
 """Delay: after each source a target."""
 from __future__ import annotations
 
-from bisect import bisect_left
+from bisect import bisect_left, bisect_right
 from typing import TYPE_CHECKING, Iterator
 
 from ..fields import RowType
@@ -25,6 +25,16 @@ def reason(case: Case) -> Reason | None:
         source, target = Blamed(case.number("source"), index), Blamed(case.number("target"), place)
         return unanswered(case, source, target, None if upper == NO_LIMIT else upper, lower)
     return None
+
+
+def forget(case: Case) -> None:
+    """Forgets the sources that are answered, and the targets before the first that is not. The last target stays: it answers a
+    source that comes after it at the same time."""
+    sources, targets = case.of(case.number("source")), case.of(case.number("target"))
+    if targets.times:
+        sources.drop(bisect_right(sources.times, targets.times[-1] - case.number("lower")))
+        oldest = min([*sources.times[:1], targets.times[-1]])
+        targets.drop(bisect_left(targets.times, oldest))
 
 
 def windows(row: Row, times: Times) -> Iterator[Window]:
@@ -86,7 +96,7 @@ TYPE = RowType(
     manual="""after each source a target comes from lower to upper later. One target may answer several sources, and further
         targets do no harm.""",
     measures="latency: to the first target that is not too early", each="each source",
-    reason=reason, windows=windows, measuring=Delays, instance=("source", 0), waits=True,
+    reason=reason, forget=forget, windows=windows, measuring=Delays, instance=("source", 0), waits=True,
     example=("delay", "pedal -> light, 2 ms .. 20 ms",
              {"pedal": "10 50", "light": "22 75"}),
 )

@@ -1,6 +1,7 @@
 """ExecutionTime: from each start to its stop, without what lies from preempt to resume."""
 from __future__ import annotations
 
+from bisect import bisect_right
 from typing import TYPE_CHECKING, Iterator
 
 from ..fields import RowType
@@ -27,7 +28,7 @@ def _stages(case: Case) -> list[tuple[int, int, str, int]]:
 def reason(case: Case) -> Reason | None:
     """The first event out of its order, or the first run that is too short or too long, or the one without a stop."""
     lower, upper = case.number("lower"), case.number("upper")
-    before, since, taken, last = "stop", 0, 0, -1
+    before, since, taken, last = "stop", 0, 0, -1 if case.memory is None else case.memory
     start = Blamed(case.number("start"), 0)
     for time, _, name, index in _stages(case):
         one = Blamed(case.number(name), index)
@@ -86,6 +87,23 @@ def _ran(case: Case, start: Blamed, stop: Blamed) -> int:
             taken += time - since
         running, since = name == "resume", time
     return taken
+
+
+def forget(case: Case) -> None:
+    """Forgets the runs that have ended, and remembers the time of the last event of these."""
+    stops = case.times("stop")
+    if not stops:
+        return
+    case.memory = stops[-1]
+    for name in _STAGES:
+        events = case.of(case.number(name))
+        events.drop(bisect_right(events.times, case.memory))
+
+
+def pending(case: Case) -> int:
+    """The run that has begun and not ended."""
+    starts, stops = case.times("start"), case.times("stop")
+    return int(bool(starts) and (not stops or stops[-1] < starts[-1]))
 
 
 def windows(row: Row, times: Times) -> Iterator[Window]:
@@ -178,7 +196,7 @@ TYPE = RowType(
     manual="""the time from each start to its stop, without what lies from a preempt to its resume, is lower to upper. An event
         that may not come next breaks the row too.""",
     measures="running time", each="each run",
-    reason=reason, windows=windows, measuring=Executions, instance=("start", 0),
+    reason=reason, forget=forget, windows=windows, measuring=Executions, instance=("start", 0), pending=pending,
     example=("task", "start -> stop, preempt preempt, resume resume, 5 ms .. 10 ms",
              {"start": "10 50", "stop": "30 65", "preempt": "13", "resume": "25"}),
 )

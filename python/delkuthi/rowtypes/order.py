@@ -5,7 +5,7 @@ from typing import TYPE_CHECKING, Iterator
 
 from ..fields import RowType
 from ..reasons import Blamed, Case, Reason, Times, Window, alone, unanswered
-from .strong_delay import Pairs
+from .strong_delay import Pairs, forget
 
 if TYPE_CHECKING:
     from ..table import Row
@@ -23,6 +23,11 @@ def reason(case: Case) -> Reason | None:
     if len(sources) > len(targets):
         return unanswered(case, Blamed(source, len(targets)), Blamed(target, len(targets)), None)
     return None
+
+
+def pending(case: Case) -> int:
+    """The sources that have no target yet."""
+    return max(len(case.times("source")) - len(case.times("target")), 0)
 
 
 def windows(row: Row, times: Times) -> Iterator[Window]:
@@ -54,7 +59,7 @@ TYPE = RowType(
     manual="""the first target belongs to the first source, the second to the second, and so on, and none is before its source. A
         source may wait for its target as long as it likes, until the end of the recording.""",
     measures="lag from each source to its target", each="each pair",
-    reason=reason, windows=windows, measuring=Lags, instance=("source", 0),
+    reason=reason, forget=forget, windows=windows, measuring=Lags, instance=("source", 0), pending=pending,
     example=("order", "sensor -> entry",
              {"sensor": "10 55", "entry": "12 50"}),
 )

@@ -41,6 +41,20 @@ def _reacted_early(case: Case, asked: Blamed, first: Blamed) -> Reason:
                  f"{case.long(minimum)} is asked", first, asked)
 
 
+def forget(case: Case) -> None:
+    """Forgets the stimuli whose response has come, and all but the first response of each colour."""
+    for stimulus, response in zip(colours(case.number("stimulus")), colours(case.number("response"))):
+        if len(case.of(response)):
+            case.of(stimulus).drop(len(case.of(stimulus)))
+            del case.of(response).times[1:], case.of(response).places[1:]
+
+
+def pending(case: Case) -> int:
+    """The stimuli whose colour has no response yet."""
+    pairs = zip(colours(case.number("stimulus")), colours(case.number("response")))
+    return sum(len(case.of(stimulus)) for stimulus, response in pairs if not len(case.of(response)))
+
+
 def windows(row: Row, times: Times) -> Iterator[Window]:
     """For each colour with a stimulus the stretch in which its first response suits all of them."""
     minimum, maximum = row.number("minimum"), row.number("maximum")
@@ -123,7 +137,7 @@ TYPE = RowType(
         second `ask/1` finds the answer to the first, which came long before it. Give each request a colour of its own, 0 to 7, or
         take a Delay or a StrongDelay, where each request has its own answer.""",
     measures="latency: from each stimulus to the first response of its colour in the whole recording", each="each stimulus",
-    reason=reason, windows=windows, measuring=Reactions, instance=("stimulus", 0), words=16,
+    reason=reason, forget=forget, windows=windows, measuring=Reactions, instance=("stimulus", 0), words=16, pending=pending,
     example=("chain", "ask -> answer, 3 ms .. 8 ms",
              {"ask": "10/1 30/2 60/1", "answer": "15/1 36/2 66/1"}),
 )

@@ -34,6 +34,14 @@ def reason(case: Case) -> Reason | None:
     return None
 
 
+def forget(case: Case) -> None:
+    """Forgets the pairs that are whole."""
+    sources, targets = case.of(case.number("source")), case.of(case.number("target"))
+    whole = min(len(sources), len(targets))
+    sources.drop(whole)
+    targets.drop(whole)
+
+
 class Pairs(RowMeasuring):
     """For the first source and the first target, the second and the second, and so on, the time between them."""
 
@@ -101,7 +109,7 @@ TYPE = RowType(
     manual="""the first target belongs to the first source, the second to the second, and so on, each from lower to upper after
         its source. A target too early, or one too many, breaks the row at once.""",
     measures="latency: from the first source to the first target, the second to the second, and so on", each="each pair",
-    reason=reason, windows=windows, measuring=Pairs, instance=("source", 0), waits=True,
+    reason=reason, forget=forget, windows=windows, measuring=Pairs, instance=("source", 0), waits=True,
     example=("strong delay", "request -> reply, 5 ms .. 20 ms",
              {"request": "10 14 50", "reply": "20 30 53"}),
 )

@@ -41,6 +41,13 @@ def _incomplete(case: Case, first: Blamed, lacking: list[Blamed], due: int) -> R
     return Reason(say, (first, *lacking), tuple(lacking), tuple(one.signal for one in lacking))
 
 
+def forget(case: Case) -> None:
+    """Forgets the groups that are complete."""
+    complete = min(len(case.of(kind)) for kind in case.row.kinds)
+    for kind in case.row.kinds:
+        case.of(kind).drop(complete)
+
+
 def windows(row: Row, times: Times) -> Iterator[Window]:
     """For each group the stretch within which all its kinds have to come."""
     groups = [times.get(kind, ()) for kind in row.kinds]
@@ -102,7 +109,7 @@ TYPE = RowType(
     manual="""the first events of all the kinds are at most tolerance apart, and so are the second, the third, and so on. A group
         that lacks a kind breaks the row once tolerance is over.""",
     measures="width: from the first event of a group to the last", each="each group",
-    reason=reason, windows=windows, measuring=Groups, instance=("kinds", 0), waits=True,
+    reason=reason, forget=forget, windows=windows, measuring=Groups, instance=("kinds", 0), waits=True,
     example=("together", "front rear mirror, tolerance 5 ms",
              {"front": "10 50", "rear": "12 60", "mirror": "14 52"}),
 )

@@ -28,13 +28,36 @@ def _window(full: Sequence[int], time: int, tolerance: int) -> int | None:
     return full[place] if place < len(full) and full[place] <= time else None
 
 
+def _alone(case: Case) -> list[tuple[int, int, int]]:
+    """The events that lie in no full window, each with its time, its kind and its number. What is not known or forgotten may have
+    made a window full for those that came less than tolerance after it."""
+    tolerance = case.number("tolerance")
+    groups = [case.of(kind).times for kind in case.row.kinds]
+    full, known = _full(groups, tolerance), 0 if case.begin is None else case.begin + tolerance
+    return [(time, kind, number) for kind, times in zip(case.row.kinds, groups) for number, time in enumerate(times)
+            if time >= known and _window(full, time, tolerance) is None]
+
+
+def pending(case: Case) -> int:
+    """The events that lie in no full window yet."""
+    return len(_alone(case))
+
+
+def forget(case: Case) -> None:
+    """Forgets the events that are in no window with one that could still be blamed."""
+    begin = case.clock - 2 * case.number("tolerance")
+    if case.begin is None or begin > case.begin:
+        case.begin = begin
+        for kind in case.row.kinds:
+            events = case.of(kind)
+            events.drop(bisect_left(events.times, begin))
+
+
 def reason(case: Case) -> Reason | None:
     """The oldest event that lies in no full window: what was missing from it on, and by when."""
     kinds, tolerance = case.row.kinds, case.number("tolerance")
     groups = [case.of(kind).times for kind in kinds]
-    full = _full(groups, tolerance)
-    alone = [(time, kind, number) for kind, times in zip(kinds, groups) for number, time in enumerate(times)
-             if _window(full, time, tolerance) is None]
+    alone = _alone(case)
     if not alone:
         return None
     first, kind, number = min(alone)
@@ -142,7 +165,7 @@ TYPE = RowType(
         which a kind is missing breaks the row once tolerance is over.""",
     measures="width of the shortest stretch with an event of every kind that the event lies in; the greatest is the least tolerance that "
              "would do", each="each event",
-    reason=reason, windows=windows, measuring=Widths, instance=("kinds", 0), edition=2,
+    reason=reason, forget=forget, windows=windows, measuring=Widths, instance=("kinds", 0), edition=2, pending=pending,
     example=("fusion", "radar lidar video, tolerance 5 ms",
              {"radar": "10 13 50", "lidar": "12 62", "video": "14 52"}),
 )

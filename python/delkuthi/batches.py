@@ -31,11 +31,35 @@ class NeedsSlowPath(Exception):
 
 
 class Batch(NamedTuple):
-    """Lines that follow each other: their stamps, the codes of their events, and the place of the first."""
+    """Lines that follow each other: their stamps, the codes of their events, and the place of the first. Where a line is several events, it
+    stands there once for each, and ``places`` has the place of each entry."""
 
     times: list[int]
     codes: bytes
     place: int
+    places: list[int] | None = None
+
+    @property
+    def lines(self) -> int:
+        """How many lines they are."""
+        return len(self.codes) if self.places is None else self.places[-1] - self.place + 1
+
+    def place_of(self, entry: int) -> int:
+        """The place of an entry."""
+        return self.place + entry if self.places is None else self.places[entry]
+
+    def moved(self, places: int) -> Batch:
+        """The same lines so many places further on."""
+        return Batch(self.times, self.codes, self.place + places, None if self.places is None else [place + places for place in self.places])
+
+
+def batch_of(times: list[int], found: Sequence[bytes], place: int) -> Batch:
+    """A batch of lines, of each of which the codes are given, one or several."""
+    codes = b"".join(found)
+    if len(codes) == len(found):
+        return Batch(times, codes, place)
+    entries = [(time, at) for at, (time, some) in enumerate(zip(times, found), place) for _ in some]
+    return Batch([time for time, _ in entries], codes, place, [at for _, at in entries])
 
 
 class Codes:

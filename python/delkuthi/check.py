@@ -179,7 +179,7 @@ def run_log(table: Table, log: Log, close: bool) -> tuple[Run, Monitor | Monitor
 
 def _run_chunks(table: Table, log: Log, close: bool) -> tuple[Run, Monitor | Monitors]:
     """The same by chunks; :class:`NeedsSlowPath` where they do not do."""
-    codes, found, whole = Codes(table), Run(), table.whole
+    codes, found, whole = Codes(table), Run(), table.single
     tally = Tally(len(codes.numbers))
     recorders = [Recorder(Monitor(table if whole else part.data), codes, None if whole else part, len(table.parts)) for part in table.parts]
     try:

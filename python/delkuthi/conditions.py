@@ -8,7 +8,8 @@ import re
 from dataclasses import dataclass
 from decimal import Decimal
 from fractions import Fraction
-from typing import Callable, Union
+from itertools import chain
+from typing import Callable, Sequence, Union
 
 #: What a sample is: a number, or text where it is none.
 Sample = Union[int, float, Decimal, Fraction, str]
@@ -53,18 +54,22 @@ class Condition:
 
 
 class Edge:
-    """A condition over samples that come one after the other."""
+    """A condition over samples that come one after the other: an event is where it becomes true, or a change where each change is one.
+    The first sample is never one."""
 
     def __init__(self, condition: Condition):
         self._holds = condition.holds()
-        self._before: Sample | bool | None = None
+        self._before: Sample | None = None
 
     def take(self, sample: Sample) -> bool:
         """Is this sample an event?"""
-        before = self._before
+        return bool(self.events([sample if self._holds is None else self._holds(sample)]))
+
+    def events(self, states: Sequence[Sample]) -> list[int]:
+        """The places of events among states: whether the condition holds, sample by sample, or the samples where each change is one."""
+        befores = chain((self._before,), states)
+        if states:
+            self._before = states[-1]
         if self._holds is None:
-            self._before = sample
-            return before is not None and sample != before
-        now = self._holds(sample)
-        self._before = now
-        return now and before is False
+            return [place for place, (before, now) in enumerate(zip(befores, states)) if now != before and before is not None]
+        return [place for place, (before, now) in enumerate(zip(befores, states)) if now and before is False]

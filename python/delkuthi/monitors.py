@@ -134,7 +134,7 @@ class Monitors:
 
 def monitor_of(table: Table) -> Monitor | Monitors:
     """A monitor over a table; several behind one where it needs them."""
-    return Monitor(table) if table.whole else Monitors(table)
+    return Monitor(table) if table.single else Monitors(table)
 
 
 class Recorder:

@@ -6,6 +6,7 @@ import codecs
 import re
 
 from .logs import LogError, Policy
+from .readers.base import ending
 from .table import Table
 from .units import NUMBER, UNITS, NotWhole, in_unit
 
@@ -37,6 +38,7 @@ def add_options(parser: argparse.ArgumentParser) -> None:
     group.add_argument("--until", metavar="TIME", help="the clock went on to this time after the last line")
     group.add_argument("--no-close", action="store_true", help="the end of the log is not the end: rows may stay open")
     group.add_argument("--time-column", metavar="NAME", help="CSV: the column of the times (time, time_ms, ..)")
+    group.add_argument("--time-unit", choices=list(UNITS), help="CSV: the unit of the times, where the column's head does not say it")
     group.add_argument("--event-column", metavar="NAME", help="CSV: the column of the events (event)")
     group.add_argument("--task-column", metavar="NAME", help="CSV: the column of the tasks (task)")
     group.add_argument("--action-column", metavar="NAME", help="CSV: the column of what happens to them (action)")
@@ -60,7 +62,7 @@ def _encoding(text: str) -> str:
 
 
 def _format(text: str) -> str:
-    return f".{text.lower().lstrip('.')}"
+    return ending(f"log.{text.lower().lstrip('.')}")
 
 
 def read_table(given: argparse.Namespace, recorded: bool = False) -> Table:
@@ -75,4 +77,5 @@ def policy(given: argparse.Namespace, table: Table) -> Policy:
     """The policy that the options say."""
     until = None if given.until is None else time_of("--until", given.until, table)
     return Policy(given.equal, given.unsorted, given.round, given.from_zero, given.as_stamped, until, not given.no_close,
-                  given.time_column, given.event_column, given.task_column, given.action_column, given.encoding, given.format)
+                  given.time_column, given.event_column, given.task_column, given.action_column, given.encoding, given.format,
+                  given.time_unit)

@@ -218,6 +218,11 @@ class Table:
         """Are all its kinds those of the library, so that a recording can have them?"""
         return all(kind <= 255 for kind in {*self._names, *(kind for row in self.rows for kind in row.kinds)})
 
+    @property
+    def single(self) -> bool:
+        """Does one monitor take each event of the table, those of no row too?"""
+        return self.whole and self.recordable
+
     def text(self) -> str:
         """The table as text, in its normal form."""
         from .text import printed

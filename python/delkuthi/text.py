@@ -27,18 +27,11 @@ from .source_text import quoted, read_source, source_text
 from .sources import TARGETS
 from .split import split
 from .table import Event, Executed, Row, Table, ask_table, one_line
-from .units import DIGITS, NUMBER, UNITS, NotWhole, exact, in_unit
+from .units import DIGITS, NUMBER, UNIT_WORDS, UNITS, NotWhole, exact, in_unit
 
 GRAMMAR = (__doc__ or "").split(".. code-block:: text\n\n")[1]
 
-#: What people write for a unit or a row type, and what it is here.
-_UNIT_WORDS = {
-    **dict.fromkeys(("nsec", "nsecs", "nanosecond", "nanoseconds"), "ns"),
-    **dict.fromkeys(("\u00b5s", "\u03bcs", "usec", "usecs", "microsecond", "microseconds"), "us"),
-    **dict.fromkeys(("msec", "msecs", "millis", "millisecond", "milliseconds"), "ms"),
-    **dict.fromkeys(("sec", "secs", "second", "seconds"), "s"), **dict.fromkeys(("mins", "minute", "minutes"), "min"),
-    **dict.fromkeys(("hr", "hrs", "hour", "hours"), "h"),
-}
+#: What people write for a row type, and what it is here.
 _PERIODIC = "a periodic signal is a Sporadic with lower = upper, as in Sporadic EVENT, 10 ms .. 10 ms, jitter 1 ms, minimum 0 ms"
 _TYPE_WORDS = {
     "periodic": _PERIODIC, "period": _PERIODIC, "synchronization": "events in step are a StrongSynchronization",
@@ -151,8 +144,8 @@ class Line:
     def hint(self, found: str) -> str:
         """What may have been meant by a word that is not expected here."""
         before = self.text[: self.place].rstrip()
-        if before[-1:].isdigit() and found.lower() in _UNIT_WORDS:
-            return f" (the unit is written {_UNIT_WORDS[found.lower()]})"
+        if before[-1:].isdigit() and found.lower() in UNIT_WORDS:
+            return f" (the unit is written {UNIT_WORDS[found.lower()]})"
         if before[-1:].isdigit() and re.match(r",[0-9]", self.text[self.place :]):
             number = re.search(r"[0-9]+$", before)
             part = re.match(r"[0-9]+", self.text[self.place + 1 :])

@@ -60,7 +60,7 @@ class CsvReader(SheetReader):
                 yield self.lines()
                 return
             columns = Columns(self, header, self.comma)
-            if columns.event is None or columns.samples or columns.tasks:
+            if columns.event is None or columns.samples or columns.tasks or columns.unknown_unit:
                 yield self.lines()
                 return
             several = _Blocks(self, columns, codes)
@@ -124,7 +124,10 @@ class _Blocks:
     def batch(self, block: bytes, number: int) -> Batch:
         """The lines of a block."""
         if not block.isascii():
-            self.reader.decoded(block, 2)
+            try:
+                block.decode(self.reader.policy.encoding)
+            except UnicodeError:
+                raise NeedsSlowPath from None
         cells, number_of = self.shape.cut(block), self.shape.cells
         stamps = cells[self.columns.time :: number_of]
         if self.reader.comma:

@@ -7,15 +7,20 @@ from typing import Iterator
 
 from ..conditions import Edge, Sample
 from ..signals import is_coloured, colours, parts, signal
-from ..sources import ColumnSource
+from ..sources import ColumnSource, TaskSource
+from ..spelling import did_you_mean
 from ..table import CsvSource, Table
 from ..timestamps import Stamps
-from ..units import UNITS
+from ..units import UNITS, unit_of
 from .base import Reader, Stamped
 from .btf import Waiting, task_sources
 
-_UNIT = re.compile(r"(?:^|[ _(\[])(%s)[)\]]?$" % "|".join(UNITS))
-_TIME = re.compile(r"(?:time(?:stamp)?|date|uhrzeit|zeit)(?:$|[ _(\[])")
+#: What stands in brackets at the end of a column's head.
+_BRACKETS = re.compile(r".*[\[(<{]\s*(.*?)\s*[\])>}]")
+#: Last words of a head that are no unit: there the stamps are in the table's.
+_NO_UNIT = ("time", "stamp", "timestamp", "date", "zeit", "uhrzeit", "zeitstempel", "abs", "absolute", "rel", "relative", "elapsed", "utc", "gmt",
+            "local", "day", "start", "offset", "axis", "column")
+_TIME = re.compile(r"(?:time(?:stamp)?|date|uhrzeit|zeit(?:stempel)?)(?:$|[\W_])")
 #: A sampled number.
 _NUMBER = re.compile(r"[+-]?(?:[0-9]{1,40}(?:\.[0-9]{0,40})?|\.[0-9]{1,40})(?:[eE][+-]?[0-9]{1,2})?")
 
@@ -34,6 +39,21 @@ def named_kinds(table: Table) -> dict[str, tuple[int, ...]]:
     return kinds
 
 
+def _as_a_word(capital: re.Match[str]) -> str:
+    """A capital within a word, as in ``timeMs``, where a word of its own begins."""
+    return f"_{capital[0].lower()}"
+
+
+def unit_word(head: str) -> str | None:
+    """The word of a column's head that says the unit of its times: what stands in brackets at its end, or its last word if there are several
+    and that is no usual one, such as the stamp of ``time_stamp``."""
+    found = _BRACKETS.fullmatch(head)
+    if found is not None:
+        return found[1] or None
+    words = re.split(r"[\W_]+", re.sub("(?<=[a-z])[A-Z]", _as_a_word, head))
+    return None if len(words) < 2 or words[-1].lower() in ("", *_NO_UNIT) else words[-1]
+
+
 class Columns:
     """What the columns of a sheet are, by its header."""
 
@@ -41,6 +61,8 @@ class Columns:
         self.reader, self.header, self.comma = reader, header, comma
         self.names = [cell.strip().lower() for cell in header]
         self.stamps = Stamps()
+        #: What the head of the times' column says where that is no unit: stamps that are plain numbers are an error then.
+        self.unknown_unit: str | None = None
         self.time, self.unit = self._time_column()
         policy = reader.policy
         self.event = self._optional(policy.event_column, "event")
@@ -54,6 +76,18 @@ class Columns:
             raise self._lacks(policy.event_column or "event")
         used = [self.time, self.event, *(place for place, _, _, _ in self.samples), *((self.task, self.action) if self.tasks else ())]
         self.last = max(place for place in used if place is not None)
+        reader.columns += [cell.strip() for cell in header]
+        self._ask_for_columns()
+
+    def _ask_for_columns(self) -> None:
+        """An event of a row that can only come from columns that are not there is an error."""
+        asked = {kind for row in self.reader.table.rows for kind in row.kinds}
+        for event in self.reader.table.events if self.event is None else ():
+            columns = [source.column for source in event.sources if isinstance(source, ColumnSource)]
+            there = any(column.strip().lower() in self.names for column in columns)
+            if event.kind in asked and columns and not there and not (self.tasks and any(isinstance(one, TaskSource) for one in event.sources)):
+                hint = did_you_mean(columns[0], self.reader.columns) or f"; the columns are {', '.join(self.header)}"
+                raise self.reader.error(1, f"no column {columns[0]}, from which {event.name} would come{hint}")
 
     def _lacks(self, name: str) -> Exception:
         wanted = [source.column for event in self.reader.table.events for source in event.sources if isinstance(source, ColumnSource)]
@@ -78,8 +112,15 @@ class Columns:
             if not found:
                 raise self.reader.error(1, f"expected a column time, found {', '.join(self.header) or 'nothing'}")
             place = found[0]
-        unit = _UNIT.search(self.header[place].strip())
-        return place, unit[1] if unit else None
+        return place, self._unit(self.header[place].strip())
+
+    def _unit(self, head: str) -> str | None:
+        """The unit of the stamps: the one that was given, or that the head of their column ends with, if it does."""
+        word = self.reader.policy.time_unit or unit_word(head)
+        unit = None if word is None else unit_of(word)
+        if word is not None and unit is None:
+            self.unknown_unit = word
+        return unit
 
     def _samples(self) -> Iterator[tuple[int, Edge, int, bool]]:
         """The sampled columns that the table names: place, condition, signal, and whether it needs numbers."""
@@ -105,6 +146,7 @@ class Columns:
         kinds = self.kinds.get(name) or self.reader.other(name)
         if self.tasks:
             name, action = cells[self.task or 0].strip(), cells[self.action or 0].strip().lower()
+            self.reader.target("", name)
             kinds += self.tasks.get((name, self.waiting.action((name,), action)), ())
         for place, edge, one, numeric in self.samples:
             sample = self._sample(cells[place].strip(), numeric, place, number)
@@ -116,6 +158,9 @@ class Columns:
         found = self.stamps.read(text.replace(",", ".") if self.comma else text)
         if found is None:
             raise self.reader.error(number, f"expected a time, found {text or 'nothing'}")
+        if found[1] is None and self.unknown_unit is not None:
+            raise self.reader.error(number, f"the column {self.header[self.time].strip()} says that its times are in {self.unknown_unit}, which is "
+                                            f"no unit here: --time-unit with one of {', '.join(UNITS)} says what they are in")
         return self.reader.time(found[0], found[1] or self.unit, number)
 
     def _sample(self, text: str, numeric: bool, place: int, number: int) -> Sample | None:

@@ -207,7 +207,8 @@ def _fitted(table: Table, gathered: Gathered, outcome: Outcome, row: RowOutcome,
 def _asked(table: Table, gathered: Gathered, outcome: Outcome, row: RowOutcome, view: View) -> tuple[int, int]:
     """When the first stretch of a view begins that a row asks for, and when the last one ends that nothing came in; the beginning of the
     view where there is none."""
-    first, missed = None, view.begin
+    first: int | None = None
+    missed = view.begin
     for _, shade in _shades(view, table, outcome, row.number, gathered.times):
         first = shade.begin if first is None else min(first, shade.begin)
         if shade.broken and shade.end is not None:

@@ -64,7 +64,7 @@ def test_measured_in_json_junit_and_html(command, tmp_path):
     assert named == {"measures": "latency", "judged": "2", "outside": "1", "missing": "0", "least": "28.7 ms", "mean": "44.7 ms",
                      "greatest": "60.7 ms", "asked": "0 ms .. 50 ms", "margin": "-10.7 ms", "worst": "line 1025"}
     page = (tmp_path / "a.html").read_text(encoding="utf-8")
-    assert page.count('class="histogram"') == 4 and all(f">{heading}" in page for heading in HEADINGS[2:])
+    assert page.count('class="histogram"') == 4 and all(f'>{heading}' in page for heading in HEADINGS[2:] if heading != "asked")
 
 
 def test_a_trace_for_perfetto(command, tmp_path):

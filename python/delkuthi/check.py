@@ -1,9 +1,11 @@
 """A log checked against a table: a verdict for each row, and for a broken one where, when and why."""
 from __future__ import annotations
 
+import time as clock
 from collections import Counter, deque
-from contextlib import AbstractContextManager, nullcontext
+from contextlib import AbstractContextManager, contextmanager, nullcontext
 from dataclasses import asdict, dataclass, field, replace
+from datetime import datetime, timezone
 from itertools import islice
 from operator import itemgetter
 from typing import Callable, Iterable, Iterator, Sequence
@@ -11,7 +13,8 @@ from typing import Callable, Iterable, Iterator, Sequence
 from .batches import Codes, NeedsSlowPath, Tally
 from .library import Refused
 from .logs import Counts, Log, LogError, Policy, Step
-from .measure import Measuring
+from .judge import Judging, RowVerdict, ScopedMeasuring, StepRefused
+from .measure import Measure, Measuring
 from .measured import Described, described
 from .explain import Explanation, reasons_of
 from .time_format import TimeFormat
@@ -20,13 +23,16 @@ from .monitor import Monitor
 from .monitors import Monitors, Recorder, monitor_of
 from .rowtypes import judged
 from .table import Row, Table
-from .violations import Violations
+from .violations import Spool, Violations
+from .window_text import window_text
 
 #: What watches a log while it is read.
 Progress = Callable[[Log], AbstractContextManager[None]]
 #: What is said behind the verdict of a row that is kept, or open, because nothing of it was in the log.
 IDLE = ", never exercised"
 UNEXERCISED = f"kept{IDLE}"
+#: What a row reads that is not broken, in a log that is cut.
+SO_FAR = "kept so far"
 #: So many steps are given to the monitor before its rows are asked.
 CHUNK = 1024
 _SIGNAL, _PAIR = itemgetter(0), itemgetter(0, 1)
@@ -123,14 +129,6 @@ class Outcome:
         hidden = ("counts", "time_format", "exercised", "files", "violations", "started", "seconds")
         found = {name: value for name, value in asdict(replace(self, violations=None)).items() if name not in hidden}
         return {**found, **asdict(self.counts), "offset": self.time_format.shift, "status": self.status}
-
-
-class StepRefused(Exception):
-    """A step of a log that the monitor refused."""
-
-    def __init__(self, step: Step, refusal: Refused):
-        self.step, self.refusal = step, refusal
-        super().__init__(str(refusal))
 
 
 @dataclass
@@ -244,58 +242,144 @@ def _without(log: Log) -> AbstractContextManager[None]:
     return nullcontext()
 
 
+@dataclass
+class _Checked:
+    """What a log gave: for each row what was found and the word for it, the number of steps, the last one, and the library's page."""
+
+    verdicts: list[RowVerdict]
+    words: list[str]
+    steps: int
+    last: Step
+    page: str | None = None
+    measures: list[Measure] | None = None
+
+
 def check(table: Table, path: str | Sequence[str], policy: Policy = Policy(), progress: Progress | None = None, exercised: bool = False,
-          measured: bool = False) -> Outcome:
+          measured: bool = False, violations: str | None = None) -> Outcome:
     """Checks a log, or several files that are one, against a table, and measures its rows if asked. Nothing of the log is kept: where
-    a row is broken, or for measuring, it is read a second time."""
-    log = Log(path, table, policy)
-    outcome = Outcome(log.path, log.word, closed=policy.close, exercised=exercised, files=log.files)
-    measuring, bar, why = Measuring(table) if measured else None, progress or _without, {}
+    a row is broken, or for measuring, it is read a second time. ``violations`` is a file for every instance that is not as asked."""
+    log, started = Log(path, table, policy), clock.perf_counter()
+    outcome = Outcome(log.path, log.word, closed=policy.close and not policy.scope.cut_end, exercised=exercised, files=log.files)
+    outcome.started = datetime.now(timezone.utc).strftime("%Y-%m-%dT%H:%M:%S")
+    partly = policy.scope.cut_begin or policy.scope.cut_end or any(row.window is not None for row in table.rows)
     try:
-        with bar(log):
-            found, monitor = run_log(table, log, policy.close)
-        outcome.counts, outcome.time_format = log.counts, log.time_format
-        outcome.warnings = warnings(table, log, found.seen)
-        if found.broken or measuring is not None:
-            with bar(log):
-                # A log that has grown since is read as far as before.
-                again = _noted(islice(log.steps(), found.steps - policy.close), found, policy.close)
-                steps = again if measuring is None else measuring.taking(again)
-                why = reasons_of(table, steps, found.breaks, log.at, outcome.time_format, policy.close)
-                deque(steps if measuring is not None else (), maxlen=0)
+        found = (_check_scoped if partly else _check_whole)(table, log, outcome, progress or _without, measured, violations)
+        _fill(table, log, outcome, found)
     except LogError as error:
         outcome.error = str(error)
-        return outcome
     except OSError as error:
         outcome.error = f"{error.filename or log.path}: {error.strerror or error}"
-        return outcome
     except StepRefused as refused:
         outcome.error = f"{log.placed(refused.step.place)}: {_refusal(table, log.time_format, refused)}"
         outcome.refused = refused.refusal.number
-        return outcome
-    outcome.steps, outcome.clock, outcome.page = found.steps, outcome.time_format.stamp(found.last.time), monitor.page()
-    outcome.rows = [_row(table, log, number, found, why, outcome.time_format) for number in range(len(table.rows))]
-    for row, measure in zip(outcome.rows, [] if measuring is None else measuring.end(found.last.time, policy.close)):
-        row.measured = described(measure, outcome.time_format.stamp, log.at)
-    for row in outcome.rows:
-        if row.verdict != "broken":
-            row.verdict = monitor.verdict(row.number).word + ("" if row.instances else IDLE)
+    outcome.seconds = clock.perf_counter() - started
     return outcome
 
 
-def _row(table: Table, log: Log, number: int, found: Run, why: dict[int, Explanation], time_format: TimeFormat) -> RowOutcome:
+def _check_whole(table: Table, log: Log, outcome: Outcome, bar: Progress, measured: bool, violations: str | None) -> _Checked:
+    """A log whose end is closed or left open, and whose beginning is taken as it is."""
+    close, why = log.policy.close, {}
+    with bar(log):
+        found, monitor = run_log(table, log, close)
+    _note_read(table, log, outcome, found.seen)
+    measuring = Measuring(table) if measured or violations is not None else None
+    with _spooled(table, log, outcome, measuring, violations):
+        if found.broken or measuring is not None:
+            with bar(log):
+                # A log that has grown since is read as far as before.
+                again = _noted(islice(log.steps(), found.steps - close), found, close)
+                steps = again if measuring is None else measuring.taking(again)
+                why = reasons_of(table, steps, found.breaks, log.at, outcome.time_format, close)
+                deque(steps if measuring is not None else (), maxlen=0)
+        measures = None if measuring is None else measuring.end(found.last.time, close)
+    verdicts = [_verdict(row, found, number, why.get(number)) for number, row in enumerate(table.rows)]
+    words = [monitor.verdict(number).word for number in range(len(table.rows))]
+    return _Checked(verdicts, words, found.steps, found.last, monitor.page(), measures)
+
+
+def _verdict(row: Row, found: Run, number: int, why: Explanation | None) -> RowVerdict:
+    """What a run found of a row."""
+    verdict = RowVerdict(why=why, events=sum(found.seen[signal] for signal in row.signals),
+                         instances=judged(row.type, row.values, found.seen))
+    if number in found.broken:
+        step = found.broken[number][1]
+        verdict.broken, verdict.by_close = (found.broken[number][0], step or found.last), step is None
+    return verdict
+
+
+def _check_scoped(table: Table, log: Log, outcome: Outcome, bar: Progress, measured: bool, violations: str | None) -> _Checked:
+    """A log that is cut, or a table with windows: each row by monitors of its own."""
+    close, scope = log.policy.close, log.policy.scope
+    judging = Judging(table, scope, close, log.at, lambda: log.time_format)
+    with bar(log):
+        verdicts = judging.run(log.steps())
+    _note_read(table, log, outcome, judging.seen)
+    measuring = ScopedMeasuring(table, scope, close, verdicts) if measured or violations is not None else None
+    with _spooled(table, log, outcome, measuring, violations):
+        if measuring is not None:
+            with bar(log):
+                deque(measuring.walk(islice(log.steps(), judging.steps)), maxlen=0)
+            measuring.finish()
+    words = []
+    for row, verdict in zip(table.rows, verdicts):
+        cut = scope.cut_begin or scope.cut_end or row.window is not None and scope.cut_windows
+        words.append("broken" if verdict.broken is not None else SO_FAR if cut else "kept" if close else "open")
+    closed = close and not scope.cut_end
+    return _Checked(verdicts, words, judging.steps + closed, judging.last, None, None if measuring is None else measuring.measures)
+
+
+@contextmanager
+def _spooled(table: Table, log: Log, outcome: Outcome, measuring: Measuring | ScopedMeasuring | None, path: str | None) -> Iterator[None]:
+    """Has the violations written to a file while rows are measured, if there is one."""
+    if path is None or measuring is None:
+        yield
+        return
+    spool = Spool(path, log.path, outcome.time_format.stamp, log.placed, log.reader.number)
+    for number, measure in enumerate(measuring.measures):
+        row = table.rows[number]
+        measure.note = spool.row(number, row.name or f"row {number}", row.type.name, measure)
+    try:
+        yield
+    finally:
+        outcome.violations = spool.close()
+
+
+def _note_read(table: Table, log: Log, outcome: Outcome, seen: Counter[int | None]) -> None:
+    """What was read of a log, and what it does not have; an error where its scope never begins."""
+    scope = log.policy.scope
+    outcome.counts, outcome.time_format = log.counts, log.time_format
+    if not log.begun and scope.begin is not None:
+        why = f"no {scope.begin.text} came" if scope.begin.kind is not None else f"the log ends before {scope.begin.text}"
+        raise LogError(log.path, "", f"{why}, so nothing was checked (--from {scope.begin.text})")
+    windows = dict.fromkeys(window_text(table, row) for row in table.rows if row.window is not None)
+    outcome.scope = scope.words(log.policy.close, windows, log.ended)
+    outcome.warnings = warnings(table, log, seen)
+
+
+def _fill(table: Table, log: Log, outcome: Outcome, found: _Checked) -> None:
+    """The rows of an outcome."""
+    outcome.steps, outcome.clock, outcome.page = found.steps, outcome.time_format.stamp(found.last.time), found.page
+    for number, (verdict, word) in enumerate(zip(found.verdicts, found.words)):
+        row = _row(table, log, number, verdict, outcome.time_format)
+        row.verdict = word if word == "broken" or verdict.instances else word + IDLE
+        if found.measures is not None:
+            measure = found.measures[number]
+            row.measured, row.violations = described(measure, outcome.time_format.stamp, log.at), measure.outside + measure.missing
+        outcome.rows.append(row)
+
+
+def _row(table: Table, log: Log, number: int, found: RowVerdict, time_format: TimeFormat) -> RowOutcome:
     row = table.rows[number]
-    outcome = RowOutcome(number, row.name or f"row {number}", row.type.name, "open", sum(found.seen[kind] for kind in row.signals),
-                         judged(row.type, row.values, found.seen))
-    if number not in found.broken:
+    outcome = RowOutcome(number, row.name or f"row {number}", row.type.name, "open", found.events, found.instances,
+                         not_yet_due=found.not_yet_due, left_out=found.left_out, stretches=None if row.window is None else found.stretches)
+    if found.broken is None or found.why is None:
         return outcome
-    outcome.step, step = found.broken[number]
-    outcome.verdict, outcome.by_close = "broken", step is None
-    step = step or found.last
+    outcome.step, step = found.broken
+    outcome.by_close = found.by_close
     outcome.place, outcome.time, outcome.where = log.reader.number(step.place), time_format.stamp(step.time), log.placed(step.place)
-    at = "at the end" if outcome.by_close else f"at {time_format.at(step.time)}"
-    outcome.reason = why[number].text
-    outcome.about = [(signal, time_format.stamp(time)) for signal, time in why[number].about]
+    at = f"at {time_format.at(step.time)}" if not found.by_close else "at the end" if row.window is None else "at the end of its stretch"
+    outcome.reason = found.why.text
+    outcome.about = [(signal, time_format.stamp(time)) for signal, time in found.why.about]
     outcome.message = f"{outcome.where}: {table.row_name(number)} ({row.type.name}) broken {at}: {outcome.reason}"
     return outcome
 

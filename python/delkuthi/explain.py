@@ -45,6 +45,13 @@ class RowHistory:
         other._case = replace(self._case, events=events, memory=deepcopy(self._case.memory))
         return other
 
+    def anew(self) -> RowHistory:
+        """A history of the same row without events, that forgets none."""
+        other: RowHistory = object.__new__(RowHistory)
+        other.__dict__.update(self.__dict__)
+        other._case, other._more = replace(self._case, events={}, begin=None, memory=None), -1
+        return other
+
     def add(self, signal: int, time: int, place: int) -> None:
         """One more event of the row. Once the row is broken only what its reason still waits for is of interest."""
         if self._reason is not None:
@@ -72,6 +79,11 @@ class RowHistory:
         """How much the row still waits for that the library does not count."""
         return self.row.type.pending(self._case)
 
+    def lone(self, until: int) -> int:
+        """How many events before a time have no partners in the log, of a type that can say so."""
+        found = self.row.type.beginning.lone
+        return 0 if found is None else found(self._case, until)
+
     def break_at(self, time: int, closed: bool) -> None:
         """The row is broken, by a step at this time or by the close."""
         self._case.clock, self._case.closed = time, closed
@@ -96,8 +108,8 @@ def reasons_of(table: Table, steps: Iterable[Step], broken: Mapping[int, int], a
     histories = {row: RowHistory(table, row, at, time_format) for row in broken}
     takers: dict[int | None, list[RowHistory]] = {}
     for row, history in histories.items():
-        for signal in table.rows[row].signals:
-            takers.setdefault(signal, []).append(history)
+        for one in table.rows[row].signals:
+            takers.setdefault(one, []).append(history)
     breaks: dict[int, list[int]] = {}
     for row, number in broken.items():
         breaks.setdefault(number, []).append(row)

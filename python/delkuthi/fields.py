@@ -21,6 +21,8 @@ import re
 from dataclasses import dataclass, field
 from typing import TYPE_CHECKING, Callable, Iterator
 
+from .beginnings import Beginning
+
 if TYPE_CHECKING:
     from .measure import RowMeasuring
     from .reasons import Case, Reason, Times, Window
@@ -72,6 +74,8 @@ class RowType:
     waits: bool = field(default=False, compare=False)
     #: How many instances of a row that is not broken had no partner yet, where the library does not count them.
     pending: Callable[[Case], int] = field(default=lambda case: 0, compare=False)
+    #: How it takes a log that begins in the middle of something longer.
+    beginning: Beginning = field(default=Beginning(), compare=False)
     #: A row for the manual: its name, what follows the type, and when each event comes, in ms, of a coloured kind with the colour.
     #: The events meet the row at first and break it then. ``release/row-types.py`` makes examples/rows of it.
     example: Example = field(default=NO_EXAMPLE, compare=False)

@@ -11,7 +11,7 @@ from .explain import reasons_of
 from .library import LAST_TIME, Refused
 from .logs import Log, LogError, Step
 from .monitor import JoinRefused, Monitor, join, stamps
-from .options import policy, read_table, time_of
+from .options import policy, read_table, refuse_windows, time_of
 from .recording import Record, recording_bytes
 from .shrink import shortest, stretch_to
 from .table import Table
@@ -89,6 +89,7 @@ def shrink(given: argparse.Namespace) -> int:
     """``delkuthi shrink``: 0 if the log keeps the row, 1 if it breaks it."""
     table = read_table(given, True)
     row = row_number(table, given.row)
+    refuse_windows(table, given.table, [row], "shrink does not take it")
     log = Log(given.log, table, policy(given, table))
     steps = list(accepted(log, log.steps()))
     name, alone = table.row_name(row), table.alone(row)
@@ -137,13 +138,14 @@ def late_stamps(given: argparse.Namespace) -> int:
     """``delkuthi stamps``: 0 if the row is kept, 1 if it is broken or unsure."""
     table = read_table(given, True)
     row, late = row_number(table, given.row), time_of("LATE", given.late, table)
+    refuse_windows(table, given.table, [row], "stamps does not take it")
     log = Log(given.log, table, policy(given, table))
     steps = list(accepted(log, log.steps()))
     # A true time is not below 0: with room for the lateness the answer does not depend on where the stamps begin.
     room = late if not log.policy.as_stamped and steps and steps[-1].time + late <= LAST_TIME else 0
     try:
         recording = recording_bytes((kind, time + room) for kind, time, _ in steps)
-        word = stamps(table, recording, row, late) if table.whole else stamps(table.alone(row), recording, 0, late)
+        word = stamps(table.alone(row), recording, 0, late)
     except Refused as refusal:
         what = "LATE" if refusal.number == 10 else "ROW"
         raise LogError(what, "", f"{table.row_name(row)}: {Refused(refusal.number)}") from None

@@ -10,11 +10,12 @@ from functools import partial
 from itertools import groupby, islice
 from operator import itemgetter
 from pathlib import Path
-from typing import Callable, Iterable, Iterator, NamedTuple, Sequence
+from typing import Callable, Generator, Iterable, Iterator, NamedTuple, Sequence
 
 from .batches import OTHER, Batch, Codes, NeedsSlowPath, ends, last_kept, level, rising
 from .time_format import TimeFormat
 from .readers import Lines, LogError, Policy, Stamped, reader
+from .scope import Edge
 from .table import Table
 
 __all__ = ["Chunk", "Counts", "Log", "LogError", "Policy", "Step"]
@@ -68,6 +69,8 @@ class Log:
         self.path = self.reader.path
         self.word = self.reader.word
         self.counts, self.time_format = Counts(), TimeFormat(table.unit)
+        #: Was the beginning of the scope found, and its end?
+        self.begun, self.ended = True, False
         #: Called with the number of bytes of each line, where they are known, for a progress bar.
         self.progress: Callable[[int], object] | None = None
 
@@ -93,7 +96,47 @@ class Log:
         return self.reader.buses
 
     def steps(self) -> Iterator[Step]:
-        """The steps of the log, in the order of time, each with its place."""
+        """The steps of the log, in the order of time, each with its place; of a part of it where that is asked for."""
+        return self._scoped(self._all_steps()) if self._partly else self._all_steps()
+
+    @property
+    def _partly(self) -> bool:
+        """Is a part of the log asked for?"""
+        return self.policy.scope.begin is not None or self.policy.scope.end is not None
+
+    def _scoped(self, steps: Generator[Step, None, None]) -> Iterator[Step]:
+        """The steps from the beginning of the scope to its end, both included. The clock goes on to an end that is a time, if the
+        log does."""
+        scope, events, last, end = self.policy.scope, 0, None, None
+        self.begun, self.ended = scope.begin is None, False
+        for step in steps:
+            if last is None and scope.end is not None:
+                end = scope.end.moment(self.time_format.shift, self.time_format.start)
+            self.begun = self.begun or scope.begin is not None and self._reached(scope.begin, step)
+            if not self.begun:
+                continue
+            if end is not None and step.time > end:
+                self.ended = True
+                if last is not None and last.time < end:
+                    yield Step(None, end, last.place)
+                break
+            # The event that a scope begins with is not its end, where both are of one kind.
+            self.ended = scope.end is not None and step.signal in scope.end.signals and (last is not None or scope.begin is None)
+            events, last = events + (step.signal is not None), step
+            yield step
+            if self.ended:
+                break
+        steps.close()
+        self.counts.events = events
+        self._done()
+
+    def _reached(self, edge: Edge, step: Step) -> bool:
+        """Is the step at an edge of the scope, or after it?"""
+        moment = edge.moment(self.time_format.shift, self.time_format.start)
+        return step.signal in edge.signals if moment is None else step.time >= moment
+
+    def _all_steps(self) -> Generator[Step, None, None]:
+        """The steps of the whole log."""
         ordering = self._begun()
         for found, codes in self._found():
             if isinstance(found, Batch) and codes is not None:
@@ -109,6 +152,9 @@ class Log:
 
     def chunks(self, codes: Codes) -> Iterator[Chunk]:
         """The same steps, many at a time, by the codes of their signals."""
+        if self._partly:
+            yield from _chunks(self.steps(), codes)
+            return
         ordering = self._begun()
         for found, _ in self._found(codes):
             if isinstance(found, Batch):

@@ -191,6 +191,8 @@ class RowMeasuring:
     """A row's measure while steps come. ``takers`` has for each signal what takes an event of it, by time and place."""
 
     quantity = ""
+    #: Where the log begins, if something may have begun before it.
+    begin: int | None = None
 
     def __init__(self, row: Row):
         self.values: dict[str, Any] = dict(row.values)
@@ -274,11 +276,16 @@ class Measuring:
             self.take(*step)
             yield step
 
+    @property
+    def measures(self) -> list[Measure]:
+        """What each row has measured so far."""
+        return [row.measure for row in self._rows]
+
     def end(self, clock: int, closed: bool) -> list[Measure]:
         """The end of the log: what each row has measured."""
         for row in self._rows:
             row.end(clock, closed)
-        return [row.measure for row in self._rows]
+        return self.measures
 
 
 def measure(table: Table, steps: Iterable[tuple[int | None, int, int]], closed: bool = True) -> list[Measure]:

@@ -20,6 +20,7 @@ class Monitors:
     numbered as in the whole table."""
 
     def __init__(self, table: Table):
+        table.refuse_windows()
         self.table, self.steps = table, 0
         self._locals = [Local(part) for part in table.parts]
         self._monitors = [Monitor(part.data) for part in table.parts]
@@ -100,6 +101,10 @@ class Monitors:
     def step(self, row: int) -> int | None:
         """The step that broke a row, if one has."""
         return self._broken.get(row)
+
+    def broken_rows(self) -> int:
+        """A bit for each row: bit i is 1 where row i reads broken."""
+        return sum(1 << row for row in self._broken)
 
     def deadline(self) -> int | None:
         """The last time to which a tick breaks no row that is open."""

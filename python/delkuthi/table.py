@@ -52,6 +52,8 @@ class Row:
     line: int = field(default=0, compare=False)
     columns: dict[str, int] = field(default_factory=dict, compare=False)
     executed: Executed | None = None
+    #: The kinds of the events with which its window opens and closes, if it has one: it is judged in each stretch between them.
+    window: tuple[int, int] | None = None
 
     @staticmethod
     def of(type_name: str, name: str | None = None, **values: Value) -> Row:
@@ -204,9 +206,16 @@ class Table:
 
     def bytes(self) -> bytes:
         """The table as the library reads it; :class:`Refused` if one monitor cannot take it: with 3 for its rows, 9 for its kinds."""
+        self.refuse_windows()
         if not self.whole:
             raise Refused(3 if len(self.rows) > lib.ROW_LIMIT else 9)
         return self.parts[0].data
+
+    def refuse_windows(self) -> None:
+        """:class:`ValueError` if a row has a window: neither the bytes of a table nor a monitor over all of it know of windows."""
+        for number, row in enumerate(self.rows):
+            if row.window is not None:
+                raise ValueError(f"{self.row_name(number)} has a window (while), which a monitor of the whole table does not take")
 
     @property
     def whole(self) -> bool:

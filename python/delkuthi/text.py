@@ -6,7 +6,7 @@
     line   = "unit" UNIT                          ns, us, ms, s, min or h: first, if times have units
            | "dbc" STRING                         a file with the signals, DBC or ARXML, as seen from the table
            | "event" NAME ["=" KIND] source*      KIND is 0 to 63; 48 to 63 are coloured, and their sources too
-           | [STRING] TYPE form                   a row, with a name if it has one
+           | [STRING] TYPE form [window]          a row, with a name if it has one
 """
 from __future__ import annotations
 
@@ -28,6 +28,8 @@ from .sources import TARGETS
 from .split import split
 from .table import Event, Executed, Row, Table, ask_table, one_line
 from .units import DIGITS, NUMBER, UNIT_WORDS, UNITS, NotWhole, exact, in_unit
+from .window_text import GRAMMAR as WINDOWS
+from .window_text import read_window
 
 GRAMMAR = (__doc__ or "").split(".. code-block:: text\n\n")[1]
 
@@ -107,7 +109,8 @@ def form_lines(types: Sequence[RowType]) -> Iterator[str]:
 
 def grammar() -> str:
     """The whole grammar, with a line for each row type."""
-    lines = [*(line[4:] for line in GRAMMAR.rstrip().splitlines()), *SOURCES.splitlines(), "form:", *form_lines(TYPES)]
+    lines = [*(line[4:] for line in GRAMMAR.rstrip().splitlines()), *SOURCES.splitlines(), *WINDOWS.splitlines(), "form:",
+             *form_lines(TYPES)]
     limited = [row_type.name for row_type in TYPES if row_type.has("limit")]
     lines.append("A kind is an event's name or its number; KINDS are two to four of them. A time is a number, with a unit")
     lines.append(f"behind it where the table has one. An UPPER of {', '.join(limited[:-1])} and {limited[-1]} may be the word none.")
@@ -296,7 +299,7 @@ class _Parser:
             else:
                 columns[part.name] = line.column
                 values[part.name] = self.value(line, part)
-        self.rows.append(Row(row_type, values, name, line.number, columns, executed))
+        self.rows.append(Row(row_type, values, name, line.number, columns, executed, read_window(line, self.kind)))
 
     def executed(self, line: Line) -> Executed | None:
         """The task, interrupt routine or runnable that an ExecutionTime row names in place of four events."""
@@ -438,7 +441,7 @@ def row_text(table: Table, row: Row) -> str:
     for part in parts:
         word = part if isinstance(part, str) else _value_text(row, part, names, table.unit)
         text += word if word == "," else f" {word}"
-    return text
+    return text if row.window is None else f"{text} while {' .. '.join(names.get(kind, str(kind)) for kind in row.window)}"
 
 
 def _value_text(row: Row, part: Field, names: dict[int, str], unit: str | None) -> str:

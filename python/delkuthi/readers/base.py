@@ -17,6 +17,7 @@ from typing import IO, Any, Callable, ClassVar, Iterable, Iterator, NamedTuple, 
 from ..batches import Batch, Codes
 from ..database import DatabaseError
 from ..mapping import CanMapping
+from ..scope import Scope
 from ..table import Table
 from ..units import NotWhole, in_unit, nearest_in_unit
 
@@ -55,6 +56,7 @@ class Policy:
     - ``time_unit``: the unit of the stamps of a sheet, where the head of their column does not say it.
     - ``encoding``: how the characters of a text log are written.
     - ``format``: the ending that says what the log is, where its own name does not.
+    - ``scope``: which part of the log is taken, and whether its beginning and its end are cut or closed.
     """
 
     equal: str = "refuse"
@@ -71,6 +73,7 @@ class Policy:
     encoding: str = "utf-8"
     format: str | None = None
     time_unit: str | None = None
+    scope: Scope = Scope()
 
 
 class LogError(Exception):

@@ -2,8 +2,10 @@
 from __future__ import annotations
 
 from bisect import bisect_right
+from collections import Counter
 from typing import TYPE_CHECKING, Iterator
 
+from ..beginnings import Beginning
 from ..fields import RowType
 from ..measure import RowMeasuring, Taker, margin_of
 from ..reasons import Blamed, Case, Reason, Times, Window, plain
@@ -123,6 +125,17 @@ def windows(row: Row, times: Times) -> Iterator[Window]:
             yield Window(row.number("stop"), begin, end, wanted=not preempted)
 
 
+def _began(row: Row, signal: int, since: int, taken: Counter[int], left: Counter[int]) -> str:
+    """What comes before the first start belongs to a run that began before the log."""
+    start = row.number("start")
+    return "surely" if signal != start and not taken[start] else ""
+
+
+def _run(left: Counter[int]) -> int:
+    """All that is left out is of one run."""
+    return int(left.total() > 0)
+
+
 class Executions(RowMeasuring):
     """The running time of each execution. An event that may not come next counts as a missing one."""
 
@@ -197,6 +210,7 @@ TYPE = RowType(
         that may not come next breaks the row too.""",
     measures="running time", each="each run",
     reason=reason, forget=forget, windows=windows, measuring=Executions, instance=("start", 0), pending=pending,
+    beginning=Beginning(_began, _run),
     example=("task", "start -> stop, preempt preempt, resume resume, 5 ms .. 10 ms",
              {"start": "10 50", "stop": "30 65", "preempt": "13", "resume": "25"}),
 )

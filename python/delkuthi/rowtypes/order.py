@@ -1,8 +1,10 @@
 """Order: as many targets as sources, none before its source."""
 from __future__ import annotations
 
+from collections import Counter
 from typing import TYPE_CHECKING, Iterator
 
+from ..beginnings import Beginning
 from ..fields import RowType
 from ..reasons import Blamed, Case, Reason, Times, Window, alone, unanswered
 from .strong_delay import Pairs, forget
@@ -38,6 +40,11 @@ def windows(row: Row, times: Times) -> Iterator[Window]:
             yield Window(row.number("target"), time, targets[index] if index < len(targets) else None)
 
 
+def _began(row: Row, signal: int, since: int, taken: Counter[int], left: Counter[int]) -> str:
+    """A target without a source may belong to one before the log, however long ago that was."""
+    return "maybe" if signal == row.number("target") and taken[row.number("source")] <= taken[signal] else ""
+
+
 class Lags(Pairs):
     """The lag from each source to its target."""
 
@@ -60,6 +67,7 @@ TYPE = RowType(
         source may wait for its target as long as it likes, until the end of the recording.""",
     measures="lag from each source to its target", each="each pair",
     reason=reason, forget=forget, windows=windows, measuring=Lags, instance=("source", 0), pending=pending,
+    beginning=Beginning(_began, online=True),
     example=("order", "sensor -> entry",
              {"sensor": "10 55", "entry": "12 50"}),
 )

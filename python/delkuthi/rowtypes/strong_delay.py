@@ -1,8 +1,10 @@
 """StrongDelay: after each source its own target."""
 from __future__ import annotations
 
+from collections import Counter
 from typing import TYPE_CHECKING
 
+from ..beginnings import Beginning
 from ..fields import RowType
 from ..fifo import Fifo
 from ..measure import Moment, RowMeasuring, Taker, margin_of
@@ -40,6 +42,11 @@ def forget(case: Case) -> None:
     whole = min(len(sources), len(targets))
     sources.drop(whole)
     targets.drop(whole)
+
+
+def _began(row: Row, signal: int, since: int, taken: Counter[int], left: Counter[int]) -> str:
+    """A target may belong to a source before the log as long as that would not be too long ago, and no other target was taken."""
+    return "maybe" if signal == row.number("target") and not taken[signal] and since < row.number("upper") else ""
 
 
 class Pairs(RowMeasuring):
@@ -110,6 +117,7 @@ TYPE = RowType(
         its source. A target too early, or one too many, breaks the row at once.""",
     measures="latency: from the first source to the first target, the second to the second, and so on", each="each pair",
     reason=reason, forget=forget, windows=windows, measuring=Pairs, instance=("source", 0), waits=True,
+    beginning=Beginning(_began),
     example=("strong delay", "request -> reply, 5 ms .. 20 ms",
              {"request": "10 14 50", "reply": "20 30 53"}),
 )

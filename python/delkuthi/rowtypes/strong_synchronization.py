@@ -1,9 +1,10 @@
 """StrongSynchronization: the events of all kinds in groups within tolerance."""
 from __future__ import annotations
 
-from collections import deque
+from collections import Counter, deque
 from typing import TYPE_CHECKING, Iterator
 
+from ..beginnings import Beginning
 from ..fields import RowType
 from ..measure import WAITING, RowMeasuring, Taker
 from ..reasons import Blamed, Case, Reason, Times, Window
@@ -55,6 +56,17 @@ def windows(row: Row, times: Times) -> Iterator[Window]:
         first = min(group[index] for group in groups if index < len(group))
         for kind in row.kinds:
             yield Window(kind, first, first + row.number("tolerance"))
+
+
+def _began(row: Row, signal: int, since: int, taken: Counter[int], left: Counter[int]) -> str:
+    """The first events of a kind may belong to groups before the log, for less than tolerance; of one kind at least each is there."""
+    others = any(not left[kind] for kind in row.kinds if kind != signal)
+    return "maybe" if not taken[signal] and since < row.number("tolerance") and others else ""
+
+
+def _groups(left: Counter[int]) -> int:
+    """The groups of which events are left out."""
+    return max(left.values(), default=0)
 
 
 class Groups(RowMeasuring):
@@ -110,6 +122,7 @@ TYPE = RowType(
         that lacks a kind breaks the row once tolerance is over.""",
     measures="width: from the first event of a group to the last", each="each group",
     reason=reason, forget=forget, windows=windows, measuring=Groups, instance=("kinds", 0), waits=True,
+    beginning=Beginning(_began, _groups),
     example=("together", "front rear mirror, tolerance 5 ms",
              {"front": "10 50", "rear": "12 60", "mirror": "14 52"}),
 )

@@ -5,6 +5,7 @@ from bisect import bisect_left
 from collections import deque
 from typing import TYPE_CHECKING, Iterator, Sequence
 
+from ..beginnings import Beginning
 from ..fields import RowType
 from ..measure import WAITING, RowMeasuring, Taker
 from ..reasons import Blamed, Case, Reason, Times, Window
@@ -36,6 +37,11 @@ def _alone(case: Case) -> list[tuple[int, int, int]]:
     full, known = _full(groups, tolerance), 0 if case.begin is None else case.begin + tolerance
     return [(time, kind, number) for kind, times in zip(case.row.kinds, groups) for number, time in enumerate(times)
             if time >= known and _window(full, time, tolerance) is None]
+
+
+def _lone(case: Case, until: int) -> int:
+    """The events before a time that lie in no full window."""
+    return sum(time < until for time, _, _ in _alone(case))
 
 
 def pending(case: Case) -> int:
@@ -141,6 +147,8 @@ class Widths(RowMeasuring):
             self._close(*self.open.popleft(), time)
 
     def _close(self, time: int, place: int, width: int | None, now: int) -> None:
+        if width is None and self.begin is not None and time < self.begin + self.tolerance:
+            return  # what came before the log may have been there for it
         if width is None:
             self.measure.miss((time, place), "no stretch of tolerance around it has every kind", time + self.tolerance, now)
         else:
@@ -166,6 +174,7 @@ TYPE = RowType(
     measures="width of the shortest stretch with an event of every kind that the event lies in; the greatest is the least tolerance that "
              "would do", each="each event",
     reason=reason, forget=forget, windows=windows, measuring=Widths, instance=("kinds", 0), edition=2, pending=pending,
+    beginning=Beginning(lone=_lone),
     example=("fusion", "radar lidar video, tolerance 5 ms",
              {"radar": "10 13 50", "lidar": "12 62", "video": "14 52"}),
 )

@@ -34,7 +34,7 @@ OPEN = 8
 #: So many warnings are shown; more are folded. So many violations of a row are shown; more are folded, and at most so many listed.
 WARNINGS, VIOLATIONS, LISTED = 4, 8, 2000
 #: The states of a row, the worst first, and what each is called.
-STATES = {"broken": "broken", "idle": "never exercised", "open": "open", "kept": "kept"}
+STATES = {"broken": "broken", "idle": "never exercised", "open": "open", "so-far": "kept so far", "kept": "kept"}
 
 
 @dataclass
@@ -86,7 +86,7 @@ def as_html(table: Table, table_name: str, logs: Sequence[Pictured], made: Prove
 
 def state_of(row: RowOutcome) -> str:
     """Which of :data:`STATES` a row is in."""
-    return row.verdict if row.verdict in STATES else "idle"
+    return next((state for state, word in STATES.items() if row.verdict == word), "idle")
 
 
 def _count(outcomes: Sequence[Outcome]) -> dict[str, int]:
@@ -100,7 +100,7 @@ def _headline(outcomes: Sequence[Outcome]) -> str:
     counts = _count(outcomes)
     refused, rows = sum(outcome.error is not None for outcome in outcomes), sum(counts.values())
     words = [f"{number_of(refused, 'log')} refused"] if refused else []
-    shown_states = [state for state in STATES if counts[state] and (state != "kept" or not counts["broken"])]
+    shown_states = [state for state in STATES if counts[state] and (state not in ("so-far", "kept") or not counts["broken"])]
     words += [f"{counts[state]} of {_rows_of(rows)} {STATES[state]}" for state in shown_states]
     return ", ".join(words) or "no rows"
 
@@ -123,9 +123,9 @@ def _subject(table_name: str, outcomes: Sequence[Outcome]) -> str:
 
 
 def _tiles(outcomes: Sequence[Outcome]) -> Iterator[Markup]:
-    """How many rows were kept, broken, never exercised; and open, where some are."""
+    """How many rows were kept, broken, never exercised; and kept so far or open, where some are."""
     counts = _count(outcomes)
-    for state in ("kept", "broken", "idle", *(("open",) if counts["open"] else ())):
+    for state in ("kept", *(state for state in ("so-far", "open") if counts[state]), "broken", "idle"):
         yield fill("tile", state=state if counts[state] else "none", count=counts[state], word=STATES[state])
 
 
@@ -135,7 +135,7 @@ def _header(table_name: str, outcomes: Sequence[Outcome]) -> Markup:
     if len(outcomes) == 1:
         return found
     lines = [_index_line(number, outcome) for number, outcome in enumerate(outcomes, 1)]
-    return joined([found, fill("read", text=_plain(overall(outcomes))), fill("logs", lines=lines)])
+    return joined([found, fill("overall", text=_plain(overall(outcomes))), fill("logs", lines=lines)])
 
 
 def _index_line(number: int, outcome: Outcome) -> Markup:
@@ -168,9 +168,7 @@ def _read(outcome: Outcome) -> Markup:
     end = shown(outcome.clock, unit)
     if time_format.long:
         end += f", {time_format.since(outcome.clock + time_format.shift)[1:]} after its start at {shown(time_format.stamp(time_format.start), unit)}"
-    closed = "closed at its end" if outcome.closed else "left open at its end"
-    read = fill("read", text=_plain(", ".join([*notes(outcome, False), f"{outcome.steps} steps up to {end}", closed])))
-    return joined([fill("scope", text=outcome.scope), read]) if outcome.scope else read
+    return fill("read", scope=outcome.scope, text=_plain(", ".join([*notes(outcome, False), f"{outcome.steps} steps up to {end}"])))
 
 
 def _warnings(outcome: Outcome) -> Markup:
@@ -197,8 +195,9 @@ def _row(table: Table, number: int, log: Pictured, row: RowOutcome, order: int, 
     """A row of the table, and beside a broken one why it is."""
     if row.verdict == "broken":
         time_format, time = log.outcome.time_format, row.time or 0
-        at = "the end" if row.by_close else time_format.since(time + time_format.shift) or shown(time, table.unit)
-        place = "" if row.by_close else f"{log.outcome.word} {row.place}"
+        end = "the end" if row.stretches is None else "the end of its window"
+        at = end if row.by_close else time_format.since(time + time_format.shift) or shown(time, table.unit)
+        place = "" if row.by_close and row.stretches is None else f"{log.outcome.word} {row.place}"
         verdict, evidence = fill("verdict_broken", when=f"at {at}", where=place), _evidence(table, log, row, order, 12 if measured else 4)
     else:
         verdict, evidence = fill("verdict_other", word=row.verdict), Markup()

@@ -11,11 +11,11 @@ from fractions import Fraction
 from typing import Iterable, Iterator, NamedTuple
 
 from .check import Outcome, RowOutcome
-from .library import FIRST_COLOURED
+from .library import FIRST_COLOURED, LAST_TIME
 from .logs import Step
 from .time_format import TimeFormat
-from .signals import parts
-from .table import Table
+from .signals import parts, signals_of
+from .table import Row, Table
 from .units import UNITS, decimal
 
 #: A picture shows every event of a log of at most so many steps; of a longer one so many before and after the first that broke a row.
@@ -127,7 +127,7 @@ class Gathered:
 
 def gather(table: Table, steps: Iterable[Step], outcome: Outcome) -> Gathered:
     """The times of all events in the steps of a checked log. A long one is shown around the first step that broke a row."""
-    times: dict[int, array[int]] = {signal: array("Q") for row in table.rows for signal in row.signals}
+    times: dict[int, array[int]] = {signal: array("Q") for row in table.rows for signal in _signals(row)}
     whole, shift = outcome.steps <= WHOLE, outcome.time_format.shift
     broke = {row.step or 0: 0 for row in outcome.broken}
     places: dict[tuple[int | None, int], int] = {(signal, stamp + shift): 0 for row in outcome.broken for signal, stamp in row.about}
@@ -218,7 +218,7 @@ def _asked(table: Table, gathered: Gathered, outcome: Outcome, row: RowOutcome, 
 
 def _scene(table: Table, gathered: Gathered, outcome: Outcome, rows: list[int], title: str, between: tuple[int, int]) -> Scene:
     begin, end = between
-    signals = sorted({signal for row in rows for signal in table.rows[row].signals})
+    signals = sorted({signal for row in rows for signal in _signals(table.rows[row])})
     picture = Scene(title, outcome.time_format, begin, max(end, begin + 1))
     asked = [shade for number in rows for shade in _shades(picture, table, outcome, number, gathered.times)]
     # A lane for what has an event in the log, or is asked for here; of the colours for those that have events.
@@ -254,15 +254,34 @@ def _time(outcome: Outcome, row: RowOutcome) -> int:
 def _shades(picture: View, table: Table, outcome: Outcome, number: int, times: dict[int, array[int]]) -> Iterator[tuple[int, Shade]]:
     """The stretches of a row that are in the picture, with their signals."""
     row, found = table.rows[number], outcome.rows[number]
-    for signal, begin, end, wanted in row.type.windows(row, times):
+    for part, (signal, begin, end, wanted) in ((part, one) for part in _judged(row, times) for one in row.type.windows(row, part)):
         if begin > picture.end and signal < FIRST_COLOURED:
             break  # Stretches come in the order of time, but for those of colours, which are few.
         if begin > picture.end or begin < picture.begin and (end is None or end < picture.begin):
             continue
         # The stretch that nothing came in, where the row is broken.
         missed = (wanted and found.verdict == "broken" and end is not None and end <= _time(outcome, found)
-                  and not len(_between(times[signal], begin, end)))
+                  and not len(_between(part[signal], begin, end)))
         yield signal, Shade(number, 0, begin, end, missed)
+
+
+def _signals(row: Row) -> tuple[int, ...]:
+    """The signals of a row, and those that its window opens and closes with."""
+    return (*row.signals, *(signal for kind in row.window or () for signal in signals_of(kind)))
+
+
+def _judged(row: Row, times: dict[int, array[int]]) -> Iterator[dict[int, array[int]]]:
+    """The events that a row is judged by: all of them, or those of each of its windows."""
+    if row.window is None:
+        yield times
+        return
+    opening, closing = (sorted(time for signal in signals_of(kind) for time in times[signal]) for kind in row.window)
+    end = -1
+    for begin in opening:
+        if begin > end:
+            place = bisect_left(closing, begin)
+            end = closing[place] if place < len(closing) else LAST_TIME
+            yield {signal: _between(times[signal], begin, end) for signal in row.signals}
 
 
 def _between(times: array[int], begin: int, end: int) -> array[int]:

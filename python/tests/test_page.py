@@ -20,6 +20,7 @@ from delkuthi.logs import Policy
 from delkuthi.measure import Histogram, measure
 from delkuthi.measured import described
 from delkuthi.provenance import provenance
+from delkuthi.scope import Scope
 from delkuthi.template import Markup, fill
 
 from conftest import EXAMPLES
@@ -62,9 +63,9 @@ def seen_of(page):
     return seen
 
 
-def page_of(table, *paths, policy=Policy(), name="table.txt", notes=()):
+def page_of(table, *paths, policy=Policy(), name="table.txt", notes=(), violations=None):
     """The page of some logs, as the command gives it."""
-    outcomes = [check(table, path if isinstance(path, list) else str(path), policy, measured=True) for path in paths]
+    outcomes = [check(table, path if isinstance(path, list) else str(path), policy, measured=True, violations=violations) for path in paths]
     made = provenance(table, name, [outcome.files for outcome in outcomes], ["check", name], notes)
     return as_html(table, name, [pictured(table, policy, outcome) for outcome in outcomes], made)
 
@@ -126,7 +127,7 @@ def test_nothing_of_a_log_or_a_table_is_markup(tmp_path):
 
 @given(st.text(max_size=40))
 def test_a_template_escapes_what_it_is_given(text):
-    seen = seen_of(fill("read", text=text))
+    seen = seen_of(fill("overall", text=text))
     assert seen.text.strip() == text.replace("\r\n", "\n").replace("\r", "\n").replace("\0", "\ufffd").strip() or not text.isprintable()
     assert len(seen.attributes) == 1
 
@@ -305,3 +306,59 @@ def test_a_long_log_has_an_overview_of_all_of_it(tmp_path):
     strip = page.split("The whole log")[1].split("</svg>")[0]
     assert "early broken" in strip and "late broken at the end" in strip and ">5000</text>" in strip and "a: 5000 events" in strip
     assert len(page) < 400_000, "it does not grow with the log"
+
+
+WINDOWS = Table.from_text("""\
+unit ms
+event on
+event off
+event a
+event b
+event c
+"answer" Delay a -> b, 0 .. 5 while on .. off
+"beat" Repeat a span 1, 5 .. 100
+"late" Order a -> b
+"never" Order b -> c while off .. on
+""")
+
+
+def windows_log(folder):
+    lines = ["1,a", "10,on", "11,a", "13,b", "20,off", "21,a", "30,on", "31,a", "40,d", "41,off", "60,a", "200,a", "201,b"]
+    (folder / "w.csv").write_text("time,event\n" + "\n".join(lines) + "\n")
+    return folder / "w.csv"
+
+
+def test_the_scope_is_said(tmp_path):
+    page = page_of(WINDOWS, windows_log(tmp_path), policy=Policy(scope=Scope(edges="cut")))
+    text = seen_of(page).text
+    assert "Checked: the whole log, cut at both ends, while on .. off and while off .. on: each stretch by itself, cut at both ends." in text
+    cells = dict(re.findall(r'id="log1-row(\d)".*?<td class="verdict [\w-]+" data-value="\d+">(.*?)</td>', page, re.S))
+    assert cells["0"] == "broken <small>at 40 ms</small> <small>line 10</small><small>2 windows</small>"
+    assert cells["2"].startswith("kept so far<small>") and "not yet due" in cells["2"]
+    assert '<span class="tile so-far"><b>2</b> kept so far</span>' in page and "<h1 class=\"broken\">2 of 4 rows broken</h1>" in page
+    whole = seen_of(page_of(Table.read(EXAMPLES / "drive.txt"), EXAMPLES / "drive.csv")).text
+    assert "Checked: the whole log, closed at its end." in whole
+
+
+def test_the_pictures_of_a_row_with_a_window(tmp_path):
+    """Only what comes within a window is asked for, and the events that open and close it have lanes."""
+    outcome = check(WINDOWS, str(windows_log(tmp_path)))
+    log = pictured(WINDOWS, Policy(), outcome)
+    answer = log.close_ups[0]
+    assert [name for name, _ in answer.lanes] == ["on", "off", "a", "b"]
+    assert [(shade.begin, shade.broken) for shade in log.picture.shades if shade.row == 0] == [(11, False), (31, True)]
+    assert [(line.text, line.role) for line in log.lines[0] if line.role] == [("31,a", "about"), ("40,d", "broke")]
+
+
+def test_every_violation_is_listed(tmp_path):
+    """A few are open, many are folded, and of very many the rest is counted."""
+    table = Table.from_text('unit us\nevent a\nevent b\n"gap" Repeat a span 1, 9000 .. 11000\n"reply" Delay a -> b, 0 .. 5000\n')
+    (tmp_path / "a.csv").write_text("time,event\n" + "".join(f"{12_345 * number},a\n" for number in range(2500)))
+    page = page_of(table, tmp_path / "a.csv", violations=str(tmp_path / "spool"))
+    assert page.count('<details class="violations">') == 2 and "<summary>2499 violations</summary>" in page
+    assert page.count("<td>distance too long</td>") == 2000 and "499 more are not listed here" in page and "500 more are not listed here" in page
+    first = re.search(r'<tr><td class="n">1</td><td>distance too long</td>(.*?)</tr>', page)[1]
+    assert re.findall(r"<td.*?>(.*?)</td>", first)[1:] == ["0", "12.345", "12.345", "1.345", ""]
+    (tmp_path / "b.csv").write_text("time,event\n0,a\n1000,b\n12000,a\n13000,b\n")
+    page = page_of(table, tmp_path / "b.csv", violations=str(tmp_path / "spool"))
+    assert page.count('<details class="violations" open>') == 1 and "<summary>1 violation</summary>" in page

@@ -27,12 +27,16 @@ def test_a_wheel_is_all_that_is_needed(tmp_path):
     assert f"delkuthi-{__version__}-py3-none-linux_" in wheel
     with zipfile.ZipFile(ROOT / wheel) as found:
         assert any(name.startswith("delkuthi/libdelkuthi.so.") for name in found.namelist())
+        assert {f"delkuthi/page/page.{ending}" for ending in ("html", "css", "js")} <= set(found.namelist())
         assert "delkuthi/readers/btf.py" in found.namelist() and not any("__pycache__" in name for name in found.namelist())
     subprocess.run([sys.executable, "-m", "venv", tmp_path / "home"], check=True)
     bin_folder = tmp_path / "home/bin"
     subprocess.run([bin_folder / "pip", "install", "--quiet", ROOT / wheel], check=True, env=clean)
     done = subprocess.run([bin_folder / "delkuthi", "check", "drive.txt", "drive.csv"], cwd=EXAMPLES, env=clean, capture_output=True, text=True)
     assert (done.returncode, done.stdout) == (1, (EXAMPLES / "messages.txt").read_text(encoding="utf-8"))
+    page = tmp_path / "drive.html"
+    done = subprocess.run([bin_folder / "delkuthi", "check", "drive.txt", "drive.csv", "--html", page], cwd=EXAMPLES, env=clean, capture_output=True)
+    assert done.returncode == 1 and "3 of 13 rows broken" in page.read_text(encoding="utf-8")
     where = "from delkuthi import library as l; print(l.library()._name)"
     done = subprocess.run([bin_folder / "python", "-c", where], env=clean, capture_output=True, text=True)
     assert done.stdout.startswith(str(tmp_path / "home")), done.stdout

@@ -62,6 +62,20 @@ def batch_of(times: list[int], found: Sequence[bytes], place: int) -> Batch:
     return Batch([time for time, _ in entries], codes, place, [at for _, at in entries])
 
 
+def with_events(times: list[int], codes: bytes, more: dict[int, list[int]], place: int) -> Batch:
+    """A batch of lines with their codes, and more codes for some of them."""
+    first, several = bytearray(codes), {}
+    for at, found in more.items():
+        before = [] if first[at] == OTHER else [first[at]]
+        together = list(dict.fromkeys(before + found))
+        first[at] = together[0]
+        if len(together) > 1:
+            several[at] = bytes(together)
+    if not several:
+        return Batch(times, bytes(first), place)
+    return batch_of(times, [several.get(at) or bytes((code,)) for at, code in enumerate(first)], place)
+
+
 class Codes:
     """A number below :data:`OTHER` for each signal of a table, so that the events of many lines are a string of bytes."""
 

@@ -104,8 +104,8 @@ def policy(given: argparse.Namespace, table: Table) -> Policy:
         raise LogError("--no-close", "", f"not with --{edges}")
     scope = Scope(edge("--from", given.begin, table), edge("--to", given.end, table), edges)
     return Policy(given.equal, given.unsorted, given.round, given.from_zero, given.as_stamped, until, not given.no_close,
-                  given.time_column, given.event_column, given.task_column, given.action_column, given.encoding, given.format,
-                  given.time_unit, scope)
+                  given.time_column, given.event_column, given.task_column, given.action_column, given.encoding, given.format, scope,
+                  given.time_unit)
 
 
 def edge(what: str, text: str | None, table: Table) -> Edge | None:

@@ -72,8 +72,8 @@ class Policy:
     action_column: str | None = None
     encoding: str = "utf-8"
     format: str | None = None
-    time_unit: str | None = None
     scope: Scope = Scope()
+    time_unit: str | None = None
 
 
 class LogError(Exception):

@@ -47,6 +47,7 @@ class BlfReader(Reader):
     word = "frame"
 
     def lines(self) -> Iterator[Stamped]:
+        self.mapping()
         place = 1
         for start, found in self._columns():
             yield from self._stamped(start, found, place)

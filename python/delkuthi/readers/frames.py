@@ -5,13 +5,13 @@ import re
 from operator import itemgetter
 from typing import Any, Callable, Hashable, Optional, Sequence
 
-from ..batches import OTHER, Batch, Codes, NeedsSlowPath, Scale, batch_of
+from ..batches import OTHER, Batch, Codes, NeedsSlowPath, Scale, with_events
 from .base import Reader
 
 #: The code of a frame whose bus or data has to be looked at.
 _LOOK = 254
+_LOOKED, _OTHER = bytes([_LOOK]), bytes([OTHER])
 _HEX = b"0123456789abcdefABCDEF"
-_BYTES = [bytes([code]) for code in range(256)]
 #: How an identifier, or a bus, is written in a log.
 Written = Optional[Hashable]
 
@@ -37,17 +37,9 @@ class Frames:
         self._reader.buses.update(new.values())
         if _LOOK not in events:
             return Batch(times, events, place)
-        codes, several = bytearray(events), {}
-        for places, found in self._looked_at(events, buses, identifiers, data):
-            for at in places:
-                codes[at] = OTHER
-            for at, numbers in found.items():
-                codes[places[at]] = self._codes.of[numbers[0]]
-                if len(numbers) > 1:
-                    several[places[at]] = bytes(self._codes.of[number] for number in numbers)
-        if not several:
-            return Batch(times, bytes(codes), place)
-        return batch_of(times, [several.get(at) or _BYTES[code] for at, code in enumerate(codes)], place)
+        more = {places[at]: [self._codes.of[number] for number in numbers]
+                for places, found in self._looked_at(events, buses, identifiers, data) for at, numbers in found.items()}
+        return with_events(times, events.replace(_LOOKED, _OTHER), more, place)
 
     def _looked_at(self, events: bytes, buses: Sequence[Written], identifiers: Sequence[Written],
                    data: Sequence[bytes]) -> list[tuple[list[int], dict[int, list[int]]]]:

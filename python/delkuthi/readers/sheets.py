@@ -2,10 +2,9 @@
 from __future__ import annotations
 
 import re
-from decimal import Decimal
 from typing import Iterator
 
-from ..conditions import Edge, Sample
+from ..conditions import Edge
 from ..signals import is_coloured, colours, parts, signal
 from ..sources import ColumnSource, TaskSource
 from ..spelling import did_you_mean
@@ -14,6 +13,7 @@ from ..timestamps import Stamps
 from ..units import UNITS, unit_of
 from .base import Reader, Stamped
 from .btf import Waiting, task_sources
+from .samples import SampledColumn
 
 #: What stands in brackets at the end of a column's head.
 _BRACKETS = re.compile(r".*[\[(<{]\s*(.*?)\s*[\])>}]")
@@ -21,8 +21,6 @@ _BRACKETS = re.compile(r".*[\[(<{]\s*(.*?)\s*[\])>}]")
 _NO_UNIT = ("time", "stamp", "timestamp", "date", "zeit", "uhrzeit", "zeitstempel", "abs", "absolute", "rel", "relative", "elapsed", "utc", "gmt",
             "local", "day", "start", "offset", "axis", "column")
 _TIME = re.compile(r"(?:time(?:stamp)?|date|uhrzeit|zeit(?:stempel)?)(?:$|[\W_])")
-#: A sampled number.
-_NUMBER = re.compile(r"[+-]?(?:[0-9]{1,40}(?:\.[0-9]{0,40})?|\.[0-9]{1,40})(?:[eE][+-]?[0-9]{1,2})?")
 
 
 def named_kinds(table: Table) -> dict[str, tuple[int, ...]]:
@@ -74,14 +72,14 @@ class Columns:
         self.waiting: Waiting = reader.state.setdefault("waiting", Waiting())
         if self.event is None and not self.samples and not self.tasks:
             raise self._lacks(policy.event_column or "event")
-        used = [self.time, self.event, *(place for place, _, _, _ in self.samples), *((self.task, self.action) if self.tasks else ())]
+        used = [self.time, self.event, *(column.place for column in self.samples), *((self.task, self.action) if self.tasks else ())]
         self.last = max(place for place in used if place is not None)
         reader.columns += [cell.strip() for cell in header]
         self._ask_for_columns()
 
     def _ask_for_columns(self) -> None:
         """An event of a row that can only come from columns that are not there is an error."""
-        asked = {kind for row in self.reader.table.rows for kind in row.kinds}
+        asked = {kind for row in self.reader.table.rows for kind in (*row.kinds, *(row.window or ()))}
         for event in self.reader.table.events if self.event is None else ():
             columns = [source.column for source in event.sources if isinstance(source, ColumnSource)]
             there = any(column.strip().lower() in self.names for column in columns)
@@ -122,14 +120,14 @@ class Columns:
             self.unknown_unit = word
         return unit
 
-    def _samples(self) -> Iterator[tuple[int, Edge, int, bool]]:
-        """The sampled columns that the table names: place, condition, signal, and whether it needs numbers."""
+    def _samples(self) -> Iterator[SampledColumn]:
+        """The sampled columns that the table names."""
         for event in self.reader.table.events:
             for source in event.sources:
                 if isinstance(source, ColumnSource) and source.column.strip().lower() in self.names:
                     place, number = self.names.index(source.column.strip().lower()), signal(event.kind, source.colour)
                     edge = self.reader.state.setdefault(f"edge {number} {source}", Edge(source.condition))
-                    yield place, edge, number, source.condition.word in ("rises above", "falls below")
+                    yield SampledColumn(place, number, source.condition, edge, self.comma, self.reader.policy.encoding)
 
     def _tasks(self) -> dict[tuple[str, str], tuple[int, ...]]:
         """The signals by the name and the action, whatever it is that has the name."""
@@ -148,10 +146,12 @@ class Columns:
             name, action = cells[self.task or 0].strip(), cells[self.action or 0].strip().lower()
             self.reader.target("", name)
             kinds += self.tasks.get((name, self.waiting.action((name,), action)), ())
-        for place, edge, one, numeric in self.samples:
-            sample = self._sample(cells[place].strip(), numeric, place, number)
-            if sample is not None and edge.take(sample) and one not in kinds:
-                kinds += (one,)
+        for column in self.samples:
+            sample = column.sample(cells[column.place].strip())
+            if column.numeric and isinstance(sample, str):
+                raise self.reader.error(number, f"expected a number in the column {self.header[column.place].strip()}, found {sample}")
+            if sample is not None and column.take(sample) and column.signal not in kinds:
+                kinds += (column.signal,)
         return Stamped(self._stamp(cells[self.time].strip(), number), kinds, number)
 
     def _stamp(self, text: str, number: int) -> int:
@@ -162,17 +162,6 @@ class Columns:
             raise self.reader.error(number, f"the column {self.header[self.time].strip()} says that its times are in {self.unknown_unit}, which is "
                                             f"no unit here: --time-unit with one of {', '.join(UNITS)} says what they are in")
         return self.reader.time(found[0], found[1] or self.unit, number)
-
-    def _sample(self, text: str, numeric: bool, place: int, number: int) -> Sample | None:
-        """A sampled value; ``None`` where the cell is empty, or says that there is no number."""
-        if not text or text.lower() == "nan":
-            return None
-        decimal = text.replace(",", ".") if self.comma else text
-        if _NUMBER.fullmatch(decimal):
-            return Decimal(decimal)
-        if numeric:
-            raise self.reader.error(number, f"expected a number in the column {self.header[place].strip()}, found {text}")
-        return text
 
 
 class SheetReader(Reader):

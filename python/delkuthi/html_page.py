@@ -244,19 +244,22 @@ def _evidence(table: Table, log: Pictured, row: RowOutcome, order: int, columns:
     drawn = "" if picture is None else fill("picture", drawing=Markup(svg(picture, style=False)))
     return fill("evidence", columns=columns, reason=row.reason or "", open=Markup(" open") if order < OPEN else "", picture=drawn,
                 lines=_raw_lines(log.lines.get(row.number, [])),
-                violations=_violations(table, log.violations.get(row.number, []), row.violations or 0))
+                violations=_violations(table, log.outcome, log.violations.get(row.number, []), row.violations or 0))
 
 
-def _violations(table: Table, found: list[Violation], count: int) -> Markup:
+def _violations(table: Table, outcome: Outcome, found: list[Violation], count: int) -> Markup:
     """Each instance of a row that is outside or missing; many are folded."""
     if not found:
         return Markup()
     size = _size(table)
 
+    def where(one: Violation) -> str:
+        return f"{outcome.word} {one.line}" if isinstance(outcome.files, str) else one.end_where or one.begin_where or ""
+
     def time(value: int | None) -> str:
         return "" if value is None else decimal(value, size)
 
-    lines = [fill("violation", number=number, what=one.what, where=one.end_where or one.begin_where or "", begin=time(one.begin), end=time(one.end),
+    lines = [fill("violation", number=number, what=one.what, where=where(one), begin=time(one.begin), end=time(one.end),
                   value=time(one.value), by=time(one.by), due=time(one.due)) for number, one in enumerate(found, 1)]
     more = fill("violations_more", count=count - len(found)) if count > len(found) else Markup()
     return fill("violations", count=_plain(number_of(count, "violation")), unit=_unit(table), lines=lines, more=more,
@@ -307,7 +310,7 @@ def _choices(number: int, picture: Scene, outcome: Outcome) -> Iterator[Markup]:
 
 def _provenance(made: Provenance) -> Markup:
     """When and by what the page was made, and of which files."""
-    files = [fill("provenance_file", what=file.what, name=file.name, size="not read" if file.size is None else f"{file.size} bytes",
-                  digest=file.digest or "none") for file in made.files]
+    files = [fill("provenance_unread", what=file.what, name=file.name) if file.size is None or file.digest is None
+             else fill("provenance_file", what=file.what, name=file.name, size=file.size, digest=file.digest) for file in made.files]
     return fill("provenance", date=made.date, command=made.command, files=files, versions=made.versions,
                 notes=[fill("provenance_note", name=name, value=value) for name, value in made.notes])

@@ -23,7 +23,8 @@ abbrev askedOf : RowAsked → ℕ → Asked
 askedOf found late = record { event = found .event; lower = found .lower; upper = found .upper; late = late }
 
 module _ {newest : ℕ} (bytes recording : List ℕ) (i late : ℕ) (rows : List Constraint) (read : ReadsTableUpTo newest bytes (table-of rows))
-    (count : ℕ) (c : Constraint) (is : RowIs count i c rows) (found : RowAsked) (finds : Finds count i c found) (passed : Passed) (passes : PassesStamps recording (askedOf found late) passed) where
+    (count : ℕ) (c : Constraint) (is : RowIs count i c rows) (found : RowAsked) (finds : Finds count i c found) (passed : Passed) (passes :
+    PassesStamps recording (askedOf found late) passed) where
   pub answer-recording : 0 < passed .number → AnswersStampsUpTo newest bytes recording i late (StampedAnswer.Refused (passed .number) (passed .place))
   answer-recording h = no-recording rows (passed .number) (passed .place) read (passes .refused h)
 

@@ -5,7 +5,7 @@ pub use Rattle.constraint.proofs.History.{Accepts, Valid, clock-close, closed-c
 pub use Rattle.constraint.proofs.History.{valid-more, valid-none}
 pub use Rattle.constraint.proofs.Judged.{failed, judged-all, judged-no, judged-none, judged-once, judged-yes, never, passed}
 pub use Rattle.constraint.proofs.Library.{Bool, List, [], _&&_, _++_, _+_, _-_, _<_, _∙_, _∷_, _≡_, _≤_, ap, arith, by-cases, cond, decLt, eq-eqb}
-pub use Rattle.constraint.proofs.Library.{eqb, eqb-false, eqb-true, ext-getD, false, getD, getD-take, getElem?, inl, inr, leb, length, length-append}
+pub use Rattle.constraint.proofs.Library.{eqb, eqb-false, eqb-true, ext-getD, false, getD-take, getElem?, inl, inr, leb, length, length-append}
 pub use Rattle.constraint.proofs.Library.{length-take, max, min, ne-eqb, needs, now, refl, some, subst, suc, sym, take, true, zero, ℕ, ⊎-elim}
 pub use Rattle.constraint.proofs.Lists.{Each, at-left, at-next, both, rising-at, split}
 pub use Rattle.constraint.proofs.{Runs.accepts-taken, Runs.kept-exactly, Types.numbers-read}
@@ -32,7 +32,7 @@ pub use Rattle.row.proofs.Exact.{Sound}
 pub use Rattle.stamps.specs.Machine.{Finds, PassesStamps, callAfter, firstStamp, nextHigh, nextLow, noStamps}
 pub use Rattle.stamps.specs.{declared.Asked.Asked, declared.Passed.Passed, declared.RowAsked.RowAsked, declared.Stamps.Stamps}
 pub use Rattle.table.proofs.{AcceptedRows.read-accepted, Once.reads-once}
-pub use Rattle.table.specs.{Scan.Counted, Scan.RowIs, Scan.Says, declared.ReadAnswer.ReadAnswer}
+pub use Rattle.table.specs.{Scan.Counted, Scan.RowIs}
 unfoldable pub use Rattle.constraint.specs.{Accepted.InRange, Accepted.KindsSuit, Meets.Meets, Meets.MeetsRepeat, Meets.SpansApart}
 unfoldable pub use Rattle.constraint.specs.{Recording.recordQuestions, Run.Room, Run.questions, Steps.times, Types.rowRead}
 unfoldable pub use Rattle.stamps.specs.Machine.{closeVerdict, laterStamp, stampAfter, stampsVerdict}

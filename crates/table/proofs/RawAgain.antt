@@ -2,11 +2,11 @@
 -- bytes is written as the table that it was.
 use Rattle.table.proofs.Names.{AcceptedIn, Bytes, Constraint, Judged, KnownAt, List, Question, RawRows, ReadsTableUpTo, Refused, ShapeFits}
 use Rattle.table.proofs.Names.{StandsFor, Taken, WriteAnswer, Writes, WritesRaw, [], _*_, _++_, _+_, _<_, _∙_, _∷_, _≡_, _≤_, add-zero}
-use Rattle.table.proofs.Names.{all-read, ap, arith, at, drop, ext-getD, filler, getD, getD-drop, getD-take, getElem?, judged-all, judged-later}
+use Rattle.table.proofs.Names.{all-read, ap, arith, at, drop, ext-getD, filler, getD, getD-drop, getD-take, judged-all, judged-later}
 use Rattle.table.proofs.Names.{judged-none, judged-once, judged-parts, judged-yes, lastType, length, length-take, length-take-le, lengthOf}
-use Rattle.table.proofs.Names.{never, rawBody, rawSize, refl, row-accepted, row-fits, rowLimit, rowQuestionsIn, rows-room, rows-then}
-use Rattle.table.proofs.Names.{rowsQuestions, some, stopped-at, subst, suc, sym, table-of, take, take-all, take-append-drop, takesCount}
-use Rattle.table.proofs.Names.{typeOf, zero, ℕ}
+use Rattle.table.proofs.Names.{never, rawBody, rawSize, row-accepted, row-fits, rowLimit, rowQuestionsIn, rows-room, rows-then}
+use Rattle.table.proofs.Names.{rowsQuestions, stopped-at, subst, sym, table-of, take, take-all, take-append-drop, takesCount}
+use Rattle.table.proofs.Names.{typeOf, ℕ}
 use Rattle.table.proofs.{AcceptedRows.read-accepted, Again.rows-write, Scanning.row-there, Standing.stands-once}
 
 -- ---- the rows of some raw bytes

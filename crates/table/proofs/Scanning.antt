@@ -1,7 +1,8 @@
 -- A table is read again row by row: a body stands for one row only, so the row at each place is the one that was read there.
 use Rattle.table.proofs.Names.{Constraint, Counted, List, Placed, PlacedAt, ReadAnswer, ReadsAt, ReadsRows, ReadsTableUpTo, RowRead, Says}
 use Rattle.table.proofs.Names.{TableRead, VersionUpTo, [], _++_, _+_, _<_, _∙_, _∷_, _≡_, _≤_, add-one, ap, arith, at, bodyAt, drop, drop-cons}
-use Rattle.table.proofs.Names.{getD, getElem?, length, length-append, never, no-more, refl, row-refused, row-taken, rowLimit, subst, subst₂, suc, sym}
+use Rattle.table.proofs.Names.{getD, getElem?, length, length-append, never, no-more, refl, row-refused, row-taken, rowLimit, subst, subst₂}
+use Rattle.table.proofs.Names.{suc, sym}
 use Rattle.table.proofs.Names.{some, table-of, table-refused, version-taken, zero, ℕ}
 use Rattle.table.proofs.Progress.{RowsUpTo, rows-end, rows-more, rows-refused, rows-start}
 use Rattle.table.proofs.{AcceptedRows.rows-accepted, Once.reads-once, Places.place-taken, Standing.stands-once}

@@ -12,5 +12,6 @@ pub mod RecordNumbers
 pub mod Refusals
 pub mod JoinNumbers
 pub mod StampWords
+pub mod Decoded
 pub mod Editions
 pub mod RoundTrip

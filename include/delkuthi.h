@@ -27,13 +27,13 @@
  *   - A broken row stays broken, at the same step, unless a step up to that
  *     one is withdrawn. After a withdrawal every row reads as if the withdrawn
  *     step had never been taken.
- * A machine has checked these statements. For the calls on a monitor the
- * theorem is lent-is-exact. It speaks of memory in which delkuthi_fresh has
- * accepted a table, of any list of events, ticks, closes and withdrawals, and
- * of what delkuthi_row_verdict, delkuthi_row_step, delkuthi_rows,
- * delkuthi_page, delkuthi_report_of and delkuthi_report_on answer after it.
- * That a broken row stays broken is the theorem broken-stays, about the state
- * machine behind the calls. The rest is in the contract of each call.
+ * A machine has checked these statements. They are one theorem,
+ * session-is-exact. It speaks of any memory and any list of the calls that
+ * change it: delkuthi_fresh, events, ticks, closes, withdrawals and
+ * delkuthi_report_on, with any arguments, in both forms. It says what each of
+ * these calls answers, and what each of the thirteen calls that only read a
+ * monitor answers after the list. That no call leaves its memory and that
+ * every call ends is in the contract of each call.
  * DATASHEET.md lists the promises with their theorems, the assumptions, and
  * what is not promised. CONTRACT.md says everything in words, in numbered
  * clauses, with examples by which you can check a verdict by hand.

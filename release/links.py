@@ -2,7 +2,7 @@
 """The links of the documents that lead to definitions, theorems and functions are made from their names.
 
     links.py            says which names are declared nowhere or in several places, and which lists are not up to date; status 1 where some are
-    links.py --write    writes the lists of links at the documents' ends anew
+    links.py --write    writes the lists of links at the documents' ends
 
 A document writes [`name`], and its link is the file that declares it. Where there are several: in a table of four columns a definition is looked for
 in specs, a theorem in proofs, a function in src, and elsewhere the name's form says which it is; what is public comes first. A qualifier chooses:

@@ -6,6 +6,7 @@ from collections import Counter, deque
 from contextlib import AbstractContextManager, contextmanager, nullcontext
 from dataclasses import asdict, dataclass, field, replace
 from datetime import datetime, timezone
+from functools import partial
 from itertools import islice
 from operator import itemgetter
 from typing import Callable, Iterable, Iterator, Sequence
@@ -13,7 +14,8 @@ from typing import Callable, Iterable, Iterator, Sequence
 from .batches import Codes, NeedsSlowPath
 from .library import Refused
 from .logs import Counts, Log, LogError, Policy, Step
-from .judge import Judging, RowVerdict, ScopedMeasuring, StepRefused
+from .instances import widened
+from .judge import Judging, RowVerdict, ScopedMeasuring, StepRefused, together
 from .measure import Measure, Measuring
 from .measured import Described, described
 from .explain import Explanation, reasons_of
@@ -261,7 +263,8 @@ def check(table: Table, path: str | Sequence[str], policy: Policy = Policy(), pr
     outcome.started = datetime.now(timezone.utc).strftime("%Y-%m-%dT%H:%M:%S")
     partly = policy.scope.cut_begin or policy.scope.cut_end or any(row.window is not None for row in table.rows)
     try:
-        found = (_check_scoped if partly else _check_whole)(table, log, outcome, progress or _without, measured, violations)
+        how = partial(_check_scoped if partly else _check_whole, outcome=outcome, bar=progress or _without, measured=measured, violations=violations)
+        log, found = _told_apart(table, log, how)
         _fill(table, log, outcome, found)
     except LogError as error:
         outcome.error = str(error)
@@ -272,6 +275,33 @@ def check(table: Table, path: str | Sequence[str], policy: Policy = Policy(), pr
         outcome.refused = refused.refusal.number
     outcome.seconds = clock.perf_counter() - started
     return outcome
+
+
+def _told_apart(table: Table, log: Log, how: Callable[[Table, Log], _Checked]) -> tuple[Log, _Checked]:
+    """What a log gives; where runs overlap it is read again, with a row for each that runs at once."""
+    asked, at_once = table, dict[tuple[str, str], int]()
+    while True:
+        error, found = None, None
+        try:
+            found = how(asked, log)
+        except (LogError, StepRefused) as wrong:
+            error = wrong
+        more = {target: max(count, at_once.get(target, 1)) for target, count in log.reader.at_once.items()}
+        wide = widened(table, more) if more != at_once else None
+        if wide is None:
+            if found is None:
+                raise error or AssertionError
+            return log, found if asked is table else _narrowed(table, asked, found)
+        asked, at_once, log = wide, more, Log(log.files, wide, log.policy)
+
+
+def _narrowed(table: Table, wide: Table, found: _Checked) -> _Checked:
+    """What the rows of a table read whose runs that overlap were told apart in another one."""
+    words = [*found.words[: len(table.rows)]]
+    for row, word in zip(wide.rows, found.words):
+        if row.same_as is not None and word == "broken":
+            words[row.same_as] = word
+    return replace(found, verdicts=together(found.verdicts, wide.rows)[: len(words)], words=words, page=None)
 
 
 def _check_whole(table: Table, log: Log, outcome: Outcome, bar: Progress, measured: bool, violations: str | None) -> _Checked:
@@ -335,6 +365,8 @@ def _spooled(table: Table, log: Log, outcome: Outcome, measuring: Measuring | Sc
     spool = Spool(path, log.path, outcome.time_format.stamp, log.placed, log.reader.number)
     for number, measure in enumerate(measuring.measures):
         row = table.rows[number]
+        if row.same_as is not None:
+            continue
         measure.note = spool.row(number, row.name or f"row {number}", row.type.name, measure)
     try:
         yield

@@ -249,11 +249,19 @@ class HiddenPoints(RowMeasuring):
         raise NotImplementedError
 
 
+def share_measures(table: Table, rows: list[RowMeasuring]) -> None:
+    """Gives a row that is part of another one the measure of that."""
+    for row, measuring in zip(table.rows, rows):
+        if row.same_as is not None:
+            measuring.measure = rows[row.same_as].measure
+
+
 class Measuring:
     """Measures the rows of a table over the steps of a log: :meth:`take` each event, then :meth:`end`."""
 
     def __init__(self, table: Table):
         self._rows = [row.type.measuring(row) for row in table.rows]
+        share_measures(table, self._rows)
         self._takers: dict[int | None, list[Taker]] = {}
         for row in self._rows:
             for number, taker in row.takers().items():

@@ -402,3 +402,39 @@ def test_instances_by_brute_force(tmp_path):
         measured = found.rows[0].measured
         assert (measured["least"], measured["greatest"], measured["outside"]) == (min(runs), max(runs), sum(not 2 <= run <= 6 for run in runs))
     assert 5 < kept < 110
+
+
+# what other programs write
+
+PAYLOADS = [random.Random(9).randbytes(length) for length in range(65)]
+BY_LENGTH = Table.from_text("unit us\n" + "".join(
+    f"event e{length} from can 0x{0x100 + length:X}{f' data {data.hex()}' if data else ''}\n"
+    f"event more{length} from can 0x{0x100 + length:X} data {data.hex()}..\n" for length, data in enumerate(PAYLOADS)))
+
+
+@pytest.mark.parametrize("ending, longest", [("asc", 64), ("blf", 64), ("log", 64), ("csv", 64), ("db", 64), ("trc", 8)])
+def test_every_payload_that_python_can_writes(tmp_path, ending, longest):
+    """Frames of 0 to 64 bytes, standard and extended, on two channels: each is read with just its data. Its TRC has no CAN FD."""
+    path = tmp_path / f"a.{ending}"
+    with can.Logger(str(path)) as writer:
+        for length in range(longest + 1):
+            for extended in (False, True):
+                writer(can.Message(timestamp=1.5e9 + length, arbitration_id=0x100 + length, is_extended_id=extended, data=PAYLOADS[length],
+                                   is_fd=length > 8, channel=length % 2))
+    assert len(BY_LENGTH.rows) == 0
+    found = [[BY_LENGTH.event_name(kind) for kind in kinds] for _, kinds, _ in read(path, table=BY_LENGTH, round=True)]
+    assert found == [names for length in range(longest + 1) for names in ([f"e{length}"], [])]
+    log = Log(path, BY_LENGTH, Policy(round=True, equal="later"))
+    steps = [step.signal for step in log.steps() if step.signal is not None]
+    assert [BY_LENGTH.event_name(number) for number in steps] == [f"e{length}" for length in range(longest + 1)]
+    assert ending == "csv" or log.buses == {"asc": {"1", "2"}, "blf": {"1", "2"}, "trc": {"1", "2"}}.get(ending, log.buses)
+
+
+@pytest.mark.parametrize("ending", ["asc", "blf", "log", "csv", "db"])
+def test_remote_and_error_frames_that_python_can_writes(tmp_path, ending):
+    """They move the clock and are no events."""
+    path, table = tmp_path / f"a.{ending}", Table.from_text("unit us\nevent a from can 0x100\n")
+    with can.Logger(str(path)) as writer:
+        for number, more in enumerate([{}, {"is_remote_frame": True, "dlc": 4}, {"is_error_frame": True}, {"data": b"\1"}]):
+            writer(can.Message(timestamp=float(number), arbitration_id=0x100, is_extended_id=False, channel=0, **more))
+    assert [kinds for _, kinds, _ in read(path, table=table, round=True)] == [(0,), (), (), (0,)]

@@ -21,7 +21,7 @@ def warnings(table: Table, log: Log, seen: Iterable[int | None]) -> list[str]:
             continue  # another lane of the same event
         why = _why(named[kind], log) if kind in named else ""
         lines.append(f"{log.path}: the log has no {table.event_name(kind)}{why and f': {why}'}")
-    return lines
+    return list(dict.fromkeys(lines))
 
 
 def _why(event: Event, log: Log) -> str:

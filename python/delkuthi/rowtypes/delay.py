@@ -2,12 +2,13 @@
 from __future__ import annotations
 
 from bisect import bisect_left, bisect_right
-from typing import TYPE_CHECKING, Iterator
+from operator import sub
+from typing import TYPE_CHECKING, Callable, Iterator, Mapping
 
 from ..fields import RowType
 from ..fifo import Fifo
 from ..library import NO_LIMIT
-from ..measure import Moment, RowMeasuring, Taker, margin_of
+from ..measure import Moment, RowMeasuring, Taker, in_turn, margin_of
 from ..reasons import Blamed, Case, Reason, Times, Window, unanswered, until
 
 if TYPE_CHECKING:
@@ -80,6 +81,23 @@ class Delays(RowMeasuring):
             source = self.waiting.pop()
             value = time - source[0]
             self.measure.add(value, time, place, margin_of(value, self.lower, self.upper), source)
+
+    def take_all(self, times: Mapping[int, list[int]], place: Callable[[int, int], int]) -> bool:
+        source, target = self.values["source"], self.values["target"]
+        sources, targets = times.get(source, []), times.get(target, [])
+        given = in_turn(self.waiting, sources, targets, self.target[0])
+        if given is None:
+            return False
+        values = list(map(sub, targets, given))
+        if values and not self.measure.add_all(values, self.lower or 0, self.upper, targets, lambda at: place(target, at)):
+            return False
+        if targets and self.waiting:
+            self.waiting.pop()
+        if targets:
+            self.target = targets[-1], place(target, len(targets) - 1)
+        if len(given) > len(targets) and sources:
+            self.waiting.append(sources[-1], place(source, len(sources) - 1))
+        return True
 
     def end(self, clock: int, closed: bool) -> None:
         while self.waiting and (closed or self._over(clock)):

@@ -75,6 +75,13 @@ def shown(time: int, unit: str | None) -> str:
         name = "us" if nanoseconds >= 10**3 or unit != "ns" else "ns"
     else:
         name = "ms" if nanoseconds < 10**10 else "s"
-    whole, part = divmod(nanoseconds, UNITS[name])
-    digits = f"{part:0{len(str(UNITS[name])) - 1}d}".rstrip("0") if part else ""
-    return f"{whole}.{digits} {name}" if digits else f"{whole} {name}"
+    return f"{decimal(nanoseconds, UNITS[name])} {name}"
+
+
+def decimal(time: int, size: int) -> str:
+    """A time in a unit of which each has ``size``, a power of ten: with all its digits, and no unit behind it."""
+    if time < 0:
+        return f"-{decimal(-time, size)}"
+    whole, part = divmod(time, size)
+    digits = f"{part:0{len(str(size)) - 1}d}".rstrip("0") if part else ""
+    return f"{whole}.{digits}" if digits else str(whole)

@@ -28,6 +28,7 @@ def test_a_wheel_is_all_that_is_needed(tmp_path):
     assert f"delkuthi-{__version__}-py3-none-linux_" in wheel
     with zipfile.ZipFile(ROOT / wheel) as found:
         assert any(name.startswith("delkuthi/libdelkuthi.so.") for name in found.namelist())
+        assert {f"delkuthi/page/page.{ending}" for ending in ("html", "css", "js")} <= set(found.namelist())
         assert "delkuthi/readers/btf.py" in found.namelist() and not any("__pycache__" in name for name in found.namelist())
         assert found.read(f"delkuthi-{__version__}.dist-info/LICENSE") == (ROOT / "LICENSE").read_bytes()
         assert b"License-File: LICENSE\n" in found.read(f"delkuthi-{__version__}.dist-info/METADATA")
@@ -39,6 +40,9 @@ def test_a_wheel_is_all_that_is_needed(tmp_path):
     shared = tmp_path / "home/share/delkuthi/examples"
     done = subprocess.run([bin_folder / "delkuthi", "check", "bench/samples.txt", "bench/samples.csv"], cwd=shared, env=clean, capture_output=True, text=True)
     assert done.returncode == 1 and "broken" in done.stdout, done.stderr
+    page = tmp_path / "drive.html"
+    done = subprocess.run([bin_folder / "delkuthi", "check", "drive.txt", "drive.csv", "--html", page], cwd=EXAMPLES, env=clean, capture_output=True)
+    assert done.returncode == 1 and "3 of 13 rows broken" in page.read_text(encoding="utf-8")
     where = "from delkuthi import library as l; print(l.library()._name)"
     done = subprocess.run([bin_folder / "python", "-c", where], env=clean, capture_output=True, text=True)
     assert done.stdout.startswith(str(tmp_path / "home")), done.stdout

@@ -33,6 +33,11 @@ class SeveralReader(Reader):
     def error(self, place: int, message: str) -> LogError:
         return self._readers[place >> _BITS].error(self.number(place), message)
 
+    def text_lines(self) -> Iterator[tuple[int, str]]:
+        for number, one in self._each():
+            for place, text in one.text_lines() if one.word == "line" else ():
+                yield place + number, text
+
     def lines(self) -> Iterator[Stamped]:
         for number, one in self._each():
             for time, kinds, place in one.checked_lines():

@@ -12,6 +12,7 @@ from .library import LAST_TIME, Refused
 from .logs import Log, LogError, Step
 from .monitor import JoinRefused, Monitor, join, stamps
 from .options import policy, read_table, refuse_windows, time_of
+from .readers.recordings import RecordingReader
 from .recording import Record, recording_bytes
 from .shrink import shortest, stretch_to
 from .table import Table
@@ -58,12 +59,18 @@ def join_logs(given: argparse.Namespace) -> int:
     logs = [Log(path, table, how) for path in given.log]
     steps = [list(accepted(log, log.steps())) for log in logs]
     start = min(log.time_format.stamp(log.time_format.start) for log in logs) if given.from_zero else 0
-    first, second = (recording_bytes(_recorded(log, some, start)) for log, some in zip(logs, steps))
+    first, second = (_joined_part(log, some, start) for log, some in zip(logs, steps))
     try:
         write(given.output, join(first, second))
     except JoinRefused as refusal:
         raise LogError(given.log[refusal.second], "", _common(table, refusal, second)) from None
     return 0
+
+
+def _joined_part(log: Log, steps: list[Step], start: int) -> bytes:
+    """A log as the recording that is joined; a recording keeps its version."""
+    version = log.reader.version if isinstance(log.reader, RecordingReader) else 1
+    return recording_bytes(_recorded(log, steps, start), version)
 
 
 def _common(table: Table, refusal: JoinRefused, second: bytes) -> str:

@@ -7,7 +7,8 @@ from __future__ import annotations
 
 from dataclasses import dataclass
 from functools import partial
-from itertools import islice
+from itertools import groupby, islice
+from operator import itemgetter
 from pathlib import Path
 from typing import Callable, Generator, Iterable, Iterator, NamedTuple, Sequence
 
@@ -53,8 +54,8 @@ class Counts:
     #: Lines that say nothing, and stamps that were rounded.
     skipped: int = 0
     rounded: int = 0
-    #: Lines of a scheduler trace about something that no table can name; they move the clock.
-    passed: int = 0
+    #: Lines about something that no table can name, such as the load of a bus; they move the clock.
+    other_lines: int = 0
 
 
 class Log:
@@ -181,7 +182,7 @@ class Log:
     def _done(self) -> None:
         """The log is at its end."""
         counts, read = self.counts, self.reader
-        counts.skipped, counts.rounded, counts.passed = read.skipped, read.rounded, read.passed
+        counts.skipped, counts.rounded, counts.other_lines = read.skipped, read.rounded, read.other_lines
 
     def _begun(self) -> Ordering:
         """The log from its beginning."""
@@ -267,32 +268,32 @@ class Ordering:
         times = [time + add for time in batch.times] if add else batch.times
         if not rising(times, self.clock):
             raise NeedsSlowPath
-        self._passed(batch, times, batch.codes, codes)
+        self._advance(batch, times, batch.codes, codes)
         numbers = map(codes.signals.__getitem__, batch.codes)
-        return map(_STEP, zip(numbers, times, range(batch.place, batch.place + len(times))))
+        return map(_STEP, zip(numbers, times, batch.places or range(batch.place, batch.place + len(times))))
 
-    def _passed(self, batch: Batch, times: Sequence[int], events: bytes, codes: Codes) -> None:
+    def _advance(self, batch: Batch, times: Sequence[int], events: bytes, codes: Codes) -> None:
         """The state after the steps of a batch."""
         self.stamp = batch.times[-1] + (self.add or 0)
-        self.counts.lines += len(batch.codes)
+        self.counts.lines += batch.lines
         self.counts.events += len(events) - events.count(OTHER)
-        self.place = batch.place + len(batch.codes) - 1
+        self.place = batch.place + batch.lines - 1
         if times:
             self.clock = self.stamp
             self.last.update((codes.numbers[code], time) for code, time in ends(times, events))
 
     def chunk(self, batch: Batch, codes: Codes) -> Chunk:
         """The steps of a batch; :class:`NeedsSlowPath` where the policy on equal stamps may have something to say."""
-        first, events, place = batch.times[0], batch.codes, batch.place + len(batch.codes) - 1
+        first, events, place = batch.times[0], batch.codes, batch.place + batch.lines - 1
         add = self._start(first) if self.add is None else self.add
         times = [time + add for time in batch.times] if add else batch.times
         # Where each line is an event that the one monitor takes, the library itself asks whether they are in order.
-        if (OTHER in events or not self.log.table.whole) and not rising(times, self.clock):
+        if (OTHER in events or not self.log.table.single) and not rising(times, self.clock):
             if times[0] < self.stamp or times[0] < self.clock:
                 raise NeedsSlowPath
-            place = batch.place + last_kept(times, events)
+            place = batch.place_of(last_kept(times, events))
             times, events = level(times, events, self.clock, {codes.of[kind] for kind, time in self.last.items() if time == self.clock})
-        self._passed(batch, times, events, codes)
+        self._advance(batch, times, events, codes)
         return Chunk(times, events, Step(None, self.clock, place))
 
     def end(self) -> Iterator[Step]:
@@ -309,8 +310,9 @@ class Ordering:
 
 def batch_lines(batch: Batch, codes: Codes) -> Iterator[Stamped]:
     """The lines of a batch, one by one."""
-    for place, (time, code) in enumerate(zip(batch.times, batch.codes), batch.place):
-        yield Stamped(time, () if code == OTHER else (codes.numbers[code],), place)
+    entries = zip(batch.places or range(batch.place, batch.place + len(batch.codes)), batch.times, batch.codes)
+    for (place, time), found in groupby(entries, itemgetter(0, 1)):
+        yield Stamped(time, tuple(codes.numbers[code] for _, _, code in found if code != OTHER), place)
 
 
 def _chunks(steps: Iterable[Step], codes: Codes) -> Iterator[Chunk]:

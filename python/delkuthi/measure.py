@@ -28,29 +28,35 @@ class Histogram:
 
     width: int = 1
     counts: dict[int, int] = field(default_factory=dict)
+    #: The bins that have a value outside what is asked.
+    outside: set[int] = field(default_factory=set)
 
-    def add(self, value: int) -> None:
-        """One more value."""
+    def add(self, value: int, outside: bool = False) -> None:
+        """One more value, which may be outside what is asked."""
         place = value // self.width
         self.counts[place] = self.counts.get(place, 0) + 1
+        if outside:
+            self.outside.add(place)
         while len(self.counts) > BINS:
             self.width *= 2
             wider: dict[int, int] = {}
             for place, count in self.counts.items():
                 wider[place // 2] = wider.get(place // 2, 0) + count
-            self.counts = wider
+            self.counts, self.outside = wider, {place // 2 for place in self.outside}
 
-    def bars(self, most: int = 32) -> tuple[int, int, list[int]]:
-        """At most so many bars side by side: where the first begins, how wide each is, and their counts."""
+    def bars(self, most: int = 32) -> tuple[int, int, list[int], list[bool]]:
+        """At most so many bars side by side: where the first begins, how wide each is, their counts, and whether a value of each is
+        outside."""
         if not self.counts:
-            return 0, self.width, []
+            return 0, self.width, [], []
         first, last, factor = min(self.counts), max(self.counts), 1
         while last // factor - first // factor >= most:
             factor *= 2
         bars = [0] * (last // factor - first // factor + 1)
         for place, count in self.counts.items():
             bars[place // factor - first // factor] += count
-        return first // factor * factor * self.width, factor * self.width, bars
+        outside = {place // factor - first // factor for place in self.outside}
+        return first // factor * factor * self.width, factor * self.width, bars, [bar in outside for bar in range(len(bars))]
 
 
 @dataclass
@@ -129,7 +135,7 @@ class Measure:
     def add(self, value: int, time: int, place: int, margin: int | None, begin: Moment | None = None, what: str | None = None) -> None:
         """One instance with a value, which ends at this time and place; it is outside where its margin is negative."""
         self.judged += 1
-        self.value(value)
+        self.value(value, margin is not None and margin < 0)
         self.compare(value, time, place, margin, begin, what)
 
     def compare(self, value: int, time: int, place: int, margin: int | None, begin: Moment | None, what: str | None = None) -> None:
@@ -145,13 +151,13 @@ class Measure:
         """On which side of its limits a value is."""
         return f"{self.quantity} too {'short' if self.lower is not None and value < self.lower else 'long'}"
 
-    def value(self, value: int) -> None:
-        """A value for the statistics alone."""
+    def value(self, value: int, outside: bool) -> None:
+        """A value for the statistics."""
         self.measured += 1
         self.total += value
         self.least = value if self.least is None else min(self.least, value)
         self.greatest = value if self.greatest is None else max(self.greatest, value)
-        self.histogram.add(value)
+        self.histogram.add(value, outside)
 
     def miss(self, moment: Moment, what: str, due: int | None = None, now: int | None = None) -> None:
         """One instance that has no partner, or is out of order, by the event of this moment; ``now`` is when that is certain."""

@@ -7,7 +7,7 @@ from typing import Iterator
 from .library import FIRST_COLOURED, LAST_KIND
 from .signals import FURTHER, is_coloured
 from .sources import TaskSource
-from .table import Event, Executed, Row
+from .rows import Event, Executed, Row
 
 
 class TooMany(Exception):

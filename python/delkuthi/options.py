@@ -8,6 +8,7 @@ import re
 from typing import Iterable
 
 from .logs import LogError, Policy
+from .readers.base import ending
 from .scope import Edge, Scope
 from .table import Table
 from .units import NUMBER, UNITS, NotWhole, in_unit
@@ -43,6 +44,7 @@ def add_options(parser: argparse.ArgumentParser) -> None:
                        help="begin at an event, at a stamp such as 300 ms, or with +300 ms so long after the first line")
     group.add_argument("--to", metavar="EDGE", dest="end", help="end at an event, at a stamp, or so long after the first line")
     group.add_argument("--time-column", metavar="NAME", help="CSV: the column of the times (time, time_ms, ..)")
+    group.add_argument("--time-unit", choices=list(UNITS), help="CSV: the unit of the times, where the column's head does not say it")
     group.add_argument("--event-column", metavar="NAME", help="CSV: the column of the events (event)")
     group.add_argument("--task-column", metavar="NAME", help="CSV: the column of the tasks (task)")
     group.add_argument("--action-column", metavar="NAME", help="CSV: the column of what happens to them (action)")
@@ -76,7 +78,7 @@ def _encoding(text: str) -> str:
 
 
 def _format(text: str) -> str:
-    return f".{text.lower().lstrip('.')}"
+    return ending(f"log.{text.lower().lstrip('.')}")
 
 
 def read_table(given: argparse.Namespace, recorded: bool = False) -> Table:
@@ -102,7 +104,8 @@ def policy(given: argparse.Namespace, table: Table) -> Policy:
         raise LogError("--no-close", "", f"not with --{edges}")
     scope = Scope(edge("--from", given.begin, table), edge("--to", given.end, table), edges)
     return Policy(given.equal, given.unsorted, given.round, given.from_zero, given.as_stamped, until, not given.no_close,
-                  given.time_column, given.event_column, given.task_column, given.action_column, given.encoding, given.format, scope)
+                  given.time_column, given.event_column, given.task_column, given.action_column, given.encoding, given.format, scope,
+                  given.time_unit)
 
 
 def edge(what: str, text: str | None, table: Table) -> Edge | None:

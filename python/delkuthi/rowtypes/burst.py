@@ -1,7 +1,7 @@
 """Burst: at most maximum events in each length."""
 from __future__ import annotations
 
-from typing import TYPE_CHECKING, Iterator
+from typing import TYPE_CHECKING, Callable, Iterator, Mapping
 
 from ..fields import RowType
 from ..measure import margin_of
@@ -50,6 +50,9 @@ class Bursts(Spans):
 
     def limits(self) -> tuple[int | None, int | None]:
         return self.values["length"], None
+
+    def take_all(self, times: Mapping[int, list[int]], place: Callable[[int, int], int]) -> bool:
+        return False
 
     def take(self, time: int, place: int) -> None:
         if self.last:

@@ -2,7 +2,7 @@
 from __future__ import annotations
 
 from collections import Counter
-from typing import TYPE_CHECKING, Iterator
+from typing import TYPE_CHECKING, Callable, Iterator, Mapping
 
 from ..beginnings import Beginning
 from ..fields import RowType
@@ -55,6 +55,9 @@ class Lags(Pairs):
 
     def margin(self, value: int, lower: int) -> int | None:
         return value
+
+    def take_all(self, times: Mapping[int, list[int]], place: Callable[[int, int], int]) -> bool:
+        return False
 
 
 TYPE = RowType(

@@ -2,7 +2,8 @@
 from __future__ import annotations
 
 from collections import deque
-from typing import TYPE_CHECKING, Iterator
+from operator import sub
+from typing import TYPE_CHECKING, Callable, Iterator, Mapping
 
 from ..fields import RowType
 from ..library import NO_LIMIT
@@ -61,6 +62,17 @@ class Spans(RowMeasuring):
             value = time - self.last[0][0]
             self.measure.add(value, time, place, margin_of(value, self.lower or 0, self.upper), self.last[0])
         self.last.append((time, place))
+
+    def take_all(self, times: Mapping[int, list[int]], place: Callable[[int, int], int]) -> bool:
+        event, span = self.values["event"], self.span
+        given, before = times[event], [time for time, _ in self.last]
+        all_times, first = before + given, span - len(before)
+        values = list(map(sub, all_times[span:], all_times))
+        if values and not self.measure.add_all(values, self.lower or 0, self.upper, given[max(first, 0) :], lambda at: place(event, at + max(first, 0))):
+            return False
+        for at in range(max(len(given) - span, 0), len(given)):
+            self.last.append((given[at], place(event, at)))
+        return True
 
     def end(self, clock: int, closed: bool) -> None:
         if self.upper is not None and self.last and clock > self.last[0][0] + self.upper:

@@ -9,6 +9,7 @@ import hashlib
 import math
 import re
 from dataclasses import dataclass, field
+from itertools import islice
 from typing import Iterator, Sequence
 
 from .check import Outcome, RowOutcome
@@ -55,7 +56,8 @@ def pictured(table: Table, policy: Policy, outcome: Outcome) -> Pictured:
     if outcome.error is not None:
         return Pictured(outcome)
     log = Log(outcome.files, table, policy)
-    gathered = gather(table, log.steps(), outcome)
+    # A log that has grown since is read as far as before.
+    gathered = gather(table, islice(log.steps(), outcome.steps - outcome.closed), outcome)
     close_ups = {row.number: close_up(table, gathered, outcome, row) for row in outcome.broken}
     whole = None if gathered.whole else strip(table, gathered, outcome)
     return Pictured(outcome, whole, overview(table, gathered, outcome), close_ups, raw_lines(log, gathered, outcome), _by_row(outcome))
@@ -77,7 +79,7 @@ def as_html(table: Table, table_name: str, logs: Sequence[Pictured], made: Prove
     page = fill(
         "page", title=f"{_headline(outcomes)}: {_subject(table_name, outcomes)}", version=VERSION, date=made.date,
         notes=(fill("note", name=name, value=value) for name, value in made.notes),
-        style=Markup(file_text("page.css") + STYLE + "\n"), script=Markup(script[1:]),
+        style=joined([file_text("page.css"), Markup(STYLE + "\n"), *(_rules(number, log) for number, log in enumerate(logs, 1))]), script=Markup(script[1:]),
         script_hash=base64.b64encode(hashlib.sha256(script.encode()).digest()).decode(),
         headline=_header(table_name, outcomes), logs=[_log(table, number, log, len(logs) > 1) for number, log in enumerate(logs, 1)],
         provenance=_provenance(made))
@@ -289,10 +291,14 @@ def _pictures(number: int, log: Pictured) -> Markup:
     if picture is not None:
         heading = "The log" if log.strip is None else "The events around the first break" if log.outcome.broken else "The first events"
         drawing = Markup(svg(picture, style=False, links=links, legend=False))
-        rules = [Markup(f'.timeline:has([name="shaded{number}"]:is([value="{row}"],[value="all"]):checked) .row{row} {{ display: inline }}\n')
-                 for row in picture.shaded]
-        found.append(fill("timeline", heading=heading, drawing=drawing, rules=rules, choices=_choices(number, picture, log.outcome)))
+        found.append(fill("timeline", heading=heading, drawing=drawing, choices=_choices(number, picture, log.outcome)))
     return joined(found)
+
+
+def _rules(number: int, log: Pictured) -> Markup:
+    """The style by which a picture shows the stretches of the row that the reader chooses."""
+    chosen = '.timeline:has([name="shaded{0}"]:is([value="{1}"],[value="all"]):checked) .row{1} {{ display: inline }}\n'
+    return joined(Markup(chosen.format(number, row)) for row in (log.picture.shaded if log.picture is not None else ()))
 
 
 def _choices(number: int, picture: Scene, outcome: Outcome) -> Iterator[Markup]:

@@ -5,11 +5,12 @@ import hashlib
 import os
 import random
 import re
+from html import escape
 from html.parser import HTMLParser
 
 import openpyxl
 import pytest
-from hypothesis import given
+from hypothesis import given, settings
 from hypothesis import strategies as st
 
 from delkuthi import Table
@@ -20,10 +21,12 @@ from delkuthi.logs import Policy
 from delkuthi.measure import Histogram, measure
 from delkuthi.measured import described
 from delkuthi.provenance import provenance
+from delkuthi.recording import recording_bytes
 from delkuthi.scope import Scope
 from delkuthi.template import Markup, fill
 
 from conftest import EXAMPLES
+from strategies import played
 from test_examples import WHEN
 
 #: Elements that have no end.
@@ -264,6 +267,32 @@ def test_lines_of_several_files_and_of_recordings(tmp_path, command):
     assert command("record", "t.txt", "a.csv", "-o", "a.bin")[0] == 0
     page = page_of(SHORT, tmp_path / "a.bin")
     assert (3, "a at 10 ms", "named in the reason") in shown_lines(page) and (4, "no event of the table at 11 ms", "") in shown_lines(page)
+
+
+@given(played(), st.sampled_from(["", "cut"]))
+@settings(max_examples=60)
+def test_any_log_has_a_page(tmp_path, case, edges):
+    """Whole, with the evidence of each broken row: its reason and the line that broke it."""
+    table, steps = case
+    path, policy = tmp_path / "a.bin", Policy(scope=Scope(edges=edges))
+    path.write_bytes(recording_bytes(steps))
+    outcome = check(table, str(path), policy)
+    page = page_of(table, path, policy=policy, violations=str(tmp_path / "spool"))
+    text = seen_of(page).text
+    for row in outcome.broken:
+        beside = page.split(f'id="log1-row{row.number}"')[1].split("</tbody>")[0]
+        assert escape(row.reason) in beside and beside.count("broke the row") == (not row.by_close)
+    assert page.count('class="evidence"') == len(outcome.broken) and f"{len(table.rows)} row" in text or not table.rows
+
+
+def test_a_log_that_has_grown_since(tmp_path):
+    log = tmp_path / "a.csv"
+    log.write_text("time,event\n1,a\n2,b\n10,a\n")
+    outcome = check(SHORT, str(log))
+    with log.open("a") as file:
+        file.write("11,b\n12,a\n13,b\n")
+    found = pictured(SHORT, Policy(), outcome)
+    assert found.picture.lanes == [("a", [1, 10]), ("b", [2])] and [line.role for line in found.lines[0]].count("broke") == 0
 
 
 def test_long_lines_are_cut(tmp_path):

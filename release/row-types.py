@@ -46,12 +46,12 @@ def contract():
     bytes_each = listed(["A kind", "an n", *map(one, own), *others])
     lines = [f"| {t.number} | {t.name} | {', '.join(names(t, 'n (2, 3 or 4), n kinds'))} | {length(t)} | {t.edition} |\n" for t in TYPES]
     marked = listed([str(t.number) for t in having("limit")])
-    texts = (f"**4.4** {bytes_each} are one byte each. All other fields are times, of eight bytes each.",
-             "**4.5** The types, their fields, what the length field has to say, and the first edition of the table that has the type (§16.2):",
-             f"**4.6** {spans()} Times go as far as §1.1 says.",
-             f"**4.7** Where upper is 2^64 − 1, eight bytes 255, there is no upper limit. Types {marked} have this mark; everywhere else that "
-             "number is a time out of range.")
-    first, second, third, fourth = (wrapped(text, 123) + "\n\n" for text in texts)
+    texts = (f"**4.4** {bytes_each} take one byte each. All other fields are times of eight bytes each.",
+             "**4.5** The types, their fields, the value of the length field, and the first edition that has the type (§16.2):",
+             f"**4.6** {spans()} §1.1 gives the range of times.",
+             f"**4.7** An upper of 2^64 − 1 (eight bytes of 255) means that there is no upper limit. Types {marked} have this mark. In every "
+             "other field that number is a time out of range.")
+    first, second, third, fourth = (wrapped(text, 120) + "\n\n" for text in texts)
     return first + second + "| type | name | fields | length | edition |\n|---|---|---|---|---|\n" + "".join(lines) + "\n" + third + fourth
 
 

@@ -10,7 +10,7 @@ from itertools import islice
 from operator import itemgetter
 from typing import Callable, Iterable, Iterator, Sequence
 
-from .batches import Codes, NeedsSlowPath, Tally
+from .batches import Codes, NeedsSlowPath
 from .library import Refused
 from .logs import Counts, Log, LogError, Policy, Step
 from .judge import Judging, RowVerdict, ScopedMeasuring, StepRefused
@@ -178,30 +178,28 @@ def run_log(table: Table, log: Log, close: bool) -> tuple[Run, Monitor | Monitor
 def _run_chunks(table: Table, log: Log, close: bool) -> tuple[Run, Monitor | Monitors]:
     """The same by chunks; :class:`NeedsSlowPath` where they do not do."""
     codes, found, whole = Codes(table), Run(), table.single
-    tally = Tally(len(codes.numbers))
+    tally = [0] * len(codes.numbers)
     recorders = [Recorder(Monitor(table if whole else part.data), codes, None if whole else part, len(table.parts)) for part in table.parts]
     try:
         for times, events, last in log.chunks(codes):
             for recorder in recorders:
                 recorder.take(times, events)
-            tally.add(events)
+            tally = [count + events.count(code) for code, count in enumerate(tally)]
             found.steps, found.last = found.steps + len(events), last
     except LogError:
         _flush(log, recorders)
         raise
     _flush(log, recorders)
-    found.seen.update({codes.numbers[code]: count for code, count in tally.counts().items()})
+    found.seen.update({codes.numbers[code]: count for code, count in enumerate(tally) if count})
     for recorder in recorders if close else ():
         recorder.monitor.close()
     found.steps += close
-    for recorder in recorders:
-        for row in range(len(recorder.monitor.table.rows)):
-            number = recorder.monitor.step(row)
-            if number is not None and not whole:
-                raise NeedsSlowPath  # its steps are not numbered as those of the whole table
+    for recorder, part in zip(recorders, table.parts):
+        for local, row in enumerate(part.rows):
+            number = recorder.monitor.step(local)
             if number is not None:
-                found.broken[row] = number, None
-    return found, recorders[0].monitor if whole else Monitors.closed(table, [recorder.monitor for recorder in recorders], found.steps)
+                found.broken[row] = found.steps if number > recorder.steps else recorder.number(number), None
+    return found, recorders[0].monitor if whole else Monitors.closed(table, [one.monitor for one in recorders], found.steps, found.breaks)
 
 
 def _flush(log: Log, recorders: list[Recorder]) -> None:

@@ -192,10 +192,11 @@ def _watch(given: argparse.Namespace) -> int:
 
 
 def _program() -> int:
-    """What the program does: the report on table.bin and recording.bin."""
+    """Does what the program does: prints the report on table.bin, of edition 1, and recording.bin."""
     files = [Path(name).read_bytes() if Path(name).is_file() else b"" for name in ("table.bin", "recording.bin")]
     large = len(files[0]) > lib.TABLE_LIMIT or len(files[1]) > lib.RECORDING_LIMIT
-    text = "refused 17 0\n" if large else report(files[0], files[1])
+    later = files[0][:1] > b"\x01"
+    text = "refused 17 0\n" if large else "refused 1 0\n" if later else report(files[0], files[1])
     if not files[0]:
         complain("delkuthi: there is no table.bin here; delkuthi --help says what else there is")
     out(text)

@@ -18,6 +18,7 @@ Sample = Union[int, float, Decimal, Fraction, str]
 WORDS = {"rises above": True, "falls below": True, "becomes": True, "changes": False}
 #: What a value of a condition looks like.
 VALUE = r"-?[0-9]{1,40}(?:\.[0-9]{1,40})?"
+_BECOMES_TRUE = re.compile(b"\\x00\\x01")
 
 
 @dataclass(frozen=True)
@@ -67,9 +68,11 @@ class Edge:
 
     def events(self, states: Sequence[Sample]) -> list[int]:
         """The places of events among states: whether the condition holds, sample by sample, or the samples where each change is one."""
-        befores = chain((self._before,), states)
+        first = self._before
         if states:
             self._before = states[-1]
         if self._holds is None:
+            befores = chain((first,), states)
             return [place for place, (before, now) in enumerate(zip(befores, states)) if now != before and before is not None]
-        return [place for place, (before, now) in enumerate(zip(befores, states)) if now and before is False]
+        # As bytes, in which a true one behind a false one is soon found.
+        return [match.start() for match in _BECOMES_TRUE.finditer(bytes([first is not False, *states]))]  # type: ignore[list-item]

@@ -34,19 +34,14 @@ class CanMapping:
 
     def kinds(self, identifier: int, extended: bool, bus: str, data: bytes) -> tuple[int, ...]:
         """The signals that a data frame is an event of, in the order of the event lines."""
-        return tuple(self.events(identifier, extended, bus, [data]).get(0, ()))
+        return tuple(dict.fromkeys(number for number, places in self.events(identifier, extended, bus, [data]) if places))
 
-    def events(self, identifier: int, extended: bool, bus: str, data: Sequence[bytes]) -> dict[int, list[int]]:
-        """The signals that data frames of one identifier on one bus are events of, by the places of these."""
+    def events(self, identifier: int, extended: bool, bus: str, data: Sequence[bytes]) -> list[tuple[int, Sequence[int]]]:
+        """The signals that data frames of one identifier on one bus may be events of, in the order of the event lines, each with the places
+        of the frames that are."""
         key = identifier, extended
         self.met.add(key)
-        found: dict[int, list[int]] = {}
-        for number, test in self._by_identifier.get(key, ()):
-            for place in test.events(bus, data):
-                before = found.setdefault(place, [])
-                if number not in before:
-                    before.append(number)
-        return found
+        return [(number, test.events(bus, data)) for number, test in self._by_identifier.get(key, ())]
 
     def known(self, identifier: int, extended: bool) -> tuple[int, ...] | None:
         """The signals of the data frames of an identifier, where these do not depend on bus and data; ``None`` where they do."""

@@ -283,7 +283,8 @@ def test_signals_by_the_definition(tmp_path, condition):
         values = [layout.value(raw) for raw in layout.raws(frames)]
         expected = [at for at, value in enumerate(values) if edge.take(value)]
         cut = rng.randrange(31)
-        some = [*mapping.events(256, False, "can0", frames[:cut]), *(cut + at for at in mapping.events(256, False, "can0", frames[cut:]))]
+        some = [at for begin, part in ((0, frames[:cut]), (cut, frames[cut:])) for _, places in mapping.events(256, False, "can0", part)
+                for at in (begin + place for place in places)]
         assert some == expected, (asked, factor, offset)
         single = CanMapping(table)
         assert [at for at, data in enumerate(frames) if single.kinds(256, False, "can0", data)] == expected

@@ -11,6 +11,7 @@ pub mod RecordNumbers
 pub mod Refusals
 pub mod JoinNumbers
 pub mod StampWords
+pub mod Decoded
 pub mod LentExact
 pub mod Editions
 pub mod RoundTrip

@@ -89,10 +89,15 @@ pub reports-on : {newest : ℕ} {before after : Words} {table recording : List �
 reports-on summary {buffer} {number} {written} left is copied =
     record { reports = copied-reports _ _ _ buffer number written (summary-report summary left is) copied; answer = _; left-by = left }
 
+-- a text without bytes is copied by writing nothing
+pub copied-none : (before : List ℕ) → Copied [] before 0 before
+copied-none before = record { fits = λ fits. (refl, refl); too-short = λ short. absurd (omega arith) }
+
 -- of a monitor that was stepped call by call: before the close nothing is written
 pub reports-unclosed : (m : Monitor) (before : List ℕ) → m .closed ≤ 0 → ReportsOf m before 0 before
 reports-unclosed m before not-yet =
     record {
+      equals = rw (le-ltb 0 (m .closed) not-yet) (copied-none before);
       means = λ rows requests accepted made.
           let a = made-follows rows requests accepted made in (a .0, a .1, unclosed (sym (a .2 .closed-is) ∙ le-ltb _ _ not-yet));
     }
@@ -101,6 +106,7 @@ pub reports-closed : (m : Monitor) (before : List ℕ) (answer : ℕ) (written :
     → Copied (reportText Accepted (summaryOf m)) before answer written → ReportsOf m before answer written
 reports-closed m before answer written shut copied =
     record {
+      equals = rw (lt-ltb 0 (m .closed) shut) copied;
       means = λ rows requests accepted made.
           let a = made-follows rows requests accepted made in
           let f = a .2 in (

@@ -3,6 +3,7 @@ pub mod Taking
 pub mod Reporting
 pub mod Summary
 pub mod Lent
+pub mod Decoded
 pub mod Tables
 pub mod Printed
 pub mod Stamps

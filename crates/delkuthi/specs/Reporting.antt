@@ -1,9 +1,10 @@
 -- What the report on a lent monitor promises: the bytes of the report, and the monitor that has taken the recording.
 use Prim.Native.Nat.{ℕ}
 use mathlib.Core.Path.{_≡_}
-use mathlib.Core.Bool.{true, false}
-use mathlib.Core.List.{List}
+use mathlib.Core.Bool.{true, false, cond}
+use mathlib.Core.List.{List, []}
 use lib.ListN.{length}
+use lib.Dec.{ltb}
 use Rattle.constraint.specs.Steps.{Step, closed}
 use Rattle.constraint.specs.Accepted.{Accepted}
 use Rattle.constraint.specs.Run.{Request, Left}
@@ -17,6 +18,7 @@ use Rattle.monitor.specs.declared.Monitor.{Monitor}
 use Rattle.lent.specs.Layout.{Words}
 use Rattle.lent.specs.Contract.{Holds}
 use Rattle.table.specs.declared.ReadAnswer.{ReadAnswer}
+use Rattle.delkuthi.specs.Summary.{summaryOf, reportText}
 use Rattle.delkuthi.specs.Taking.{RecordingTakenAs}
 
 -- the answer to a table and a recording, and what lies in the lent monitor then: the table's refusal, and all as it was; or the recording's
@@ -47,7 +49,12 @@ pub data ReportsSteps (rows : List Constraint) (steps : List Step) (before : Lis
   reported : {answer : ℕ} {written : List ℕ} (verdicts : List Verdict) → closed steps ≡ true → EachReads steps rows verdicts
       → Copied (closedText (length steps) verdicts) before answer written → ReportsSteps rows steps before answer written
 
--- the report of a monitor that requests have made: that of the steps that they have left
+-- §7.4: the bytes of the report of any monitor: none before its close
+abbrev pub reportedOf : Monitor → List ℕ
+reportedOf m = cond (ltb 0 (m .closed)) (reportText ReadAnswer.Accepted (summaryOf m)) []
+
+-- §7.4, §7.8: the report of a monitor: of one that requests have made, that of the steps that they have left
 pub record ReportsOf (m : Monitor) (before : List ℕ) (answer : ℕ) (written : List ℕ) : Type 0 where
+  pub equals : Copied (reportedOf m) before answer written
   pub means : (rows : List Constraint) (requests : List Request) → Accepted rows → m ≡ after rows requests
       → (left : Left) × Remains rows requests left × ReportsSteps rows (left .steps) before answer written

@@ -1,7 +1,6 @@
 // Stamps known within a range: whether a Repeat row of span 1 is kept for each choice of true times, for none, or for some.
 use clock::Clock;
 use constraint::Call;
-use constraint::LAST_TIME;
 use constraint::NO_LIMIT;
 use constraint::StampedAnswer;
 use constraint::StampedVerdict;
@@ -9,6 +8,7 @@ use constraint::Table;
 use machine::parts::larger;
 use machine::parts::plus;
 use machine::parts::smaller;
+use monitor::Monitor;
 use queue::minus;
 use table::ReadAnswer;
 ghost use mathlib.Core.Path.{_≡_};
@@ -345,7 +345,7 @@ pub fn read(newest: u8, table: &[u8], recording: &[u8], row: u64, late: u64) -> 
             place: 0,
         };
     }
-    if LAST_TIME < late {
+    if Monitor::LAST_TIME < late {
         return StampedAnswer::Refused {
             number: 10,
             place: 0,

@@ -10,8 +10,8 @@ pub use Rattle.constraint.proofs.Library.{getD-append-add, getD-drop, getD-take
 pub use Rattle.constraint.proofs.Library.{length-take, length-take-le, ltb, ltb-false, ltb-true, needs, now, one-add, refl, sets, some, subst}
 pub use Rattle.constraint.proofs.Library.{subst⁻¹, subst₂, suc, sym, take, take-add, take-all, take-append-drop, take-append-seam, take-at, true}
 pub use Rattle.constraint.proofs.Library.{zero, ℕ, ⊎-elim}
-pub use Rattle.constraint.proofs.{Lists.split, Records.record-count, Records.record-more, Records.record-rows, Rows.rows-from, Rows.rows-length}
-pub use Rattle.constraint.proofs.{Types.ReadBack, Types.read-back, Types.regular}
+pub use Rattle.constraint.proofs.{Editions.edition-above, Lists.split, Records.record-count, Records.record-more, Records.record-rows}
+pub use Rattle.constraint.proofs.{Rows.rows-from, Rows.rows-length, Types.ReadBack, Types.read-back, Types.regular}
 pub use Rattle.constraint.specs.Accepted.{AcceptedIn, FieldsInRange, KindsFit, KindsSuit, kinds, rowQuestions, rowQuestionsIn}
 pub use Rattle.constraint.specs.Bytes.{bytesAt, bytesOf, numberAt}
 pub use Rattle.constraint.specs.Records.{Adds, Decides, HoldsRow, bytesIn, filler, rowsOf, tableOf, timesIn, withOneMore}

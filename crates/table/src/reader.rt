@@ -35,7 +35,7 @@ pub(crate) fn version_known(newest: u8, bytes: &[u8]) -> bool
     ensures { λ r. ⌜ Decides (VersionUpTo newest (now (bytes .entry))) r ⌝ }
 {
     let version = number::byte_at(bytes, 0);
-    if version == 0 {
+    if constraint::last_type(version) == 0 {
         return false;
     }
     version <= newest

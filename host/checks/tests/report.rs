@@ -1,5 +1,5 @@
 //! The report through the exported function, beside the model's, byte by byte.
-//! Clauses: §6.5, §7.1 to §7.9, §7.22, §8.13, §8.14, §9.3, §9.4, §9.10.
+//! Clauses: §6.5, §7.1 to §7.9, §7.22, §7.23, §8.13, §8.14, §9.3, §9.4, §9.10.
 
 use checks::beside::{counting_from, fresh, take};
 use checks::places::example_bytes;

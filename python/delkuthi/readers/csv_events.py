@@ -149,8 +149,5 @@ class _Blocks:
         times, event = self.scale.times(stamps), self.columns.event
         found = bytes([OTHER]) * len(times) if event is None else self.events.of(cells[event::number_of])
         samples = [(column, *column.states(cells[column.place :: number_of])) for column in self.columns.samples]
-        more: dict[int, list[int]] = {}
-        for column, places, states in samples:
-            for at in column.events(places, states):
-                more.setdefault(at, []).append(self.codes.of[column.signal])
+        more = [(self.codes.of[column.signal], column.events(places, states)) for column, places, states in samples]
         return with_events(times, found, more, number)

@@ -3,7 +3,7 @@ from __future__ import annotations
 
 import re
 from operator import itemgetter
-from typing import Any, Callable, Hashable, Optional, Sequence
+from typing import Any, Callable, Hashable, Iterator, Optional, Sequence
 
 from ..batches import OTHER, Batch, Codes, NeedsSlowPath, Scale, with_events
 from .base import Reader
@@ -37,13 +37,11 @@ class Frames:
         self._reader.buses.update(new.values())
         if _LOOK not in events:
             return Batch(times, events, place)
-        more = {places[at]: [self._codes.of[number] for number in numbers]
-                for places, found in self._looked_at(events, buses, identifiers, data) for at, numbers in found.items()}
-        return with_events(times, events.replace(_LOOKED, _OTHER), more, place)
+        return with_events(times, events.replace(_LOOKED, _OTHER), self._looked_at(events, buses, identifiers, data), place)
 
     def _looked_at(self, events: bytes, buses: Sequence[Written], identifiers: Sequence[Written],
-                   data: Sequence[bytes]) -> list[tuple[list[int], dict[int, list[int]]]]:
-        """The places of the frames of each identifier and bus that have to be looked at, and what each is an event of."""
+                   data: Sequence[bytes]) -> Iterator[tuple[int, list[int]]]:
+        """The codes of the frames of each identifier and bus that have to be looked at, with their places."""
         groups: dict[tuple[Written, Written], list[int]] = {}
         if len({*buses}) == 1:
             bus = buses[0]
@@ -57,8 +55,9 @@ class Frames:
                 if code == _LOOK:
                     groups.setdefault((identifiers[at], buses[at]), []).append(at)
         octets = {group: self._octets([data[at] for at in places]) for group, places in groups.items()}
-        return [(places, self._mapping.events(*self._identified(one), self._names[bus], octets[one, bus]))
-                for (one, bus), places in groups.items()]
+        for (one, bus), places in groups.items():
+            for number, found in self._mapping.events(*self._identified(one), self._names[bus], octets[one, bus]):
+                yield self._codes.of[number], [places[at] for at in found]
 
     def _events(self, identifiers: Sequence[Written]) -> bytes:
         """The codes of frames by their identifiers alone."""
@@ -110,11 +109,14 @@ def whole_data(sizes: Sequence[bytes], data: Sequence[bytes]) -> list[bytes]:
     if not {*sizes} <= _SIZES.keys():
         raise NeedsSlowPath
     ends = [_SIZES[size] for size in sizes]
-    found = [text[:end].replace(b" ", b"") for text, end in zip(data, ends)]
-    if [2 * end + 2 for end in ends] != [3 * len(digits) for digits in found] or not {
-            text[end : end + 1] for text, end in zip(data, ends)} <= {b" ", b"\n", b"\r", b""}:
+    if not {text[end : end + 1] for text, end in zip(data, ends)} <= {b" ", b"\n", b"\r", b""}:
         raise NeedsSlowPath
-    return found
+    found = [text[:end] for text, end in zip(data, ends)]
+    # Of all of them, one behind the other with a blank between, each third character is a blank and no other one.
+    joined = b" ".join(found) + b" "
+    if list(map(len, found)) != ends or joined[2::3].strip(b" ") or joined.count(b" ") * 3 != len(joined):
+        raise NeedsSlowPath
+    return [text.replace(b" ", b"") for text in found]
 
 
 #: The sizes of data that many lines are read together with, and how many characters such data has.

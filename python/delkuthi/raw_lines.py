@@ -5,7 +5,7 @@ from typing import Iterator, NamedTuple
 
 from .check import Outcome, RowOutcome
 from .logs import Log, LogError
-from .timeline import Gathered
+from .scenes import Gathered
 
 #: So many lines before the step that broke a row, and after it.
 BEFORE, AFTER = 3, 2

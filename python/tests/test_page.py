@@ -16,7 +16,9 @@ from hypothesis import strategies as st
 from delkuthi import Table
 from delkuthi.check import check
 from delkuthi.histogram import histogram_svg
-from delkuthi.html_page import as_html, mean_text, pictured
+from delkuthi.evidence import evidence_of
+from delkuthi.html_page import as_html
+from delkuthi.html_rows import mean_text
 from delkuthi.logs import Policy
 from delkuthi.measure import Histogram, measure
 from delkuthi.measured import described
@@ -70,7 +72,7 @@ def page_of(table, *paths, policy=Policy(), name="table.txt", notes=(), violatio
     """The page of some logs, as the command gives it."""
     outcomes = [check(table, path if isinstance(path, list) else str(path), policy, measured=True, violations=violations) for path in paths]
     made = provenance(table, name, [outcome.files for outcome in outcomes], ["check", name], notes)
-    return as_html(table, name, [pictured(table, policy, outcome) for outcome in outcomes], made)
+    return as_html(table, name, [evidence_of(table, policy, outcome) for outcome in outcomes], made)
 
 
 def drive_page():
@@ -291,7 +293,7 @@ def test_a_log_that_has_grown_since(tmp_path):
     outcome = check(SHORT, str(log))
     with log.open("a") as file:
         file.write("11,b\n12,a\n13,b\n")
-    found = pictured(SHORT, Policy(), outcome)
+    found = evidence_of(SHORT, Policy(), outcome)
     assert found.picture.lanes == [("a", [1, 10]), ("b", [2])] and [line.role for line in found.lines[0]].count("broke") == 0
 
 
@@ -362,8 +364,8 @@ def test_the_scope_is_said(tmp_path):
     text = seen_of(page).text
     assert "Checked: the whole log, cut at both ends, while on .. off and while off .. on: each stretch by itself, cut at both ends." in text
     cells = dict(re.findall(r'id="log1-row(\d)".*?<td class="verdict [\w-]+" data-value="\d+">(.*?)</td>', page, re.S))
-    assert cells["0"] == "broken <small>at 40 ms</small> <small>line 10</small><small>2 windows</small>"
-    assert cells["2"].startswith("kept so far<small>") and "not yet due" in cells["2"]
+    assert cells["0"] == "broken <small>at 40 ms</small> <small>line 10</small> <small>2 windows</small>"
+    assert cells["2"].startswith("kept so far <small>") and "not yet due" in cells["2"]
     assert '<span class="tile so-far"><b>2</b> kept so far</span>' in page and "<h1 class=\"broken\">2 of 4 rows broken</h1>" in page
     whole = seen_of(page_of(Table.read(EXAMPLES / "drive.txt"), EXAMPLES / "drive.csv")).text
     assert "Checked: the whole log, closed at its end." in whole
@@ -372,7 +374,7 @@ def test_the_scope_is_said(tmp_path):
 def test_the_pictures_of_a_row_with_a_window(tmp_path):
     """Only what comes within a window is asked for, and the events that open and close it have lanes."""
     outcome = check(WINDOWS, str(windows_log(tmp_path)))
-    log = pictured(WINDOWS, Policy(), outcome)
+    log = evidence_of(WINDOWS, Policy(), outcome)
     answer = log.close_ups[0]
     assert [name for name, _ in answer.lanes] == ["on", "off", "a", "b"]
     assert [(shade.begin, shade.broken) for shade in log.picture.shades if shade.row == 0] == [(11, False), (31, True)]

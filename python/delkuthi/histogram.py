@@ -1,4 +1,4 @@
-"""A small histogram of what a row measured, as SVG: a bar for each stretch of values, red where one of them is outside, and the limits."""
+"""A small histogram of the values that a row measured, as SVG. A bar with a value outside the limits is red."""
 from __future__ import annotations
 
 from html import escape
@@ -10,7 +10,7 @@ _WIDTH, _HEIGHT, _EDGE, _BAR = 140, 34, 5, 14
 
 
 def histogram_svg(found: Described, unit: str | None) -> str:
-    """The histogram of the values, wide enough for the limits to be seen; nothing where nothing was measured."""
+    """The histogram and the limits; empty if there are no values. A lower limit of 0 is not drawn."""
     begin, width, counts, outside = (found["histogram"][name] for name in ("begin", "width", "counts", "outside"))
     if not counts:
         return ""

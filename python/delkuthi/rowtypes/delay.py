@@ -2,8 +2,10 @@
 from __future__ import annotations
 
 from bisect import bisect_left, bisect_right
+from collections import Counter
 from typing import TYPE_CHECKING, Iterator
 
+from ..beginnings import Beginning
 from ..fields import RowType
 from ..fifo import Fifo
 from ..library import NO_LIMIT
@@ -41,6 +43,12 @@ def windows(row: Row, times: Times) -> Iterator[Window]:
     """For each source the stretch in which its target has to come."""
     for time in times.get(row.number("source"), ()):
         yield Window(row.number("target"), time + row.number("lower"), until(time, row.number("upper")))
+
+
+def _began(row: Row, signal: int, since: int, taken: Counter[int], left: Counter[int]) -> str:
+    """A source right at the beginning may have had its target before it, at the same time."""
+    at_once = signal == row.number("source") and not since and not row.number("lower")
+    return "maybe" if at_once else ""
 
 
 class Delays(RowMeasuring):
@@ -97,6 +105,7 @@ TYPE = RowType(
         targets do no harm.""",
     measures="latency: to the first target that is not too early", each="each source",
     reason=reason, forget=forget, windows=windows, measuring=Delays, instance=("source", 0), waits=True,
+    beginning=Beginning(_began),
     example=("delay", "pedal -> light, 2 ms .. 20 ms",
              {"pedal": "10 50", "light": "22 75"}),
 )

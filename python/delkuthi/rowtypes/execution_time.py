@@ -126,9 +126,16 @@ def windows(row: Row, times: Times) -> Iterator[Window]:
 
 
 def _began(row: Row, signal: int, since: int, taken: Counter[int], left: Counter[int]) -> str:
-    """What comes before the first start belongs to a run that began before the log."""
-    start = row.number("start")
-    return "surely" if signal != start and not taken[start] else ""
+    """What comes before the first start belongs to a run that began before the log, as long as it comes in the order of a run."""
+    start, stop, preempt, resume = (row.number(name) for name in _STAGES)
+    if signal == start or taken.total() or left[stop]:
+        return ""
+    if not left.total():
+        return "surely"
+    # Preempt and resume take turns: the first that was left out says which of them was the last.
+    first = next(iter(left))
+    last = first if left[preempt] != left[resume] else preempt if first == resume else resume
+    return "surely" if (signal == resume) == (last == preempt) else ""
 
 
 def _run(left: Counter[int]) -> int:

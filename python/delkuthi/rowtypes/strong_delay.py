@@ -45,8 +45,11 @@ def forget(case: Case) -> None:
 
 
 def _began(row: Row, signal: int, since: int, taken: Counter[int], left: Counter[int]) -> str:
-    """A target may belong to a source before the log as long as that would not be too long ago, and no other target was taken."""
-    return "maybe" if signal == row.number("target") and not taken[signal] and since < row.number("upper") else ""
+    """A target may belong to a source before the log as long as that would not be too long ago, and no other target was taken.
+    A source right at the beginning may have had its target before it, at the same time."""
+    if signal == row.number("target"):
+        return "maybe" if not taken[signal] and since <= row.number("upper") else ""
+    return "maybe" if not since and not row.number("lower") and not taken.total() else ""
 
 
 class Pairs(RowMeasuring):

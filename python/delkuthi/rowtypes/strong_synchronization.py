@@ -59,9 +59,9 @@ def windows(row: Row, times: Times) -> Iterator[Window]:
 
 
 def _began(row: Row, signal: int, since: int, taken: Counter[int], left: Counter[int]) -> str:
-    """The first events of a kind may belong to groups before the log, for less than tolerance; of one kind at least each is there."""
+    """The first events of a kind may belong to groups before the log, up to tolerance; of one kind at least none does."""
     others = any(not left[kind] for kind in row.kinds if kind != signal)
-    return "maybe" if not taken[signal] and since < row.number("tolerance") and others else ""
+    return "maybe" if not taken[signal] and since <= row.number("tolerance") and others else ""
 
 
 def _groups(left: Counter[int]) -> int:

@@ -393,3 +393,13 @@ def test_every_violation_is_listed(tmp_path):
     (tmp_path / "b.csv").write_text("time,event\n0,a\n1000,b\n12000,a\n13000,b\n")
     page = page_of(table, tmp_path / "b.csv", violations=str(tmp_path / "spool"))
     assert page.count('<details class="violations" open>') == 1 and "<summary>1 violation</summary>" in page
+
+
+def test_the_command_lists_violations_and_scope(command, tmp_path):
+    (tmp_path / "w.txt").write_text(WINDOWS.text())
+    windows_log(tmp_path)
+    for more in ([], ["--jobs", "2"]):
+        assert command("check", "w.txt", "w.csv", "w.csv", "--cut", "--html", "a.html", *more)[0] == 1
+        page = (tmp_path / "a.html").read_text(encoding="utf-8")
+        assert page.count("<summary>1 violation</summary>") == 4 and page.count("cut at both ends, while on .. off") == 2
+        assert re.findall(r"<th scope=\"col\" class=\"n\">([\w ]+)</th>", page)[:4] == ["kept", "kept so far", "broken", "never exercised"]

@@ -30,5 +30,5 @@ def histogram_svg(found: Described, unit: str | None) -> str:
                    f'width="{wide:.1f}" height="{height}"><title>{tip}</title></rect>' if count else "")
     for limit in limits if found["lower"] else limits[-1:] if found["upper"] is not None else ():
         tip = escape(f"limit: {shown(limit, unit)}")
-        out.append(f'<path class="limit" d="M{_EDGE + (limit - low) * scale:.1f} 0 V{_HEIGHT}"><title>{tip}</title></path>')
+        out.append(f'<path class="limit" d="M{_EDGE + (limit + 0.5 - low) * scale:.1f} 0 V{_HEIGHT}"><title>{tip}</title></path>')
     return "".join([*out, "</svg>"])

@@ -234,6 +234,13 @@ def test_the_limits_are_within_the_histogram():
         assert len(lines) == 2 and all(4 < x < 136 for x in lines), "not at the edge, where it would be cut"
 
 
+def test_a_value_at_its_limit_is_drawn_at_the_limit():
+    table = Table.from_text("unit us\nevent a\nRepeat a span 1, 1000 .. 1000\n")
+    drawn = histogram_svg(described(measure(table, [(0, time, 0) for time in (0, 1000, 2000)])[0], lambda time: time, str), "us")
+    [(left, width)] = re.findall(r'class="inside" x="([\d.]+)" y="[\d.]+" width="([\d.]+)"', drawn)
+    assert [float(x) for x in re.findall(r'class="limit" d="M([\d.]+) ', drawn)] == [float(left) + float(width) / 2] * 2
+
+
 SHORT = Table.from_text('unit ms\nevent a\nevent b\n"answer" Delay a -> b, 0 .. 5\n')
 LINES = ["time,event", "1,a", "2,b", "10,a", *(f"{time},c" for time in range(11, 15)), "20,b", "30,c", "31,c", "32,c"]
 

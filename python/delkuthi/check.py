@@ -68,6 +68,16 @@ class RowOutcome:
     #: Of a row with a ``while`` window in how many stretches of the log it was judged.
     stretches: int | None = None
 
+    @property
+    def words(self) -> str:
+        """What it reads, with what is not yet due, what was left out, and over how many stretches."""
+        if not self.verdict.startswith(SO_FAR) or self.verdict.endswith(IDLE):
+            return self.verdict
+        found = [self.verdict, f"{self.not_yet_due:,} not yet due"]
+        found += [f"{self.left_out:,} that began before left out"] if self.left_out else []
+        found += [] if self.stretches is None else [f"in {self.stretches:,} stretch{'' if self.stretches == 1 else 'es'}"]
+        return ", ".join(found)
+
 
 @dataclass
 class Outcome:
@@ -91,6 +101,9 @@ class Outcome:
     files: str | tuple[str, ...] = ""
     #: Which part of the log was checked, and how its beginning and its end were taken, in words.
     scope: str = ""
+    #: Is that something else than the whole log, closed or left open at its end? Is one of its ends cut?
+    scope_chosen: bool = False
+    cut: bool = False
     #: Every instance that is outside or missing, where that was asked for.
     violations: Violations | None = None
     #: When the check began (ISO 8601, universal time), and how many seconds it took.
@@ -126,7 +139,7 @@ class Outcome:
 
     def as_dict(self) -> dict[str, object]:
         """For JSON: the fields by their names, times as the log's stamps."""
-        hidden = ("counts", "time_format", "exercised", "files", "violations", "started", "seconds")
+        hidden = ("counts", "time_format", "exercised", "files", "violations", "started", "seconds", "scope_chosen")
         found = {name: value for name, value in asdict(replace(self, violations=None)).items() if name not in hidden}
         return {**found, **asdict(self.counts), "offset": self.time_format.shift, "status": self.status}
 
@@ -350,7 +363,8 @@ def _note_read(table: Table, log: Log, outcome: Outcome, seen: Counter[int | Non
         why = f"no {scope.begin.text} came" if scope.begin.kind is not None else f"the log ends before {scope.begin.text}"
         raise LogError(log.path, "", f"{why}, so nothing was checked (--from {scope.begin.text})")
     windows = dict.fromkeys(window_text(table, row) for row in table.rows if row.window is not None)
-    outcome.scope = scope.words(log.policy.close, windows, log.ended)
+    outcome.scope, outcome.scope_chosen = scope.words(log.policy.close, windows, log.ended), scope.chosen or bool(windows)
+    outcome.cut = scope.cut_begin or scope.cut_end
     outcome.warnings = warnings(table, log, seen)
 
 

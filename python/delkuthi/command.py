@@ -23,7 +23,7 @@ from .logs import Log, LogError, Policy
 from .measured import text_lines
 from .monitor import report
 from .log_commands import join_logs, late_stamps, record, shrink
-from .output import as_json, as_junit, as_text, overall
+from .output import COLUMNS, as_json, as_junit, as_text, overall, wrapped
 from .plot import PlotMissing, write_plot
 from .provenance import provenance
 from .options import add_databases, add_edges, add_options, policy, read_table, refuse_windows
@@ -165,9 +165,9 @@ def _tell(given: argparse.Namespace, table: Table, outcome: Outcome) -> None:
     for line in [outcome.error] if outcome.error is not None else outcome.warnings:
         complain(line)
     if outcome.error is None and not given.json:
-        out(as_text(outcome, given.page, given.quiet))
+        out(as_text(outcome, given.page, given.quiet, given.width))
         rows = [(table.row_name(row.number), row.measured) for row in outcome.rows if row.measured is not None]
-        out("".join(f"  {line}\n" for line in text_lines(rows, table.unit)) if given.measure else "")
+        out("".join(wrapped(f"  {line}", given.width, "        ") for line in text_lines(rows, table.unit)) if given.measure else "")
 
 
 def _files(path: str, outcomes: Sequence[Outcome]) -> Iterator[tuple[str, Outcome]]:
@@ -249,12 +249,11 @@ def _positive(text: str) -> int:
     return int(text)
 
 
-def _note(text: str) -> tuple[str, str]:
-    """A note for the page, by its name."""
-    name, equal, value = text.partition("=")
-    if not (name.strip() and equal):
-        raise argparse.ArgumentTypeError(f"expected NAME=TEXT such as build=1234, found {text}")
-    return name.strip(), value.strip()
+def _width(text: str) -> int:
+    """A number of columns, or 0."""
+    if text != "0" and not (text.isascii() and text.isdecimal() and len(text) < 6 and int(text) >= 40):
+        raise argparse.ArgumentTypeError(f"expected 0, or a number of columns from 40 on, found {text}")
+    return int(text)
 
 
 def _violations_file(text: str) -> str:
@@ -264,6 +263,14 @@ def _violations_file(text: str) -> str:
     except ValueError as error:
         raise argparse.ArgumentTypeError(str(error)) from None
     return text
+
+
+def _note(text: str) -> tuple[str, str]:
+    """A note for the page, by its name."""
+    name, equal, value = text.partition("=")
+    if not (name.strip() and equal):
+        raise argparse.ArgumentTypeError(f"expected NAME=TEXT such as build=1234, found {text}")
+    return name.strip(), value.strip()
 
 
 def _seconds(text: str) -> float:
@@ -306,6 +313,8 @@ def _add_check(commands: Any) -> None:
     one.add_argument("--trace", metavar="FILE", help="a trace for Perfetto or chrome://tracing")
     one.add_argument("--jobs", metavar="N", type=_positive, default=1, help="check so many logs at a time")
     one.add_argument("--quiet", action="store_true", help="messages only, no last line")
+    one.add_argument("--width", metavar="COLUMNS", type=_width, default=COLUMNS,
+                     help=f"text has so many columns ({COLUMNS}); with 0 each message is one line")
     add_edges(one)
     add_options(one)
     one.set_defaults(run=_check)

@@ -160,7 +160,9 @@ def test_a_row_is_broken_in_a_part_just_where_it_is_broken_after_every_past(name
                 ends.append(None if other.step(0) is None else other.step(0) - monitor.steps())
         found, = judged(table, steps)
         expected = None if None in ends or not ends else max(ends)
-        if name != "ExecutionTime" or found.broken is not None:
+        if name == "ExecutionTime":
+            assert found.broken is None or expected is not None and found.broken[0] >= expected
+        else:
             assert (found.broken[0] if found.broken else None) == expected, (steps, expected, found)
         broken += found.broken is not None
     assert broken > 5 or name == "Order"

@@ -16,7 +16,8 @@ from typing import IO, Any, Iterator, Sequence
 from . import library as lib
 from .check import Outcome, check
 from .database import DatabaseError
-from .html_page import as_html, pictured
+from .evidence import evidence_of
+from .html_page import as_html
 from .library import LibraryMissing, Refused
 from .logs import Log, LogError, Policy
 from .measured import text_lines
@@ -29,7 +30,7 @@ from .options import add_databases, add_edges, add_options, policy, read_table, 
 from .readers.standard_input import NAME, kept
 from .table import Table, is_bytes
 from .text import TextError, grammar
-from .timeline import gather, overview
+from .scenes import gather, overview
 from .trace import write_trace
 from .units import UNITS
 from .violations import suffix_of, write_violations
@@ -135,7 +136,7 @@ def _write_outputs(given: argparse.Namespace, table: Table, how: Policy, outcome
         write(given.junit, as_junit(table, outcomes))
     if given.html:
         made = provenance(table, given.table, [outcome.files for outcome in outcomes], given.words, given.note)
-        write(given.html, as_html(table, given.table, [pictured(table, how, outcome) for outcome in outcomes], made))
+        write(given.html, as_html(table, given.table, [evidence_of(table, how, outcome) for outcome in outcomes], made))
     if given.plot:
         _plot(given.plot, table, how, outcomes)
     if given.trace:

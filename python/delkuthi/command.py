@@ -29,6 +29,7 @@ from .monitor import report
 from .log_commands import join_logs, late_stamps, record, shrink
 from .output import COLUMNS, as_json, as_junit, as_text, overall, wrapped
 from .plot import PlotMissing, write_plot
+from .propose import add_propose
 from .provenance import provenance
 from .results import result_of, write_results
 from .options import add_databases, add_edges, add_options, add_timing, columns, policy, positive, read_table, refuse_windows, timing_table
@@ -382,7 +383,7 @@ def _parser() -> argparse.ArgumentParser:
     parser.add_argument("--version", action="store_true", help="the versions of this package and of the library")
     parser.set_defaults(takeover=None)
     commands = parser.add_subparsers(dest="command", metavar="COMMAND")
-    for add in (_add_check, _add_watch, _add_table, _add_on_logs, add_fleet):
+    for add in (_add_check, _add_watch, _add_table, _add_on_logs, add_fleet, add_propose):
         add(commands)
     return parser
 

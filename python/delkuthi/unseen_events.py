@@ -28,6 +28,8 @@ def _why(event: Event, log: Log) -> str:
     """What the log has in its place."""
     found = [_of_frames(source, log) if log.reader.reads_frames else _of_columns(source, log) for source in event.sources]
     reasons = [why for why in dict.fromkeys(found) if why]
+    if not event.sources and (log.reader.reads_frames or log.reader.targets):
+        return "the table does not say what it is in such a log (from ..)"
     if not log.reader.reads_frames and not reasons:
         wanted = [event.name, *(source.text for source in event.sources if isinstance(source, CsvSource))]
         near = [name for name in (nearest(one, log.reader.others, 0.75) for one in wanted) if name]

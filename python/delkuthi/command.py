@@ -128,7 +128,7 @@ def _measured(given: argparse.Namespace) -> bool:
 def _write_outputs(given: argparse.Namespace, table: Table, how: Policy, outcomes: Sequence[Outcome]) -> None:
     """What is asked for besides the messages."""
     if len(outcomes) > 1 and not (given.json or given.page or given.quiet):
-        out(overall(outcomes) + "\n")
+        out(wrapped(overall(outcomes), given.width))
     if given.json:
         out(as_json(table, outcomes))
     if given.junit:

@@ -15,19 +15,20 @@ use Rattle.constraint.specs.declared.Verdict.{Verdict}
 use Rattle.text.specs.Content.{Copied}
 use Rattle.monitor.specs.Contract.{after, Remains}
 use Rattle.monitor.specs.declared.Monitor.{Monitor}
-use Rattle.lent.specs.Layout.{Words}
-use Rattle.lent.specs.Contract.{Holds}
+use Rattle.lent.specs.Layout.{Words, wordsOf}
+use Rattle.fresh.specs.Fresh.{BeginsUpTo, freshLent}
 use Rattle.table.specs.declared.ReadAnswer.{ReadAnswer}
 use Rattle.delkuthi.specs.Summary.{summaryOf, reportText}
-use Rattle.delkuthi.specs.Taking.{RecordingTakenAs}
+use Rattle.delkuthi.specs.Taking.{RecordingLeaves}
 
--- the answer to a table and a recording, and what lies in the lent monitor then: the table's refusal, and all as it was; or the recording's
--- answer, and the monitor over the table's rows after the steps that were taken, and the close where all were
+-- §7.22: the answer to a table and a recording, and every word of the lent monitor then: the table's refusal, and all as it was; or the recording's
+-- answer, and what its calls leave of the monitor that is fresh over the table, as `delkuthi_fresh` makes it
 pub data LeftBy (newest : ℕ) (before : Words) (table recording : List ℕ) : ReadAnswer → Words → Type 0 where
   unused : (n place : ℕ) → ReadsTableUpTo newest table (table-refused n place)
       → LeftBy newest before table recording (ReadAnswer.Refused n place) before
-  used : (rows : List Constraint) (answer : ReadAnswer) (after : Words) (m : Monitor) → ReadsTableUpTo newest table (table-of rows)
-      → RecordingTakenAs rows recording answer m → Holds after m → LeftBy newest before table recording answer after
+  used : (rows : List Constraint) (answer : ReadAnswer) (after : Words) → ReadsTableUpTo newest table (table-of rows)
+      → BeginsUpTo newest table before 0 (wordsOf (freshLent rows)) → RecordingLeaves rows recording answer (wordsOf (freshLent rows)) after
+      → LeftBy newest before table recording answer after
 
 -- §7.22: the number and the buffer are the report's, whatever lay in the monitor; and the monitor has been used, however short the buffer is
 pub record ReportsOnUpTo (newest : ℕ) (before : Words) (table recording buffer : List ℕ) (number : ℕ) (written : List ℕ) (after : Words)

@@ -63,7 +63,8 @@ class Bursts(Spans):
         # Before the first whole span an event is judged by its gap alone.
         self.measure.judged += len(gaps) - len(values)
         if values:
-            sides = ([[gap - minimum for gap in gaps[-len(values) :]]] if minimum else []) + ([[value - length for value in values]] if length else [])
+            sides = [[gap - minimum for gap in gaps[-len(values) :]]] if minimum else []
+            sides += [[value - length for value in values]] if length else []
             margins: Sequence[int | None] = list(map(min, *sides)) if len(sides) == 2 else sides[0] if sides else [None] * len(values)
             self.measure.add_with(values, margins, given[first:], lambda at: place(event, at + first))
         for at in range(max(len(given) - self.span, 0), len(given)):

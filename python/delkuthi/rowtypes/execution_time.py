@@ -201,13 +201,13 @@ class Executions(RowMeasuring):
 TYPE = RowType(
     8, "ExecutionTime", "{start:kind} -> {stop:kind}, preempt {preempt:kind}, resume {resume:kind}, {lower:time} .. {upper:time}",
     says="from each start to its stop, without what lies from preempt to resume",
-    means="From each `start` to its `stop`, less the stretches from `preempt` to `resume`, it runs for `lower` to `upper`.",
-    asks="""The row's events come as a start, any number of pairs of a preempt and a resume, a stop, and again from a start, no
-        two at the same time. The running time, stop minus start less the stretches from preempt to resume, is lower to upper. An
-        event that may not come next breaks the row, and so does the clock once the running time is past upper, a preempt after
-        which no time is left to run, and a close after a start and before its stop.""",
-    manual="""the time from each start to its stop, without what lies from a preempt to its resume, is lower to upper. An event
-        that may not come next breaks the row too.""",
+    means="From each `start` to its `stop` it runs for `lower` to `upper`, without the time from `preempt` to `resume`.",
+    asks="""The row's events form executions: a start, any number of pairs of a preempt and a resume, and a stop. No
+        two are at the same time. The running time is lower to upper: stop minus start, without the time from each
+        preempt to its resume. These break the row: an event that is not allowed next, a clock at which the running
+        time is past upper, a preempt that leaves no time to run, and a close between a start and its stop.""",
+    manual="""the time from each start to its stop, without the time from each preempt to its resume, is lower to
+        upper. An event that is not allowed next breaks the row too.""",
     measures="running time", each="each run",
     reason=reason, forget=forget, windows=windows, measuring=Executions, instance=("start", 0), pending=pending,
     beginning=Beginning(_began, _run),

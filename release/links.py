@@ -1,13 +1,13 @@
 #!/usr/bin/env python3
-"""The links of the documents that lead to definitions, theorems and functions are made from their names.
+"""Makes the links of the documents to definitions, theorems and functions from their names.
 
-    links.py            says which names are declared nowhere or in several places, and which lists are not up to date; status 1 where some are
-    links.py --write    writes the lists of links at the documents' ends anew
+    links.py            reports names that are declared nowhere or in several places, and lists that are not up to date; then status 1
+    links.py --write    writes the lists of links at the end of each document
 
-A document writes [`name`], and its link is the file that declares it. Where there are several: in a table of four columns a definition is looked for
-in specs, a theorem in proofs, a function in src, and elsewhere the name's form says which it is; what is public comes first. A qualifier chooses:
-`delay::apply` is declared in the module or crate delay, `Monitor::event` beside `impl Monitor`, `Promise.exact` in the file of the record Promise.
-Where several files are left, a link that is one of them stays. The laws that other documents name have to be declared somewhere too.
+A document writes [`name`], and its link is the file that declares it. If several files do, a table of four columns decides: a definition is in specs,
+a theorem in proofs, a function in src. Elsewhere the form of the name decides, and public names come first. A qualifier chooses too: `delay::apply`
+is declared in the module or crate delay, `Monitor::event` beside `impl Monitor`, `Promise.exact` in the file of the record Promise. If several files
+are left, an existing link to one of them stays. The laws that other documents name must be declared somewhere too.
 """
 import re
 import sys
@@ -15,7 +15,7 @@ from pathlib import Path
 
 ROOT = Path(__file__).resolve().parent.parent
 DOCUMENTS = ("docs/READING.md", "docs/ARCHITECTURE.md")
-# What has the form of a law's name, in documents that name laws without links.
+# These documents name laws without links; LAW is the form of a law's name.
 NAMING = ("README.md", "docs/DATASHEET.md", "docs/SAFETY.md", "docs/DECISIONS.md")
 LAW = re.compile(r"`([a-z]\w*(?:-\w+)+)`")
 OTHER_NAMES = {"must-fail", "pkg-config"}
@@ -29,7 +29,7 @@ COLUMNS = {1: ("specs", "proofs", "src"), 2: ("proofs", "specs", "src"), 3: ("sr
 
 
 class Source:
-    """A file of the crates or the program: its names, those that are public, and by which qualifiers they go."""
+    """A file of the crates or the program: its names, which of them are public, and their qualifiers."""
 
     def __init__(self, file):
         text = file.read_text(encoding="utf-8")

@@ -3,9 +3,9 @@
 
     trace.py FILE
 
-Definition, theorem and function are those of docs/READING.md, each with the crate that its link leads to. The tests are those of
-host/ that name the clause in their first lines ("Clauses: §2.1 to §2.6, §3.4"), and `contract` where the contract has an example under
-the clause, as that test executes every one. A promise without a row, or a row without a test, is said, and stands as "none" in the table.
+Definition, theorem and function are those of docs/READING.md, each with the crate of its link. The tests are those of host/ that name the
+clause in their first lines ("Clauses: §2.1 to §2.6, §3.4"), and `contract` if the contract has an example under the clause, because that
+test runs every example. A promise without a row, or a row without a test, is reported, and is "none" in the table.
 """
 import re
 import sys
@@ -103,10 +103,11 @@ def main():
     if len(sys.argv) != 2:
         sys.exit("trace.py FILE")
     version = read("VERSION").strip()
-    opening = (f"# From each promise to what stands behind it: Delkuthi {version}\n\n"
-               "Made by a program from the reading guide, the contract and the tests, with the library. A name in `this form` is declared\n"
-               "in the sources of the crate in brackets behind it, or else of the crate that was named last. Where a cell is empty, the\n"
-               "definition alone says it, and the theorems over it carry it. A test is named by its folder and file below `host`.\n\n")
+    opening = (f"# From each promise to its evidence: Delkuthi {version}\n\n"
+               "A program makes this page with each build, from the reading guide, the contract and the tests. A name in `this form` is\n"
+               "declared in the sources of the crate in brackets behind it, or of the crate that was named last. If a cell is empty, the\n"
+               "definition alone states the promise, and the theorems over the definition cover it. A test is named by its folder and file\n"
+               "below `host`.\n\n")
     Path(sys.argv[1]).write_text(opening + trace(), encoding="utf-8")
 
 

@@ -2,6 +2,7 @@
 from __future__ import annotations
 
 import argparse
+import json
 import math
 import os
 import sys
@@ -14,6 +15,7 @@ from pathlib import Path
 from typing import IO, Any, Iterator, Sequence
 
 from . import library as lib
+from .autosar import is_arxml
 from .check import Outcome, check
 from .database import DatabaseError
 from .evidence import evidence_of
@@ -26,7 +28,7 @@ from .log_commands import join_logs, late_stamps, record, shrink
 from .output import COLUMNS, as_json, as_junit, as_text, overall, wrapped
 from .plot import PlotMissing, write_plot
 from .provenance import provenance
-from .options import add_databases, add_edges, add_options, policy, read_table, refuse_windows
+from .options import add_databases, add_edges, add_options, add_timing, policy, read_table, refuse_windows, timing_table
 from .readers.standard_input import NAME, kept
 from .table import Table, is_bytes
 from .text import TextError, grammar
@@ -52,6 +54,7 @@ examples:
   delkuthi check brake.txt logs/*.blf --jobs 4 --junit result.xml --exercised
   delkuthi watch brake.txt socketcan:can0               says a broken row while frames come
   delkuthi table brake.txt -o table.bin                 the bytes that the library reads; and back to text
+  delkuthi check timing.arxml trace.btf                 AUTOSAR timing requirements on a scheduler trace
   delkuthi table --grammar                              how a text table is written
   delkuthi shrink brake.txt drive.csv "brake light"     the few lines that break the row by themselves
   delkuthi stamps brake.txt drive.csv "wheel speed" "1 ms"  the row where stamps may be late by up to 1 ms
@@ -131,11 +134,12 @@ def _write_outputs(given: argparse.Namespace, table: Table, how: Policy, outcome
     if len(outcomes) > 1 and not (given.json or given.page or given.quiet):
         out(overall(outcomes) + "\n")
     if given.json:
-        out(as_json(table, outcomes))
+        out(as_json(table, outcomes, given.takeover))
     if given.junit:
         write(given.junit, as_junit(table, outcomes))
     if given.html:
-        made = provenance(table, given.table, [outcome.files for outcome in outcomes], given.words, given.note)
+        made = provenance(table, given.table, [outcome.files for outcome in outcomes], given.words,
+                          [*given.note, *(given.takeover.notes() if given.takeover else ())])
         write(given.html, as_html(table, given.table, [evidence_of(table, how, outcome) for outcome in outcomes], made))
     if given.plot:
         _plot(given.plot, table, how, outcomes)
@@ -211,13 +215,21 @@ def _table(given: argparse.Namespace) -> int:
         return KEPT
     if given.table is None:
         raise LogError("delkuthi table", "", "expected a table, or --grammar")
-    data = Path(given.table).read_bytes()
-    table = Table.read(given.table)
-    if given.unit:
+    data = Path(given.table).read_bytes()[:1]
+    if is_arxml(given.table):
+        table = timing_table(given, given.unit)
+        if given.json:
+            out(json.dumps({"table": table.text(), "constraints": given.takeover.as_list()}, indent=2) + "\n")
+            return KEPT
+    elif given.events or given.guarantees or given.json:
+        raise LogError(given.table, "", "--events, --guarantees and --json are for an ARXML file")
+    else:
+        table = Table.read(given.table)
+    if given.unit and given.takeover is None:
         if table.unit is not None:
             raise LogError(given.table, "", f"the table has the unit {table.unit} already")
         table = Table(table.rows, table.events, given.unit, table.databases, table.folder)
-    to_text = given.text or not given.bytes and (is_bytes(data) or given.output is None)
+    to_text = given.text or not given.bytes and (is_bytes(data) or given.takeover is not None or given.output is None)
     if not to_text:
         refuse_windows(table, given.table, range(len(table.rows)), "the bytes of a table do not take it")
     write(given.output, table.text() if to_text else table.bytes())
@@ -296,7 +308,7 @@ _PLAIN = argparse.RawDescriptionHelpFormatter
 
 def _add_check(commands: Any) -> None:
     one = commands.add_parser("check", help="check logs against a table", epilog=_EXAMPLES, formatter_class=_PLAIN)
-    one.add_argument("table", metavar="TABLE", help="a text table, or table.bin")
+    one.add_argument("table", metavar="TABLE", help="a text table, table.bin, or an ARXML file with AUTOSAR timing requirements")
     one.add_argument("log", metavar="LOG", nargs="+",
                      help=".csv, .tsv, .xlsx, .log (candump), .asc, .trc, .btf, .bin; with python-can .blf ..; - is the standard input")
     one.add_argument("--exercised", action="store_true", help="a row that the log never exercises is a failure: status 1")
@@ -340,7 +352,9 @@ def _add_table(commands: Any) -> None:
     one.add_argument("-o", "--output", metavar="FILE", help="where to; text goes to bytes and bytes to text")
     one.add_argument("--text", action="store_true", help="write text, in its normal form")
     one.add_argument("--bytes", action="store_true", help="write bytes")
-    one.add_argument("--unit", choices=list(UNITS), help="the unit of a table that has none, for its text")
+    one.add_argument("--unit", choices=list(UNITS), help="the unit of a table that has none, for its text; of an ARXML file another one")
+    one.add_argument("--json", action="store_true", help="of an ARXML file the text and what became of each constraint, as JSON")
+    add_timing(one)
     one.add_argument("--grammar", action="store_true", help="how a text table is written")
     one.set_defaults(run=_table)
 
@@ -370,6 +384,7 @@ def _parser() -> argparse.ArgumentParser:
     parser = _Parser("delkuthi", description="Timing constraints (TADL2) checked on logs and live buses.",
                      epilog=_EXAMPLES, formatter_class=_PLAIN)
     parser.add_argument("--version", action="store_true", help="the versions of this package and of the library")
+    parser.set_defaults(takeover=None)
     commands = parser.add_subparsers(dest="command", metavar="COMMAND")
     for add in (_add_check, _add_watch, _add_table, _add_on_logs):
         add(commands)
@@ -389,7 +404,10 @@ def _run(words: Sequence[str]) -> int:
     if given.command is None:
         parser.error("expected a command")
     try:
-        return int(given.run(given))
+        status = int(given.run(given))
+        for line in [*given.takeover.told, given.takeover.summary] if given.takeover else ():
+            complain(line)
+        return status
     except TextError:
         raise
     except Refused as error:

@@ -13,7 +13,7 @@ from typing import Callable, Iterable, Iterator
 from .explain import Explanation, RowHistory
 from .library import Refused
 from .logs import Step
-from .measure import Measure, RowMeasuring, Taker
+from .measure import Measure, RowMeasuring, Taker, share_measures
 from .monitor import Monitor
 from .rowtypes import judged
 from .scope import Scope
@@ -223,6 +223,18 @@ class RowVerdict:
     left: dict[int, Counter[int]] = field(default_factory=dict)
 
 
+def together(verdicts: list[RowVerdict], rows: Iterable[Row]) -> list[RowVerdict]:
+    """The verdicts of a table's rows, each with those of the rows that are part of it: broken by the first that is."""
+    found = list(verdicts)
+    for row, verdict in zip(rows, verdicts):
+        if row.same_as is not None:
+            first, other = sorted((found[row.same_as], verdict), key=lambda one: NEVER if one.broken is None else one.broken[0])
+            found[row.same_as] = RowVerdict(first.broken, first.by_close, first.why, first.events + other.events,
+                                            first.instances + other.instances, max(first.stretches, other.stretches),
+                                            first.not_yet_due + other.not_yet_due, first.left_out + other.left_out)
+    return found
+
+
 class Stretches:
     """Walks over the steps of a log, and says of each row when a stretch of it begins, what comes in it, and when it ends."""
 
@@ -381,6 +393,7 @@ class ScopedMeasuring(Stretches):
         super().__init__(table)
         self._scope, self._close, self._verdicts = scope, close, verdicts
         self.rows = [row.type.measuring(row) for row in table.rows]
+        share_measures(table, self.rows)
         self._numbers = [0] * len(table.rows)
         self._takers: list[dict[int, Taker]] = [{} for _ in table.rows]
         self._left: list[Counter[int]] = [Counter() for _ in table.rows]

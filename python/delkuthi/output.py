@@ -10,6 +10,7 @@ from html import escape
 from typing import Sequence
 from xml.sax.saxutils import quoteattr
 
+from .autosar import Takeover
 from .check import IDLE, SO_FAR, Outcome, RowOutcome
 from .library import VERSION, library_version
 from .measured import properties
@@ -102,14 +103,16 @@ def _word(outcome: Outcome) -> str:
     return next((word for word in ("broken", "open", SO_FAR, "kept") if outcome.of(word)), "never exercised")
 
 
-def as_json(table: Table, outcomes: Sequence[Outcome]) -> str:
-    """All outcomes as one JSON object."""
+def as_json(table: Table, outcomes: Sequence[Outcome], takeover: Takeover | None = None) -> str:
+    """All outcomes as one JSON object; with what became of each constraint where the table is an ARXML file."""
     logs = [outcome.as_dict() for outcome in outcomes]
     for outcome, log in zip(outcomes, logs):
         log["rows"] = [{**asdict(row), "about": [{"event": table.event_name(number), "time": time} for number, time in row.about]}
                        for row in outcome.rows]
     found = {"delkuthi": VERSION, "library": library_version(), "unit": table.unit, "logs": logs,
              "status": max((outcome.status for outcome in outcomes), default=0)}
+    if takeover is not None:
+        found["constraints"] = takeover.as_list()
     return json.dumps(found, indent=2, ensure_ascii=True) + "\n"
 
 

@@ -136,10 +136,11 @@ TYPE = RowType(
     9, "Reaction", "{stimulus:coloured} -> {response:coloured}, {minimum:time} .. {maximum:time}",
     says="after each stimulus the first response of its colour",
     means="The first response of a colour comes `minimum` to `maximum` after each stimulus of that colour.",
-    asks="""Each stimulus needs a response of its colour, and it is the first response of that colour in the whole recording that
-        has to come minimum to maximum after it. So all stimuli of a colour share one response, and one that comes before any
-        stimulus is it already. Later responses do not count. A colour that has stimuli and no response breaks the row once the
-        clock is past its first stimulus + maximum, as soon as no time is left that suits all its stimuli, and at the close.""",
+    asks="""Each stimulus needs a response of its colour. The response is the first one of that colour in the whole
+        recording, and it must come minimum to maximum after the stimulus. So all stimuli of a colour share one response,
+        and a response before every stimulus counts as that response. Later responses do not count. A colour that has
+        stimuli and no response breaks the row once the clock is past its first stimulus + maximum, as soon as no time is
+        left that suits all its stimuli, and at the close.""",
     manual="""each stimulus needs a response of its colour, and it is the first response of that colour in the whole recording
         that comes minimum to maximum after it. So a request that is repeated in one colour breaks the row: in the picture the
         second `ask/1` finds the answer to the first, which came long before it. Give each request a colour of its own, 0 to 7, or

@@ -116,8 +116,8 @@ TYPE = RowType(
     7, "StrongSynchronization", "{kinds:kinds}, tolerance {tolerance:time}",
     says="the events of all kinds in groups within tolerance",
     means="The first events of the kinds, 2 to 4 of them, are at most `tolerance` apart, and so are the second, and so on.",
-    asks="""The first events of all the kinds are at most tolerance apart, and so are the second, the third, and so on. A group
-        that lacks a kind breaks the row once the clock is past its first event + tolerance, and at the close.""",
+    asks="""The first events of all the kinds are at most tolerance apart, and so are the second, the third, and so on. A
+        group that lacks a kind breaks the row once the clock is past its first event + tolerance, and at the close.""",
     manual="""the first events of all the kinds are at most tolerance apart, and so are the second, the third, and so on. A group
         that lacks a kind breaks the row once tolerance is over.""",
     measures="width: from the first event of a group to the last", each="each group",

@@ -164,10 +164,10 @@ TYPE = RowType(
     11, "Synchronization", "{kinds:kinds}, tolerance {tolerance:time}",
     says="each event in a stretch of tolerance with an event of every kind",
     means="Each event of the kinds, 2 to 4 of them, lies in a stretch of `tolerance` in which every kind has an event.",
-    asks="""Each event of the kinds lies in a full window: a stretch from some time to tolerance later in which every one of the kinds
-        has an event. Windows may overlap, one event may serve several, and a kind may have several events in one: unlike type 7 it
-        counts nothing. An event that lies in no full window breaks the row once the clock is past it + tolerance, and at the
-        close.""",
+    asks="""Each event of the kinds lies in a full window: a stretch from some time to tolerance later in which every one
+        of the kinds has an event. Windows may overlap, one event may be in several, and a kind may have several events in
+        one: unlike type 7 it does not count events. An event that lies in no full window breaks the row once the clock is
+        past it + tolerance, and at the close.""",
     manual="""each event lies in a stretch of tolerance in which every one of the kinds has an event. Unlike in a StrongSynchronization
         nothing is counted: a kind may have several events in such a stretch, and one event may serve two of them. An event around
         which a kind is missing breaks the row once tolerance is over.""",

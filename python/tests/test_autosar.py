@@ -8,6 +8,7 @@ import pytest
 from delkuthi.autosar import take_over
 from delkuthi.autosar.constraints import LATER
 from delkuthi.autosar.times import FEMTOSECONDS
+from delkuthi.command import main
 from delkuthi.readers.base import LogError
 from delkuthi.rowtypes import BY_NAME
 
@@ -85,7 +86,7 @@ ROWS = [
                                         element("MIN-NUMBER-OF-OCCURRENCES", "1"), time("PATTERN-PERIOD", 20 * MS), time("PATTERN-JITTER", MS)],
      ['"x" Burst a maximum 3, length 9 ms, minimum 0'], "MIN-NUMBER-OF-OCCURRENCES, PATTERN-PERIOD, PATTERN-JITTER: a Burst does not ask for it"),
     ("BURST-PATTERN-EVENT-TRIGGERING", [event(), element("MAX-NUMBER-OF-OCCURRENCES", "65"), time("PATTERN-LENGTH", 9 * MS)], [],
-     "Burst, maximum: a row has a number out of its range (refused with 6): found 65"),
+     "Burst, maximum: a row has a time, span or maximum out of range (refused with 6): found 65"),
     ("BURST-PATTERN-EVENT-TRIGGERING", [event(), time("PATTERN-LENGTH", 9 * MS)], [], "it has no MAX-NUMBER-OF-OCCURRENCES"),
     ("ARBITRARY-EVENT-TRIGGERING", [event(), several("MINIMUM-DISTANCES", MS), several("MAXIMUM-DISTANCES", 9 * MS)], [],
      "it needs a row of the type Arbitrary"),
@@ -161,7 +162,7 @@ ROWS = [
     ("PERIODIC-EVENT-TRIGGERING", [event(), coded("PERIOD", 3, "1.5")], [], "the CSE-CODE-FACTOR of PERIOD is 1.5, which is no whole number"),
     ("PERIODIC-EVENT-TRIGGERING", [event(), coded("PERIOD", 3, -1)], [], "PERIOD is below 0: its CSE-CODE-FACTOR is -1"),
     ("PERIODIC-EVENT-TRIGGERING", [event(), element("PERIOD", element("CSE-CODE-FACTOR", "5"))], [], "PERIOD has no CSE-CODE"),
-    ("PERIODIC-EVENT-TRIGGERING", [event(), coded("PERIOD", 10, 10**20)], [], "Sporadic"),
+    ("PERIODIC-EVENT-TRIGGERING", [event(), coded("PERIOD", 10, 10**20)], [], "PERIOD is more than 1152921504606846975 ns, the longest time of a row"),
 ]
 
 
@@ -351,8 +352,8 @@ def test_unknown_elements_are_named_and_counted(tmp_path, command):
     said = [line.partition(": ")[2] for line in error.splitlines()]
     assert said == ["TIMING-CLOCKS in SWC-TIMING is not known here and was left out", "TD-HEADER in TIMING-DESCRIPTIONS is not known here and was left out",
                     "NEW-CONSTRAINT in TIMING-REQUIREMENTS is not known here and was left out (2 times)",
-                    "TIMING-REQUIREMENTS in NEW-TIMING is not known here and was left out",
-                    "PHASE in PERIODIC-EVENT-TRIGGERING is not known here and was left out (2 times)", "constraints: 1 taken, 2 weaker, 0 left out"]
+                    "PHASE in PERIODIC-EVENT-TRIGGERING is not known here and was left out (2 times)",
+                    "TIMING-REQUIREMENTS in NEW-TIMING is not known here and was left out", "constraints: 1 taken, 2 weaker, 0 left out"]
     line = int(error.split(":")[1])
     assert "TIMING-CLOCKS" in text.splitlines()[line - 1]
 
@@ -370,23 +371,28 @@ WHOLE = arxml(package("P", extension("SWC-TIMING", "T", EVENTS, [GOOD])))
 LAUGHS = ('<!DOCTYPE AUTOSAR [<!ENTITY a "lol">' + "".join(f'<!ENTITY {b} "{f"&{a};" * 10}">' for a, b in zip("abcdefgh", "bcdefghi")) + "]>")
 
 
-@pytest.mark.parametrize("data, said", [
+NONE = [
     (WHOLE[: len(WHOLE) // 2].encode(), "not whole XML: "), (b"<", "not whole XML: "), (b"", "not whole XML: no element found"),
     (WHOLE.replace("<AUTOSAR", LAUGHS + "<AUTOSAR", 1).encode(), "a document type (DTD) is refused"),
     (WHOLE.replace("<AUTOSAR", '<!DOCTYPE AUTOSAR SYSTEM "file:///etc/passwd"><AUTOSAR', 1).encode(), "a document type (DTD) is refused"),
     (WHOLE.replace(">good<", ">&secret;<").encode(), "not whole XML: undefined entity"),
     (WHOLE.replace(">good<", f">{'x' * 5000}<").encode(), "a text of more than 4,000 characters"),
     (b"<AUTOSAR>" + b"<A>" * 2000, "elements nested more than 1,000 deep"), (b"<html></html>", "expected an AUTOSAR file, whose first element is AUTOSAR, found html"),
-    (WHOLE.encode("utf-16"), None), (WHOLE.encode().replace(b"UTF-8", b"ebcdic-xy"), "not whole XML: "),
+    (WHOLE.replace("UTF-8", "UTF-16").encode("utf-16"), None), (WHOLE.encode().replace(b"UTF-8", b"ebcdic-xy"), "not whole XML: "),
     (WHOLE.encode().replace(b"good", b"g\xffd"), "not whole XML: not well-formed"),
     (b"<AUTOSAR/>", "it has no timing requirements"), (WHOLE.replace("/P/T/a", "/P/T/z").encode(), "no constraint of it can be taken"),
     (b"\x00\x01\x02" * 1000, "not whole XML: "), (b"<AUTOSAR " + b"x" * (1 << 25), "one tag, comment or attribute of more than"),
     (WHOLE.replace("<EVENT", "<PERIOD").replace("</EVENT", "</PERIOD").replace("good</SHORT-NAME>", "good</SHORT-NAME>" + "<A/>" * 100_001).encode(),
      "OFFSET-TIMING-CONSTRAINT has more than 100,000 elements"),
-])
-def test_files_that_are_none(tmp_path, command, data, said):
-    (tmp_path / "timing.arxml").write_bytes(data.replace(b"encoding=\"UTF-8\"", b"") if said is None else data)
-    status, printed, error = command("table", "timing.arxml")
+]
+
+
+@pytest.mark.parametrize("data, said", NONE, ids=map(str, range(len(NONE))))
+def test_files_that_are_none(tmp_path, capsys, monkeypatch, data, said):
+    monkeypatch.chdir(tmp_path)
+    (tmp_path / "timing.arxml").write_bytes(data)
+    status = main(["table", "timing.arxml"])
+    printed, error = capsys.readouterr()
     if said is None:
         assert status == 0 and error == "timing.arxml: constraints: 1 taken, 0 weaker, 0 left out\n"
         return
@@ -398,7 +404,7 @@ def test_files_that_are_none(tmp_path, command, data, said):
 def test_much_nonsense_takes_little_time_and_memory(tmp_path):
     """A file of 40 MB that is well formed and says nothing about timing, with a constraint at its end."""
     path = tmp_path / "timing.arxml"
-    block = "<SYSTEM-SIGNAL UUID='0'>\n<SHORT-NAME>Signal</SHORT-NAME>\n<DESC><L-2 L='EN'>about</L-2></DESC>\n</SYSTEM-SIGNAL>\n" * 1000
+    block = f"<SYSTEM-SIGNAL UUID='0'>\n<SHORT-NAME>Signal</SHORT-NAME>\n<DESC><L-2 L='EN'>{'about ' * 100}</L-2></DESC>\n</SYSTEM-SIGNAL>\n" * 1000
     with path.open("w") as out:
         out.write('<?xml version="1.0"?>\n<AUTOSAR><AR-PACKAGES><AR-PACKAGE><SHORT-NAME>S</SHORT-NAME><ELEMENTS>\n')
         for _ in range(40_000_000 // len(block)):

@@ -1,7 +1,8 @@
 -- What colours leave as it was, for tables and events of plain kinds: their questions have the answers that they had, and a row of any type but 9
 -- is open just where it was over continuations of kinds 0 to 63, since of any continuation the row's own events alone will do.
 use Rattle.constraint.proofs.Names.{Answer, Call, Constraint, Continues, EventInOrder, Field, InRange, Judged, KindsFit, KindsSuit, List}
-use Rattle.constraint.proofs.Names.{LowerFirst, Meets, Open, Question, Room, SortsFit, Step, [], _++_, _<_, _↔_, _∙_, _∷_, _≡_, _≤_, among, ap}
+use Rattle.constraint.proofs.Names.{LowerFirst, Meets, Open, Question, Room, KindClassesFit, Step, [], _++_, _<_, _↔_, _∙_, _∷_, _≡_, _≤_}
+use Rattle.constraint.proofs.Names.{among, ap}
 use Rattle.constraint.proofs.Names.{arith, at, byte, clock, clockFrom, close, closed, coloured, cond, count, event, false, fieldsOf}
 use Rattle.constraint.proofs.Names.{firstColoured, kind, kinds, lastCount, lastKind, lastTime, length, more, own, questions, refl}
 use Rattle.constraint.proofs.Names.{rowQuestions, span, stop, sym, tick, time, times, true, typeOf, ℕ}
@@ -96,7 +97,7 @@ module _ (ks : List ℕ) (small : Each (λ k. k ≤ lastKind) ks) where
       refl
 
 -- the streams of fields of which none is coloured are plain kinds
-plain-streams : (fields : List Field) → SortsFit fields → Uncoloured fields → Each (λ k. k ≤ lastKind) (streamsIn fields)
+plain-streams : (fields : List Field) → KindClassesFit fields → Uncoloured fields → Each (λ k. k ≤ lastKind) (streamsIn fields)
 plain-streams [] suit plain = each-none (λ k. k ≤ lastKind)
 plain-streams (byte kind x ∷ fields) suit plain =
     each-cons (λ k. k ≤ lastKind) x (streamsIn fields) (omega (arith, suit .0)) (plain-streams fields (suit .1) plain)

@@ -112,7 +112,7 @@ regular (Constraint.Synchronization3 a b c x) = record { again = λ more later. 
 regular (Constraint.Synchronization4 a b c d x) = record { again = λ more later. refl; parts = refl; sized = omega arith; uncoloured = λ e. tt }
 
 -- so the numbers of a row are read as the row
-pub numbers-read : (c : Constraint) (f : Fields) → HoldsRow c f → rowRead (f .line .form) (f .bytes) (f .times) ≡ c
+pub numbers-read : (c : Constraint) (f : Fields) → HoldsRow c f → rowRead (f .line .tag) (f .bytes) (f .times) ≡ c
 numbers-read c f holds =
     rw (holds .typed)
     (ap₂ (rowRead (typeOf c)) (whole (f .bytes) (bytesIn (fieldsOf c)) (holds .bytes)) (whole (f .times) (timesIn (fieldsOf c)) (holds .times))

@@ -31,21 +31,21 @@ unfoldable pub KindsFit : List ℕ → Type 0
 KindsFit ks = ((i : ℕ) → i < length ks → at ks i ≤ lastKind) × ((i j : ℕ) → i < j → j < length ks → ¬ (at ks i ≡ at ks j))
 
 -- §8.18; CR 6: a plain kind where the type takes plain ones, a coloured one where it takes coloured ones
-abbrev pub SortFits : Field → Type 0
-SortFits (byte kind x) = x < firstColoured
-SortFits (byte coloured x) = firstColoured ≤ x
-SortFits (byte count x) = Unit {0}
-SortFits (byte (span limit) x) = Unit {0}
-SortFits (time role x) = Unit {0}
+abbrev pub KindClassFits : Field → Type 0
+KindClassFits (byte kind x) = x < firstColoured
+KindClassFits (byte coloured x) = firstColoured ≤ x
+KindClassFits (byte count x) = Unit {0}
+KindClassFits (byte (span limit) x) = Unit {0}
+KindClassFits (time role x) = Unit {0}
 
 -- §8.18; CR 6: so it is in each of some fields
-abbrev pub SortsFit : List Field → Type 0
-SortsFit [] = Unit {0}
-SortsFit (f ∷ fields) = SortFits f × SortsFit fields
+abbrev pub KindClassesFit : List Field → Type 0
+KindClassesFit [] = Unit {0}
+KindClassesFit (f ∷ fields) = KindClassFits f × KindClassesFit fields
 
 -- §8.18; CR 6: and in each field of a row
 unfoldable pub KindsSuit : Constraint → Type 0
-KindsSuit c = SortsFit (fieldsOf c)
+KindsSuit c = KindClassesFit (fieldsOf c)
 
 -- §8.6, §4.7; 01, table; CR 1, 10: each of some fields is in its range; an upper may be the mark for no limit where the type has one
 abbrev pub FieldsInRange : List Field → Type 0

@@ -206,91 +206,91 @@ pub struct Table {
 // The table of types: a line for each variant, with its type byte and the roles of its fields.
 // Made by release/row-types.py.
 const DELAY: Line = Line {
-    form: 1,
+    tag: 1,
     bytes: [KIND, KIND, 0, 0, 0],
     times: [LOWER, UPPER_OR_NONE, 0, 0],
 };
 
 const STRONG_DELAY: Line = Line {
-    form: 2,
+    tag: 2,
     bytes: [KIND, KIND, 0, 0, 0],
     times: [LOWER, UPPER, 0, 0],
 };
 
 const REPEAT: Line = Line {
-    form: 3,
+    tag: 3,
     bytes: [KIND, SPAN_LIMIT, 0, 0, 0],
     times: [LOWER, UPPER_OR_NONE, 0, 0],
 };
 
 const SPORADIC: Line = Line {
-    form: 4,
+    tag: 4,
     bytes: [KIND, 0, 0, 0, 0],
     times: [LOWER, UPPER_OR_NONE, JITTER, MINIMUM],
 };
 
 const BURST: Line = Line {
-    form: 5,
+    tag: 5,
     bytes: [KIND, SPAN_LIMIT, 0, 0, 0],
     times: [LENGTH, MINIMUM, 0, 0],
 };
 
 const ORDER: Line = Line {
-    form: 6,
+    tag: 6,
     bytes: [KIND, KIND, 0, 0, 0],
     times: [0, 0, 0, 0],
 };
 
 const STRONG_SYNCHRONIZATION_2: Line = Line {
-    form: 7,
+    tag: 7,
     bytes: [COUNT, KIND, KIND, 0, 0],
     times: [TOLERANCE, 0, 0, 0],
 };
 
 const STRONG_SYNCHRONIZATION_3: Line = Line {
-    form: 7,
+    tag: 7,
     bytes: [COUNT, KIND, KIND, KIND, 0],
     times: [TOLERANCE, 0, 0, 0],
 };
 
 const STRONG_SYNCHRONIZATION_4: Line = Line {
-    form: 7,
+    tag: 7,
     bytes: [COUNT, KIND, KIND, KIND, KIND],
     times: [TOLERANCE, 0, 0, 0],
 };
 
 const EXECUTION_TIME: Line = Line {
-    form: 8,
+    tag: 8,
     bytes: [KIND, KIND, KIND, KIND, 0],
     times: [LOWER, UPPER, 0, 0],
 };
 
 const REACTION: Line = Line {
-    form: 9,
+    tag: 9,
     bytes: [COLOURED, COLOURED, 0, 0, 0],
     times: [LOWER, UPPER, 0, 0],
 };
 
 const REPETITION: Line = Line {
-    form: 10,
+    tag: 10,
     bytes: [KIND, REPETITION_SPAN_LIMIT, 0, 0, 0],
     times: [LOWER, UPPER, JITTER, 0],
 };
 
 const SYNCHRONIZATION_2: Line = Line {
-    form: 11,
+    tag: 11,
     bytes: [COUNT, KIND, KIND, 0, 0],
     times: [TOLERANCE, 0, 0, 0],
 };
 
 const SYNCHRONIZATION_3: Line = Line {
-    form: 11,
+    tag: 11,
     bytes: [COUNT, KIND, KIND, KIND, 0],
     times: [TOLERANCE, 0, 0, 0],
 };
 
 const SYNCHRONIZATION_4: Line = Line {
-    form: 11,
+    tag: 11,
     bytes: [COUNT, KIND, KIND, KIND, KIND],
     times: [TOLERANCE, 0, 0, 0],
 };
@@ -315,21 +315,21 @@ pub fn last_type(edition: u8) -> u8
 }
 
 // Whether the first field of a type is n, the number of the kinds behind it.
-pub fn takes_count(form: u8) -> bool
-    ensures { λ r. ⌜ r ≡ takesCount form ⌝ }
+pub fn takes_count(tag: u8) -> bool
+    ensures { λ r. ⌜ r ≡ takesCount tag ⌝ }
 {
-    form == 7 || form == 11
+    tag == 7 || tag == 11
 }
 
 // The length expected of a row of a type, with the byte behind it, which is the n of a type that has one; 0 if there is no such type.
-pub fn length_of(form: u8, n: u8) -> usize
-    ensures { λ r. ⌜ r ≡ lengthOf form n ⌝ }
+pub fn length_of(tag: u8, n: u8) -> usize
+    ensures { λ r. ⌜ r ≡ lengthOf tag n ⌝ }
 {
-    let place = form as usize;
+    let place = tag as usize;
     if LENGTHS.len() <= place {
         return 0;
     }
-    if takes_count(form) {
+    if takes_count(tag) {
         return LENGTHS[place] + n as usize;
     }
     LENGTHS[place]
@@ -403,8 +403,8 @@ fn synchronization_read(bytes: [u8; 5], tolerance: u64) -> Constraint
 
 impl Constraint {
     // The row of a type byte, the values of its fields of one byte, and its times: what `fields` takes apart.
-    pub fn read(form: u8, bytes: [u8; 5], times: [u64; 4]) -> Self
-        ensures { λ r. ⌜ r ≡ rowRead form bytes times ⌝ }
+    pub fn read(tag: u8, bytes: [u8; 5], times: [u64; 4]) -> Self
+        ensures { λ r. ⌜ r ≡ rowRead tag bytes times ⌝ }
     {
         let byte0 = bytes[0];
         let byte1 = bytes[1];
@@ -414,7 +414,7 @@ impl Constraint {
         let time1 = times[1];
         let time2 = times[2];
         let time3 = times[3];
-        match form {
+        match tag {
             // Made by release/row-types.py, to the end of the list.
             1 => Constraint::Delay {
                 source: byte0,
@@ -624,7 +624,7 @@ impl Constraint {
     }
 
     // The answer to a row's own questions: 5, 18, 6 and 7.
-    pub fn judge(self) -> Answer
+    pub fn validate(self) -> Answer
         ensures { λ r. ⌜ Judged (rowQuestions self) r ⌝ }
     {
         let fields = self.fields();
@@ -636,7 +636,7 @@ impl Constraint {
         if !fields::kinds_fit(byte_roles, bytes) {
             return Answer::Refused(5);
         }
-        if !fields::sorts_fit(byte_roles, bytes) {
+        if !fields::kind_classes_valid(byte_roles, bytes) {
             return Answer::Refused(18);
         }
         if !fields::bytes_fit(byte_roles, bytes) {
@@ -652,15 +652,15 @@ impl Constraint {
     }
 
     // The answer to question 4, whether the type is one of the edition, and then to the row's own questions.
-    pub fn judge_in(self, edition: u8) -> Answer
+    pub fn validate_in(self, edition: u8) -> Answer
         ensures { λ r. ⌜ Judged (rowQuestionsIn edition self) r ⌝ }
     {
         let fields = self.fields();
         let line = fields.line;
-        if last_type(edition) < line.form {
+        if last_type(edition) < line.tag {
             return Answer::Refused(4);
         }
-        self.judge()
+        self.validate()
     }
 }
 
@@ -695,7 +695,7 @@ impl Table {
     }
 
     // The answer to questions 3 to 7 and 18, row by row, in an edition. Any record is taken, also one whose count is above 32.
-    pub fn judge(self, edition: u8) -> Answer
+    pub fn validate(self, edition: u8) -> Answer
         ensures { λ r. ⌜ Judged (rowsQuestions edition 0 (rowsOf self) []) r ⌝ }
     {
         let count = self.count;
@@ -706,7 +706,7 @@ impl Table {
             }
             let entry = self.rows[i];
             let constraint = entry.constraint;
-            match constraint.judge_in(edition) {
+            match constraint.validate_in(edition) {
                 Answer::Refused(number) => {
                     return Answer::Refused(number);
                 }

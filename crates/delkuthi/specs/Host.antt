@@ -4,8 +4,8 @@ use mathlib.Core.Path.{_≡_}
 use mathlib.Core.List.{List, [], _∷_, map}
 use Rattle.constraint.specs.Run.{Request}
 use Rattle.constraint.specs.declared.Call.{Call}
-use Rattle.lent.specs.Layout.{Words}
-use Rattle.lent.specs.Contract.{Takes}
+use Rattle.in_place.specs.Layout.{Words}
+use Rattle.in_place.specs.Contract.{Takes}
 
 -- what a host lends to the calls
 abbrev pub Memory : Type 0

@@ -15,7 +15,7 @@ use Rattle.constraint.specs.declared.Verdict.{Verdict}
 use Rattle.text.specs.Content.{Copied}
 use Rattle.monitor.specs.Contract.{after, Remains}
 use Rattle.monitor.specs.declared.Monitor.{Monitor}
-use Rattle.lent.specs.Layout.{Words, wordsOf}
+use Rattle.in_place.specs.Layout.{Words, wordsOfLent}
 use Rattle.fresh.specs.Fresh.{BeginsUpTo, freshLent}
 use Rattle.table.specs.declared.ReadAnswer.{ReadAnswer}
 use Rattle.delkuthi.specs.Summary.{summaryOf, reportText}
@@ -27,7 +27,7 @@ pub data LeftBy (newest : ℕ) (before : Words) (table recording : List ℕ) : R
   unused : (n place : ℕ) → ReadsTableUpTo newest table (table-refused n place)
       → LeftBy newest before table recording (ReadAnswer.Refused n place) before
   used : (rows : List Constraint) (answer : ReadAnswer) (after : Words) → ReadsTableUpTo newest table (table-of rows)
-      → BeginsUpTo newest table before 0 (wordsOf (freshLent rows)) → RecordingLeaves rows recording answer (wordsOf (freshLent rows)) after
+      → BeginsUpTo newest table before 0 (wordsOfLent (freshLent rows)) → RecordingLeaves rows recording answer (wordsOfLent (freshLent rows)) after
       → LeftBy newest before table recording answer after
 
 -- §7.22: the number and the buffer are the report's, whatever lay in the monitor; and the monitor has been used, however short the buffer is

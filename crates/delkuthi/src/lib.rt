@@ -1,5 +1,5 @@
 // The report on a recording: what the rows of a table read after it. It is also offered to a host in C.
-pub mod host;
+pub mod ffi;
 pub mod joining;
 pub mod printed;
 mod records;
@@ -7,11 +7,11 @@ mod report;
 pub mod stamped;
 pub mod tables;
 
-use lent::Words;
+use in_place::Words;
 use table::ReadAnswer;
 use text::Text;
 ghost use Rattle.constraint.specs.Report.{ReportsUpTo, Reports};
-ghost use Rattle.lent.specs.Contract.{ReadOff};
+ghost use Rattle.in_place.specs.Contract.{ReadOff};
 ghost use Rattle.delkuthi.specs.Printed.{WritesText};
 ghost use Rattle.delkuthi.specs.Program.{Prints};
 ghost use Rattle.delkuthi.specs.Summary.{Tells};

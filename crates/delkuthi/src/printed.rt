@@ -1,7 +1,7 @@
 // The printed page of a monitor, closed or not, for a host in C.
 use crate::report::summary_of;
-use lent::Words;
-ghost use Rattle.lent.specs.Contract.{ReadOff};
+use in_place::Words;
+ghost use Rattle.in_place.specs.Contract.{ReadOff};
 ghost use Rattle.delkuthi.specs.Printed.{WritesText, WritesPage};
 
 // Writes the page of a monitor that is lent to the front of a buffer and answers its length; where the buffer is too short, answers 0 and leaves it

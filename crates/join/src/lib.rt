@@ -112,16 +112,16 @@ fn put_call(buffer: &mut [u8], place: usize, call: Call)
 {
     match call {
         Call::Event { kind, time } => {
-            number::put(buffer, place, &[0, 9, kind]);
-            number::put_eight(buffer, place + 3, time);
+            big_endian::put(buffer, place, &[0, 9, kind]);
+            big_endian::put_eight(buffer, place + 3, time);
         }
         Call::ColouredEvent { kind, colour, time } => {
-            number::put(buffer, place, &[0, 10, kind, colour]);
-            number::put_eight(buffer, place + 4, time);
+            big_endian::put(buffer, place, &[0, 10, kind, colour]);
+            big_endian::put_eight(buffer, place + 4, time);
         }
         Call::Tick { time } => {
-            number::put(buffer, place, &[0, 8]);
-            number::put_eight(buffer, place + 2, time);
+            big_endian::put(buffer, place, &[0, 8]);
+            big_endian::put_eight(buffer, place + 2, time);
         }
         Call::Close => {}
     }
@@ -189,7 +189,7 @@ fn walk(first: &[u8], second: &[u8], buffer: &mut [u8], limit: usize) -> Walked
             size: 0,
         };
     }
-    number::put_byte(buffer, 0, version(first, second));
+    big_endian::put_byte(buffer, 0, version(first, second));
     let mut place: usize = 1;
     let mut other: usize = 1;
     let mut clock: u64 = 0;

@@ -12,12 +12,12 @@ use Rattle.constraint.specs.declared.Answer.the-variants.{Taken, Refused}
 use Rattle.constraint.specs.declared.Call.{Call}
 use Rattle.constraint.specs.declared.Constraint.{Constraint}
 use Rattle.constraint.specs.declared.Verdict.{Verdict}
-use Rattle.machine.specs.Parts.{plus}
+use Rattle.row_type.specs.Parts.{plus}
 use Rattle.row.specs.Machine.{rowOf, rowStep, rowVerdict}
-use Rattle.row.specs.Undo.{noBefore, savedBy, rowWithout, keptWithout}
-use Rattle.row.specs.declared.Occurrence.{Occurrence}
+use Rattle.row.specs.Undo.{noRowUndo, savedBy, rowWithout, keptWithout}
+use Rattle.row.specs.declared.StepInput.{StepInput}
 use Rattle.row.specs.declared.Row.{Row}
-use Rattle.questions.specs.Questions.{noUndo, placeFor, placeIn, refusalBy, occurrenceBy, freeAfter, closedAfter, undoBy}
+use Rattle.questions.specs.Questions.{noUndo, placeFor, placeIn, refusalBy, stepInputBy, freeAfter, closedAfter, undoBy}
 use Rattle.monitor.specs.declared.Monitor.{Monitor}
 use Rattle.monitor.specs.declared.Stepped.{Stepped}
 
@@ -35,7 +35,7 @@ monitorOf rows =
       count = 0;
       closed = 0;
       len = length rows;
-      before = replicate rowLimit noBefore;
+      before = replicate rowLimit noRowUndo;
       undo = noUndo;
     }
 
@@ -77,26 +77,26 @@ nextFor m call = getD (m .next) (placeFor call) 0
 abbrev pub refusalFor : Monitor → Call → ℕ
 refusalFor m call = refusalBy call (m .closed) (m .count) (m .clock) (nextFor m call)
 
-abbrev pub occurrenceOf : Monitor → Call → Occurrence
-occurrenceOf m call = occurrenceBy call (m .clock)
+abbrev pub stepInputOf : Monitor → Call → StepInput
+stepInputOf m call = stepInputBy call (m .clock)
 
 -- each row after the call, which is the next step
 unfoldable pub takenCall : Monitor → Call → Monitor
 takenCall m call =
     record {
-      rows = mapFirst (m .len) (λ r. rowStep r (occurrenceOf m call) (nextStep m) .row) (m .rows);
+      rows = mapFirst (m .len) (λ r. rowStep r (stepInputOf m call) (nextStep m) .row) (m .rows);
       next = set (m .next) (placeFor call) (freeAfter call (nextFor m call));
-      clock = occurrenceOf m call .time;
+      clock = stepInputOf m call .time;
       count = nextStep m;
       closed = closedAfter call (m .closed);
       len = m .len;
-      before = zipFirst (m .len) (savedBy (occurrenceOf m call) (nextStep m)) (m .rows) (m .before);
+      before = zipFirst (m .len) (savedBy (stepInputOf m call) (nextStep m)) (m .rows) (m .before);
       undo = undoBy call (m .closed) (m .clock) (nextFor m call) (m .count);
     }
 
 -- the call crowds one of the rows
 abbrev pub crowds : Monitor → Call → Bool
-crowds m call = anyFirst (m .len) (λ r. rowStep r (occurrenceOf m call) (nextStep m) .crowded) (m .rows)
+crowds m call = anyFirst (m .len) (λ r. rowStep r (stepInputOf m call) (nextStep m) .crowded) (m .rows)
 
 -- the refusal by that number; or, for 0, 12, or the call is taken
 abbrev pub steppedBy : Monitor → Call → ℕ → Stepped

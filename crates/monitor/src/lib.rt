@@ -3,10 +3,10 @@ use constraint::Answer;
 use constraint::Call;
 use constraint::Table;
 use constraint::Verdict;
-use machine::parts::plus;
 pub use questions::Undo;
-use row::Before;
 use row::Row;
+use row::RowUndo;
+use row_type::parts::plus;
 ghost use mathlib.Core.Path.{_≡_};
 ghost use Rattle.constraint.specs.Run.{asks, withdraws};
 ghost use Rattle.constraint.specs.declared.Call.{Call};
@@ -29,7 +29,7 @@ pub struct Monitor {
     // the number of rows
     pub len: usize,
     // for each row what it was before the step that last changed it
-    pub before: [Before; 32],
+    pub before: [RowUndo; 32],
     // what the last step changed beside the rows
     pub undo: Undo,
 }
@@ -68,7 +68,7 @@ impl Monitor {
     pub fn fresh_in(edition: u8, table: Table) -> Stepped
         ensures { λ r. ⌜ FreshlyIn edition table (r .answer) (r .monitor) ⌝ }
     {
-        match table.judge(edition) {
+        match table.validate(edition) {
             Answer::Refused(number) => Stepped {
                 answer: Answer::Refused(number),
                 monitor: rows::over(table, 0),
@@ -90,7 +90,7 @@ impl Monitor {
         if 0 < number {
             return self.refused(number);
         }
-        let o = questions::occurrence(call, self.clock);
+        let o = questions::step_input(call, self.clock);
         let step = plus(self.count, 1);
         let stepped = rows::step(self, o, step);
         if stepped.crowded {
@@ -114,7 +114,7 @@ impl Monitor {
             return self.refused(21);
         }
         let at = questions::place_in(undo.place);
-        let mut after = rows::back(self, self.count);
+        let mut after = rows::undo_rows(self, self.count);
         after.next[at] = undo.next;
         after.clock = undo.clock;
         after.count = undo.count;

@@ -7,7 +7,7 @@ use Rattle.constraint.proofs.Lists.{Each, each-append, each-cons, each-none}
 use Rattle.constraint.specs.Page.{leftIn, lineText, nameOf, pageLine, pageWidth, rightIn, stepText, verdictWord}
 use Rattle.constraint.specs.{Report.blank, Report.decimal, Report.lineEnd, Types.typeNames, Types.unknownName, declared.Verdict.Verdict}
 use Rattle.constraint.specs.{declared.Verdict.the-variants.Broken, declared.Verdict.the-variants.Kept, declared.Verdict.the-variants.Open}
-use Rattle.number.proofs.Stores.{stores-append}
+use Rattle.big_endian.proofs.Stores.{stores-append}
 use Rattle.text.proofs.Decimals.{decimal-each, decimal-few, decimal-length}
 
 -- ---- texts

@@ -8,9 +8,9 @@ use Rattle.constraint.specs.Table.{ReadsTableUpTo, table-of, table-refused}
 use Rattle.constraint.specs.Recording.{ReadsRecording, recording-of, recording-refused}
 use Rattle.constraint.specs.Report.{ReportsUpTo}
 use Rattle.constraint.specs.declared.Constraint.{Constraint}
-use Rattle.lent.specs.Layout.{Lent, wordsOf}
-use Rattle.lent.specs.Steps.{leaves}
-use Rattle.lent.specs.Contract.{answerFrom, ReadOff}
+use Rattle.in_place.specs.Layout.{Lent, wordsOfLent}
+use Rattle.in_place.specs.Steps.{leaves}
+use Rattle.in_place.specs.Contract.{answerFrom, ReadOff}
 use Rattle.fresh.specs.Fresh.{BeginsUpTo, freshLent}
 use Rattle.delkuthi.specs.Host.{Memory, Host, Untouched}
 use Rattle.delkuthi.specs.Taking.{StepsBefore}
@@ -55,7 +55,7 @@ pub record LentExactUpTo (newest : ℕ) (bytes : List ℕ) {h end : Memory} {req
   pub left : Left
   pub run : Run rows noneLeft requests (map answerFrom numbers) left
   pub untouched : Untouched host
-  pub words : end ≡ wordsOf (leavesAll (freshLent rows) requests)
+  pub words : end ≡ wordsOfLent (leavesAll (freshLent rows) requests)
   pub monitors : Monitors end rows left
   pub recorded : (recording : List ℕ) (steps : List Step) → ReadsRecording rows recording (recording-of steps) → left .steps ≡ steps ++ (close ∷ [])
       → (buffer : List ℕ) (number : ℕ) (written : List ℕ) → ReadOff end (λ m answer. ReportsOf m buffer answer written) number

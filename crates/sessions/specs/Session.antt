@@ -10,7 +10,7 @@ use Rattle.constraint.specs.Table.{ReadsTableUpTo, table-of, table-refused}
 use Rattle.constraint.specs.Recording.{ReadsRecording, recording-of, recording-refused}
 use Rattle.constraint.specs.Report.{ReportsUpTo}
 use Rattle.constraint.specs.declared.Constraint.{Constraint}
-use Rattle.lent.specs.Contract.{answerFrom, Takes}
+use Rattle.in_place.specs.Contract.{answerFrom, Takes}
 use Rattle.fresh.specs.Fresh.{BeginsUpTo}
 use Rattle.delkuthi.specs.Host.{Memory}
 use Rattle.delkuthi.specs.Taking.{StepsBefore}

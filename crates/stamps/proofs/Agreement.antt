@@ -56,16 +56,16 @@ none-taken rows steps (Call.Event k t) judged =
     let eight = judged-all 8 _ _ judged in
     let full = judged-all 24 _ _ (eight .1) in
     let nine = judged-all 9 _ _ (full .1) in
-    let form = judged-all 19 _ _ (nine .1) in
+    let tag = judged-all 19 _ _ (nine .1) in
     judged-yes 8 _ _ Taken (eight .0) (judged-yes 24 _ _ Taken (full .0) (judged-yes 9 _ _ Taken (nine .0)
-    (judged-yes 19 _ _ Taken (form .0) (event-taken rows steps k t (form .1)))))
+    (judged-yes 19 _ _ Taken (tag .0) (event-taken rows steps k t (tag .1)))))
 none-taken rows steps (Call.ColouredEvent k c t) judged =
     let eight = judged-all 8 _ _ judged in
     let full = judged-all 24 _ _ (eight .1) in
     let nine = judged-all 9 _ _ (full .1) in
-    let form = judged-all 19 _ _ (nine .1) in
+    let tag = judged-all 19 _ _ (nine .1) in
     judged-yes 8 _ _ Taken (eight .0) (judged-yes 24 _ _ Taken (full .0) (judged-yes 9 _ _ Taken (nine .0)
-    (judged-yes 19 _ _ Taken (form .0) (event-taken rows steps (stream k c) t (form .1)))))
+    (judged-yes 19 _ _ Taken (tag .0) (event-taken rows steps (stream k c) t (tag .1)))))
 none-taken rows steps (Call.Tick t) judged =
     let eight = judged-all 8 _ _ judged in
     let full = judged-all 24 _ _ (eight .1) in

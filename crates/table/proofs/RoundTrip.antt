@@ -6,7 +6,7 @@ use Rattle.table.proofs.Names.{drop-of-length-le, edition-above, fields
 use Rattle.table.proofs.Names.{length-drop, length-take-le, lengthAt, no-more, number-of-bytes, placeQuestions, row-fits, row-refused}
 use Rattle.table.proofs.Names.{row-taken, rowBody, rowBytes, rowLimit, rowQuestions, rowThen, rowsBytes, rowsQuestions, subst₂, sym, table-of}
 use Rattle.table.proofs.Names.{table-refused, tableBytesIn, take-append-drop, take-append-seam, take-at, typeOf, version-taken, ℕ}
-use Rattle.table.proofs.{Bodies.number-back, Bodies.range-fits, Bodies.row-length, Places.place-row, Places.place-taken, Standing.body-short}
+use Rattle.table.proofs.{Bodies.number-back, Bodies.range-fits, Bodies.row-length, Places.place-row, Places.place-taken, BodyUnique.body-short}
 
 -- From bytes to rows and back
 

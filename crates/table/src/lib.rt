@@ -36,7 +36,7 @@ pub fn read(newest: u8, bytes: &[u8]) -> Reading
     if !reader::version_known(newest, bytes) {
         return reader::refused(1, 0);
     }
-    let edition = number::byte_at(bytes, 0);
+    let edition = big_endian::byte_at(bytes, 0);
     reader::read_rows(edition, bytes)
 }
 
@@ -44,7 +44,7 @@ pub fn read(newest: u8, bytes: &[u8]) -> Reading
 pub fn write(edition: u8, table: Table, buffer: &mut [u8]) -> WriteAnswer
     ensures { λ r. ⌜ Writes edition (rowsOf table) (now (buffer .entry)) r (now (buffer .exit)) ⌝ }
 {
-    match table.judge(edition) {
+    match table.validate(edition) {
         Answer::Refused(number) => {
             return WriteAnswer::Refused(number);
         }
@@ -54,7 +54,7 @@ pub fn write(edition: u8, table: Table, buffer: &mut [u8]) -> WriteAnswer
     if buffer.len() < size {
         return WriteAnswer::Refused(16);
     }
-    number::put_byte(buffer, 0, edition);
+    big_endian::put_byte(buffer, 0, edition);
     writer::put_rows(buffer, table);
     WriteAnswer::Written(size)
 }

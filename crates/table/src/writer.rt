@@ -16,7 +16,7 @@ fn row_length(row: Constraint) -> usize
 {
     let fields = row.fields();
     let line = fields.line;
-    constraint::length_of(line.form, fields.bytes[0])
+    constraint::length_of(line.tag, fields.bytes[0])
 }
 
 // Stores the first `count` of some times in a buffer from a place on.
@@ -28,7 +28,7 @@ fn put_times(buffer: &mut [u8], place: usize, times: [u64; 4], count: usize)
     let mut i = 0;
     while i < count {
         let time = times[i];
-        number::put_eight(buffer, next, time);
+        big_endian::put_eight(buffer, next, time);
         next += 8;
         i += 1;
     }
@@ -45,8 +45,8 @@ fn put_body(buffer: &mut [u8], place: usize, row: Constraint, size: usize)
     let times = fields.times;
     let start = body::times_start(size);
     let count = start - 1;
-    number::put_byte(buffer, place, line.form);
-    number::put(buffer, place + 1, &bytes[..count]);
+    big_endian::put_byte(buffer, place, line.tag);
+    big_endian::put(buffer, place + 1, &bytes[..count]);
     let times_count = body::times_count(size);
     put_times(buffer, place + start, times, times_count);
 }
@@ -57,7 +57,7 @@ fn put_row(buffer: &mut [u8], place: usize, row: Constraint)
     ensures { λ _. ⌜ now (buffer .exit) ≡ sets (now (buffer .entry)) place (rowBytes row) ⌝ }
 {
     let size = row_length(row);
-    number::put_two(buffer, place, size);
+    big_endian::put_two(buffer, place, size);
     put_body(buffer, place + 2, row, size);
 }
 

@@ -126,7 +126,7 @@ impl Text {
         if buffer.len() < len {
             return 0;
         }
-        number::put(buffer, 0, &bytes[..len]);
+        big_endian::put(buffer, 0, &bytes[..len]);
         len
     }
 }

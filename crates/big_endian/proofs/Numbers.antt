@@ -45,10 +45,11 @@ digits (suc n) high x =
     rw (digits n (high * 256 + x / 256 ^ n % 256) x, pow-succ' 256 n, mod-mul x {m = 256} {c = 256 ^ n} (omega arith) (power-positive n))
     (omega (arith, place high (x / power % 256) power))
 
+-- §4.1
 pub number-of-bytes : (n x : ℕ) → x < 256 ^ n → number (bytesOf n x) ≡ x
 number-of-bytes n x h = digits n 0 x ∙ rw (mod-eq-of-lt h) (omega arith)
 
--- the bytes of the number of bytes are those bytes
+-- §4.1: the bytes of the number of bytes are those bytes
 pub bytes-of-number : (high : ℕ) (bytes : List ℕ) → Bytes bytes → bytesOf (length bytes) (numberBehind high bytes) ≡ bytes
 unfolding numberBehind bytesOf Bytes
 bytes-of-number high [] h = refl

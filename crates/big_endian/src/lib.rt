@@ -49,6 +49,7 @@ pub fn byte_at(bytes: &[u8], place: usize) -> u8
     0
 }
 
+// §4.1
 // The number in the two bytes from a place on: past the end, in those that are there.
 pub fn two_at(bytes: &[u8], place: usize) -> usize
     ensures { λ r. ⌜ r ≡ numberAt 2 (now (bytes .entry)) place ⌝ }
@@ -56,6 +57,7 @@ pub fn two_at(bytes: &[u8], place: usize) -> usize
     number_at(bytes, place, 2) as usize
 }
 
+// §4.1
 // The number in the eight bytes from a place on: past the end, in those that are there.
 pub fn eight_at(bytes: &[u8], place: usize) -> u64
     ensures { λ r. ⌜ r ≡ numberAt 8 (now (bytes .entry)) place ⌝ }
@@ -105,6 +107,7 @@ fn put_number(buffer: &mut [u8], place: usize, x: u64, width: usize)
     }
 }
 
+// §4.1
 // Stores the two low bytes of a number in a buffer from a place on.
 pub fn put_two(buffer: &mut [u8], place: usize, x: usize)
     ensures { λ _. ⌜ now (buffer .exit) ≡ sets (now (buffer .entry)) place (bytesOf 2 x) ⌝ }
@@ -112,6 +115,7 @@ pub fn put_two(buffer: &mut [u8], place: usize, x: usize)
     put_number(buffer, place, x as u64, 2);
 }
 
+// §4.1
 // Stores the eight bytes of a number in a buffer from a place on.
 pub fn put_eight(buffer: &mut [u8], place: usize, x: u64)
     ensures { λ _. ⌜ now (buffer .exit) ≡ sets (now (buffer .entry)) place (bytesOf 8 x) ⌝ }

@@ -17,6 +17,7 @@ use Rattle.constraint.proofs.{Continuations.meets-same, Judged.put-in, 
 abbrev pub rowQuestionsBefore : Constraint → List Question
 rowQuestionsBefore c = (5, KindsFit (kinds c)) ∷ (6, InRange c) ∷ (7, LowerFirst c) ∷ []
 
+-- §8.18
 pub row-as-before : (c : Constraint) → KindsSuit c → (a : Answer) → Judged (rowQuestions c) a ↔ Judged (rowQuestionsBefore c) a
 row-as-before c suit a =
     let first : List Question = (5, KindsFit (kinds c)) ∷ [] in
@@ -29,6 +30,7 @@ eventQuestionsBefore rows steps k t =
     (8, closed steps ≡ false) ∷ (24, length steps < lastCount) ∷ (9, k ≤ lastKind) ∷ (10, t ≤ lastTime) ∷ (11, EventInOrder steps k t)
     ∷ (12, Room rows (steps ++ (event k t ∷ []))) ∷ []
 
+-- §8.19
 pub event-as-before : (rows : List Constraint) (steps : List Step) (k t : ℕ) → k < firstColoured → (a : Answer)
     → Judged (questions rows steps (Call.Event k t)) a ↔ Judged (eventQuestionsBefore rows steps k t) a
 unfolding questions
@@ -106,7 +108,7 @@ plain-streams (byte count x ∷ fields) suit plain = plain-streams fields (suit 
 plain-streams (byte (span limit) x ∷ fields) suit plain = plain-streams fields (suit .1) plain
 plain-streams (time role x ∷ fields) suit plain = plain-streams fields (suit .1) plain
 
--- a row of any type but 9 whose kinds are plain is open just where it was; and its verdict is read off that alone (§2.4, §2.5, §2.6)
+-- §2.4: a row of any type but 9 whose kinds are plain is open just where it was; and its verdict is read off that alone (§2.4, §2.5, §2.6)
 pub open-as-before : (c : Constraint) → KindsSuit c → ¬ (typeOf c ≡ 9) → (steps : List Step) → Open c steps ↔ OpenBefore c steps
 unfolding KindsSuit
 open-as-before c suit other steps = (

@@ -21,16 +21,21 @@ ghost use Rattle.constraint.specs.Accepted.{rowQuestions, rowQuestionsIn
 ghost use Rattle.constraint.specs.Types.{strongSynchronizationRead, synchronizationRead, rowRead, lengthOf, lastType, takesCount};
 ghost use Rattle.constraint.specs.Records.{rowsOf, Adds, HoldsRow};
 
+// §1.2
 // The largest kind of event.
 pub const LAST_KIND: u8 = 63;
+// §1.2
 // The first coloured kind: those below it are plain.
 pub const FIRST_COLOURED: u8 = 48;
+// §1.2
 // The largest colour.
 pub const LAST_COLOUR: u8 = 7;
 // How many streams there are: 48 plain kinds, and 16 coloured ones of 8 colours.
 pub const STREAM_COUNT: usize = 176;
+// §1.1
 // The largest time, 2^60 - 1.
 pub const LAST_TIME: u64 = 1152921504606846975;
+// §1.7
 // The largest count of steps, 2^64 - 1.
 pub const LAST_COUNT: u64 = 18446744073709551615;
 // The mark for an upper that is no limit, 2^64 - 1.
@@ -297,6 +302,7 @@ const SYNCHRONIZATION_4: Line = Line {
 
 // End of what is made.
 
+// §4.5
 // The length expected for each type, by the type byte; to a type's with an n its n is added.
 const LENGTHS: [usize; 12] = [0, 19, 19, 19, 34, 19, 3, 10, 21, 19, 27, 10];
 
@@ -402,6 +408,7 @@ fn synchronization_read(bytes: [u8; 5], tolerance: u64) -> Constraint
 // End of what is made.
 
 impl Constraint {
+    // §4.5
     // The row of a type byte, the values of its fields of one byte, and its times: what `fields` takes apart.
     pub fn read(tag: u8, bytes: [u8; 5], times: [u64; 4]) -> Self
         ensures { λ r. ⌜ r ≡ rowRead tag bytes times ⌝ }
@@ -477,6 +484,7 @@ impl Constraint {
         }
     }
 
+    // §4.5
     // The fields as numbers.
     pub fn fields(self) -> Fields
         ensures { λ r. ⌜ HoldsRow self r ⌝ }
@@ -623,6 +631,7 @@ impl Constraint {
         }
     }
 
+    // §4.6, §4.7, §5.9.6, §8.5 to §8.7, §8.18
     // The answer to a row's own questions: 5, 18, 6 and 7.
     pub fn validate(self) -> Answer
         ensures { λ r. ⌜ Judged (rowQuestions self) r ⌝ }
@@ -651,6 +660,7 @@ impl Constraint {
         Answer::Taken
     }
 
+    // §8.4
     // The answer to question 4, whether the type is one of the edition, and then to the row's own questions.
     pub fn validate_in(self, edition: u8) -> Answer
         ensures { λ r. ⌜ Judged (rowQuestionsIn edition self) r ⌝ }
@@ -694,6 +704,7 @@ impl Table {
         self
     }
 
+    // §8.3, §9.7
     // The answer to questions 3 to 7 and 18, row by row, in an edition. Any record is taken, also one whose count is above 32.
     pub fn validate(self, edition: u8) -> Answer
         ensures { λ r. ⌜ Judged (rowsQuestions edition 0 (rowsOf self) []) r ⌝ }

@@ -8,6 +8,7 @@ ghost use Rattle.ring.specs.Ring.{ring};
 ghost use Rattle.row_type.specs.Words.{askedOf, lastSaved, Applies};
 ghost use Rattle.delay_order.specs.Delay.{answeredBy, answeredAtOnce, overflowsDelay, decideDelay};
 
+// §5.1, §5.1.6
 // What an event makes of the row, where it lies.
 pub fn apply(row: &mut [[u64; SIZE]; 2], stream: u64, t: u64, number: u64)
     ensures { λ _. ⌜ Applies lastSaved decideDelay (now (row .entry)) stream t number (now (row .exit)) ⌝ }

@@ -12,6 +12,7 @@ const EARLY: usize = row_words::LAST;
 
 const AHEAD: usize = row_words::ONE;
 
+// §5.6
 // What an event makes of the row, where it lies.
 pub fn apply(row: &mut [[u64; SIZE]; 2], stream: u64, t: u64, number: u64)
     ensures { λ _. ⌜ Applies firstThreeSaved decideOrder (now (row .entry)) stream t number (now (row .exit)) ⌝ }

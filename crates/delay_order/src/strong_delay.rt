@@ -10,6 +10,7 @@ ghost use Rattle.delay_order.specs.StrongDelay.{overflowsStrongDelay, de
 // One more than the time of a target beyond the number of sources.
 const EARLY: usize = row_words::LAST;
 
+// §5.2
 // What an event makes of the row, where it lies.
 pub fn apply(row: &mut [[u64; SIZE]; 2], stream: u64, t: u64, number: u64)
     ensures { λ _. ⌜ Applies lastSaved decideStrongDelay (now (row .entry)) stream t number (now (row .exit)) ⌝ }

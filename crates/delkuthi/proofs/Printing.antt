@@ -46,7 +46,7 @@ module _ (rows : List Constraint) (requests : List Request) (accepted : Accepted
   abbrev followed : (steps : List Step) × Follows every-type-exact rows steps made
   followed = let a = after-follows every-type-exact rows requests accepted in (a .0 .steps, a .2)
 
-  -- a row's line gives back its number, the name of its type, and what the call for its verdict answers
+  -- §7.18: a row's line gives back its number, the name of its type, and what the call for its verdict answers
   pub printed-back : (i : ℕ) → i < length rows
       → lineRead (printed made) i ≡ record { number = i; name = nameOf (at (map typeOf rows) i); verdict = verdictOf made i }
   printed-back i h =
@@ -55,7 +55,7 @@ module _ (rows : List Constraint) (requests : List Request) (accepted : Accepted
       rw (row-summarized rows steps made f i h .0, verdict-is rows steps made f i h)
       (page-reads-back (typeIn made) (v rows steps made f) (printedRows made) i (omega arith) there (fits rows steps made f i there))
 
--- two pages of the same bytes: as many rows, and the same verdict of each
+-- §7.18: two pages of the same bytes: as many rows, and the same verdict of each
 pub printed-alike : (rows others : List Constraint) (requests more : List Request) (accepted : Accepted rows) (accepted′ : Accepted others)
     → printed (after rows requests) ≡ printed (after others more)
     → (length rows ≡ length others) × ((i : ℕ) → i < length rows → verdictOf (after rows requests) i ≡ verdictOf (after others more) i)

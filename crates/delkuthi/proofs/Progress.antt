@@ -46,7 +46,7 @@ module _ (rows : List Constraint) (bytes : List ℕ) where
       let fewer = records-few before in
       (omega (arith, fewer .0, whole .1, one-more), omega (arith, fewer .0, whole .0 .1, whole .1, one-more))
 
-  -- so neither a record nor the close meets 24 (§8.24)
+  -- §8.24: so neither a record nor the close meets 24
   pub count-left : length bytes ≤ lastCount → {place : ℕ} {steps : List Step} → StepsBefore rows bytes place steps → length steps < lastCount
   count-left fits before = omega (arith, records-few before .1)
 

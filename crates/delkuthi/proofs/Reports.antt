@@ -26,6 +26,7 @@ lines-next f l i text there =
       add-one i,
     )
 
+-- §7.4
 pub holds-closed : (summary : Summary) (before text : Text) → before ≡ extended (closedLine (summary .count)) emptyText
     → text ≡ extended (rowLines 0 (verdictsIn summary)) before → Contains text (closedText (summary .count) (verdictsIn summary))
 holds-closed summary before text line lines =
@@ -33,6 +34,7 @@ holds-closed summary before text line lines =
     (rw (← closed-append (summary .count) (verdictsIn summary)) (holds-all (closedText (summary .count) (verdictsIn summary))
     (omega (arith, closed-length (summary .count) (verdictsIn summary) (verdicts-few summary)))))
 
+-- §7.5
 pub holds-refusal : (n place : ℕ) (text : Text) → text ≡ extended (refusedText n place) emptyText → Contains text (refusedText n place)
 holds-refusal n place text e = rw e (holds-all (refusedText n place) (omega (arith, refused-length n place)))
 
@@ -84,6 +86,7 @@ said-of table recording rows Accepted calls read (steps, reads, taken) =
     rw (f .count-is) (all-taken rows steps (verdictsIn (summaryOf m)) read reads (each-summarized rows (steps ++ (close ∷ [])) m f))
 said-of table recording rows (Refused n place) calls read (steps, reads, before, taken) = no-recording rows n place read reads
 
+-- §9.10
 pub summary-report : {newest : ℕ} {before after : Words} {table recording : List ℕ} {answer : ReadAnswer} (summary : Summary)
     → LeftBy newest before table recording answer after → ((m : Monitor) → HoldsMonitor after m → summary ≡ summaryOf m)
     → ReportOfUpTo newest table recording (reportText answer summary)
@@ -142,7 +145,7 @@ each-length : {steps : List Step} {rows : List Constraint} {verdicts : List Verd
 each-length no-row = refl
 each-length (row-reads reads later) = ap suc (each-length later)
 
--- a report has at most 1,024 bytes
+-- §7.9: a report has at most 1,024 bytes
 pub report-length : {newest : ℕ} (table recording text : List ℕ) → ReportOfUpTo newest table recording text → length text ≤ reportLimit
 report-length table recording text (no-table n place read) = refused-length n place
 report-length table recording text (no-recording rows n place read reads) = refused-length n place

@@ -44,6 +44,7 @@ module _ (rows : List Constraint) (steps : List Step) (m : Monitor) (f : Follows
   pub count-is : printedRows m ≡ length rows
   count-is = omega (arith, f .len-is, f .few)
 
+  -- §7.4
   pub each-summarized : EachReads steps rows (verdictsIn (summaryOf m))
   unfolding rowVerdict
   each-summarized = rw count-is (go rows (m .rows) (f .fit))

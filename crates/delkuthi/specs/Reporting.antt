@@ -43,6 +43,7 @@ ReportsOn = ReportsOnUpTo 1
 
 -- ---- of a monitor that was stepped call by call
 
+-- §7.23
 -- the bytes that a recording of the same steps is reported in, once these are closed: a count of them and what each row reads; before the close
 -- nothing is written
 pub data ReportsSteps (rows : List Constraint) (steps : List Step) (before : List ℕ) : ℕ → List ℕ → Type 0 where
@@ -54,7 +55,7 @@ pub data ReportsSteps (rows : List Constraint) (steps : List Step) (before : Lis
 abbrev pub reportedOf : Monitor → List ℕ
 reportedOf m = cond (ltb 0 (m .closed)) (reportText ReadAnswer.Accepted (summaryOf m)) []
 
--- §7.4, §7.8: the report of a monitor: of one that requests have made, that of the steps that they have left
+-- §7.4, §7.8, §7.23: the report of a monitor: of one that requests have made, that of the steps that they have left
 pub record ReportsOf (m : Monitor) (before : List ℕ) (answer : ℕ) (written : List ℕ) : Type 0 where
   pub equals : Copied (reportedOf m) before answer written
   pub means : (rows : List Constraint) (requests : List Request) → Accepted rows → m ≡ after rows requests

@@ -20,6 +20,7 @@ pub const VERSION: u32 = 6001;
 // The bytes of a monitor.
 pub const MONITOR_SIZE: u64 = 35840;
 
+// §11.6
 // The version of the library, for a host to compare with that of its header.
 #[no_mangle]
 pub extern "C" fn delkuthi_version() -> u32
@@ -28,6 +29,7 @@ pub extern "C" fn delkuthi_version() -> u32
     VERSION
 }
 
+// §11.6
 // The bytes of a monitor, for a host to compare with the size that it lends.
 #[no_mangle]
 pub extern "C" fn delkuthi_monitor_size() -> u64
@@ -36,6 +38,7 @@ pub extern "C" fn delkuthi_monitor_size() -> u64
     MONITOR_SIZE
 }
 
+// §11.2, §11.5, §16.5, §16.6
 // Makes the monitor fresh over a table's bytes and answers 0; on a refusal answers 256 times its place and its number, and leaves the monitor as it
 // was.
 #[no_mangle]
@@ -45,6 +48,7 @@ pub extern "C" fn delkuthi_fresh(m: &mut Words, table: &[u8]) -> u64
     fresh::fresh(1, m, table)
 }
 
+// §16.1 to §16.3, §16.6, §16.7
 // The same over a table of either edition.
 #[no_mangle]
 pub extern "C" fn delkuthi_fresh_2(m: &mut Words, table: &[u8]) -> u64
@@ -71,6 +75,7 @@ fn read(m: &Words, row: u64) -> RowVerdict
     verdicts::by(row, in_place::held(m), in_place::closed(m), broken)
 }
 
+// §3.4, §11.2, §11.5
 // An event of a kind at a time: 0 if it is taken, else the number of its refusal.
 #[no_mangle]
 pub extern "C" fn delkuthi_event(m: &mut Words, kind: u8, time: u64) -> u8
@@ -79,6 +84,7 @@ pub extern "C" fn delkuthi_event(m: &mut Words, kind: u8, time: u64) -> u8
     calls::event(m, kind, time)
 }
 
+// §11.2
 // An event of a coloured kind and a colour at a time: 0 if it is taken, else the number of its refusal.
 #[no_mangle]
 pub extern "C" fn delkuthi_coloured_event(m: &mut Words, kind: u8, colour: u8, time: u64) -> u8
@@ -87,6 +93,7 @@ pub extern "C" fn delkuthi_coloured_event(m: &mut Words, kind: u8, colour: u8, t
     calls::coloured_event(m, kind, colour, time)
 }
 
+// §3.4, §11.2
 // A tick to a time: 0 if it is taken, else the number of its refusal.
 #[no_mangle]
 pub extern "C" fn delkuthi_tick(m: &mut Words, time: u64) -> u8
@@ -95,6 +102,7 @@ pub extern "C" fn delkuthi_tick(m: &mut Words, time: u64) -> u8
     calls::tick(m, time)
 }
 
+// §3.4, §11.2
 // The close: 0 if it is taken, else the number of its refusal.
 #[no_mangle]
 pub extern "C" fn delkuthi_close(m: &mut Words) -> u8
@@ -103,6 +111,7 @@ pub extern "C" fn delkuthi_close(m: &mut Words) -> u8
     calls::close(m)
 }
 
+// §3.12, §3.14, §8.21, §11.2, §11.5
 // The last step is withdrawn: 0, or 21 where nothing may be withdrawn.
 #[no_mangle]
 pub extern "C" fn delkuthi_withdraw(m: &mut Words) -> u8
@@ -111,6 +120,7 @@ pub extern "C" fn delkuthi_withdraw(m: &mut Words) -> u8
     calls::withdraw(m)
 }
 
+// §3.5, §8.15, §11.2, §11.5
 // The word for what a row reads: OPEN, KEPT, BROKEN, or NO_ROW, whatever was lent.
 #[no_mangle]
 pub extern "C" fn delkuthi_row_verdict(m: &Words, row: u64) -> u8
@@ -126,6 +136,7 @@ pub extern "C" fn delkuthi_row_verdict(m: &Words, row: u64) -> u8
     }
 }
 
+// §3.5, §11.2, §11.5
 // The step that broke a row: 0 where none did, and where there is no row of that number.
 #[no_mangle]
 pub extern "C" fn delkuthi_row_step(m: &Words, row: u64) -> u64
@@ -141,6 +152,7 @@ pub extern "C" fn delkuthi_row_step(m: &Words, row: u64) -> u64
     }
 }
 
+// §3.5, §11.2, §11.5
 // The number of rows, at most 32 whatever was lent.
 #[no_mangle]
 pub extern "C" fn delkuthi_rows(m: &Words) -> u64

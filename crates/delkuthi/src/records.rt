@@ -20,6 +20,7 @@ fn take(m: &mut Words, call: Call) -> u8
     }
 }
 
+// §7.1, §7.6, §9.4
 // Puts a whole recording to a fresh monitor that is lent, which takes each call where it lies: accepted where every record was
 // taken, and the close.
 pub(crate) fn take_recording(m: &mut Words, bytes: &[u8]) -> ReadAnswer

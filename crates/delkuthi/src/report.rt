@@ -101,6 +101,7 @@ pub(crate) fn write(answer: ReadAnswer, summary: Summary, buffer: &mut [u8]) -> 
     text_of(answer, summary).copy_to(buffer)
 }
 
+// §7.3, §7.22, §9.10
 // Writes the report on a recording under a table of an edition up to the newest, which a monitor takes that is lent.
 pub(crate) fn report_on(
     newest: u8,

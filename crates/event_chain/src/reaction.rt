@@ -122,6 +122,7 @@ fn due_but(times: &[u64; SIZE], head: usize, len: usize, colour: usize, high: u6
     due
 }
 
+// §5.9, §5.9.1 to §5.9.5
 // What an event of one of the row's streams makes of it, where it lies.
 pub fn apply(row: &mut [[u64; SIZE]; 2], stream: u64, t: u64, number: u64)
     ensures { λ _. ⌜ Applies noneSaved decideReaction (now (row .entry)) stream t number (now (row .exit)) ⌝ }

@@ -21,6 +21,7 @@ const PHASE: usize = row_words::ONE;
 
 const RAN: usize = row_words::TWO;
 
+// §5.8
 // What an event makes of the row, where it lies: of a preempted execution only a resume makes something.
 pub fn apply(row: &mut [[u64; SIZE]; 2], stream: u64, t: u64, number: u64)
     ensures { λ _. ⌜ Applies firstThreeSaved decideExecutionTime (now (row .entry)) stream t number (now (row .exit)) ⌝ }

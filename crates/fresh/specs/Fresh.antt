@@ -56,7 +56,7 @@ pub data BeginsUpTo (newest : ℕ) (bytes : List ℕ) (entry : Words) : ℕ → 
   refused : (n place : ℕ) → ReadsTableUpTo newest bytes (table-refused n place) → 0 < n → n < 256
       → BeginsUpTo newest bytes entry (place * 256 + n) entry
 
--- §11.5: over a table of the first edition
+-- §11.2, §11.5: over a table of the first edition
 abbrev pub Begins : List ℕ → Words → ℕ → Words → Type 0
 Begins = BeginsUpTo 1
 

@@ -19,6 +19,7 @@ const LOW: usize = row_words::ONE;
 
 const HIGH: usize = row_words::TWO;
 
+// §5.4
 // What an event makes of the row, where it lies.
 pub fn apply(row: &mut [[u64; SIZE]; 2], stream: u64, t: u64, number: u64)
     ensures { λ _. ⌜ Applies firstThreeSaved decideSporadic (now (row .entry)) stream t number (now (row .exit)) ⌝ }

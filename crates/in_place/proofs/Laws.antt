@@ -105,17 +105,17 @@ module _ (h : Lent) (ix : Indexes h) where
 
 -- ---- the laws
 
--- the answer and the monitor left are those of the monitor's step
+-- §11.2: the answer and the monitor left are those of the monitor's step
 pub law-steps : (h : Lent) (r : Request) → Indexes h → Steps (h .monitor) r (steppedFrom (numberOf h r) (leaves h r .monitor))
 law-steps h (asks call) ix = step-kept (h .monitor) (asks call) (call-is h ix call)
 law-steps h withdraws ix = step-kept (h .monitor) withdraws (withdrawal-is h ix)
 
--- what the words said of the monitor they say of the one after it
+-- §11.2: what the words said of the monitor they say of the one after it
 pub law-indexes : (h : Lent) (r : Request) → Indexes h → Indexes (leaves h r)
 law-indexes h (asks call) ix = by-refusal h ix call (refusalIn h call) refl .1
 law-indexes h withdraws ix = by-may h ix (ltb 0 (h .monitor .undo .may)) .1
 
--- so a function that stores each word keeps the contract of a call
+-- §11.2: so a function that stores each word keeps the contract of a call
 pub takes-of : {entry exit : Words} {r : Request} {number : ℕ} → Stores entry r number exit → Takes entry r number exit
 takes-of {entry} {exit} {r} {number} s =
     record {

@@ -23,7 +23,7 @@ abbrev pub answerFrom : ℕ → Answer
 answerFrom zero = Taken
 answerFrom (suc n) = Refused (suc n)
 
--- what a request gives, from its number and the monitor after it
+-- §11.5: what a request gives, from its number and the monitor after it
 abbrev pub steppedFrom : ℕ → Monitor → Stepped
 steppedFrom number m = record { answer = answerFrom number; monitor = m }
 
@@ -67,6 +67,7 @@ pub record SoundNumbers (m : Monitor) : Type 0 where
   pub closed-mark : m .closed ≤ 1
   pub closed-then : m .undo .closed ≤ 1
 
+-- §11.4
 -- each part has its size, the entries of a kind name the rows that it concerns, a tick and the close concern none, and no row is due before the
 -- soonest time
 pub record Indexes (h : Lent) : Type 0 where
@@ -79,6 +80,7 @@ pub record Indexes (h : Lent) : Type 0 where
 
 -- ---- a call or a withdrawal
 
+-- §11.2
 -- a refusal changes no word, whatever was lent; where the words are those of a monitor, the request is the monitor's, and each word is known that it
 -- leaves
 pub record Takes (entry : Words) (r : Request) (number : ℕ) (exit : Words) : Type 0 where

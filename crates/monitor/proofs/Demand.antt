@@ -78,7 +78,7 @@ reads-still rows steps i n c valid e b o (row d v f r) =
 reads-still rows steps i n c valid e b o (no-row f) = never (cc)
 
 module _ (every-type-exact : (c : Constraint) → Sound c → Exact c) where
-  -- a fresh monitor follows the empty list of steps
+  -- §1.6, §3.2: a fresh monitor follows the empty list of steps
   pub start-follows : (rows : List Constraint) → Accepted rows → Follows every-type-exact rows [] (monitorOf rows)
   unfolding monitorOf closed clockFrom times nextFree
   start-follows rows accepted =
@@ -94,7 +94,7 @@ module _ (every-type-exact : (c : Constraint) → Sound c → Exact c) where
         fit = fit-start every-type-exact rows (replicate (rowLimit - length rows) noRow) (accepted-sound rows accepted);
       }
 
-  -- each row number reads what the definitions say
+  -- §8.15, §9.6: each row number reads what the definitions say
   pub verdict-reads : (rows : List Constraint) (steps : List Step) (m : Monitor) → Follows every-type-exact rows steps m → (i : ℕ)
       → ReadsRow rows steps i (verdictOf m i)
   unfolding verdictOf

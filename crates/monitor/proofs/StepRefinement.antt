@@ -201,7 +201,7 @@ module _ (every-type-exact : (c : Constraint) → Sound c → Exact c) where
             ),
           ))))))
 
-    -- 8 and 24, and then the call's own
+    -- §8.24: 8 and 24, and then the call's own
     first-asked : (call : Call) (later : List Question)
         → ((a : Answer) → Judged ((8, closed steps ≡ false) ∷ (24, length steps < lastCount) ∷ later) a → Judged (questions rows steps call) a)
         → (closed steps ≡ false → length steps < lastCount → ((a : Answer) → Judged later a → Judged (questions rows steps call) a)
@@ -219,6 +219,7 @@ module _ (every-type-exact : (c : Constraint) → Sound c → Exact c) where
     abbrev Asked : Call → Type 0
     Asked call = Left call (refusalFor m call)
 
+    -- §1.3, §8.9, §8.19
     event-answered : (k t : ℕ) → Asked (Call.Event k t)
     unfolding Judged questions
     event-answered k t =
@@ -233,6 +234,7 @@ module _ (every-type-exact : (c : Constraint) → Sound c → Exact c) where
         let plain : k < firstColoured = leb-false firstColoured k e19 in
         time-answered c k t refl (stream-place c (omega arith)) (omega arith) open-still counted (λ a j. others a (inl (kind, inl (plain, j)))))))
 
+    -- §1.3, §8.19
     coloured-answered : (k colour t : ℕ) → Asked (Call.ColouredEvent k colour t)
     unfolding Judged questions
     coloured-answered k colour t =
@@ -253,6 +255,7 @@ module _ (every-type-exact : (c : Constraint) → Sound c → Exact c) where
         time-answered c (stream k colour) t refl (stream-place c small) small open-still counted
         (λ a j. others a (inl (kind, inl ((coloured, ltb-false lastColour colour few), j))))))))
 
+    -- §1.4
     tick-answered : (t : ℕ) → Asked (Call.Tick t)
     unfolding Judged questions
     tick-answered t =
@@ -268,7 +271,7 @@ module _ (every-type-exact : (c : Constraint) → Sound c → Exact c) where
         last-asked c (record { not-closed = open-still; counted = counted; time-small = fits; later = later })
         (λ a j. others a (inl (fits, inl (later, j)))))))
 
-    -- the close has only questions 8 and 24: it crowds no row
+    -- §1.5: the close has only questions 8 and 24: it crowds no row
     close-answered : Asked Call.Close
     unfolding Judged questions
     close-answered =
@@ -278,6 +281,7 @@ module _ (every-type-exact : (c : Constraint) → Sound c → Exact c) where
         subst (λ (b : Bool). Answered Call.Close (cond b (refuses 12 m) (takes (takenCall m Call.Close)))) (sym calm)
         (others Taken refl, followed Call.Close accepts calm))
 
+    -- §8.8, §8.10, §8.11, §9.5
     pub step-answered : (call : Call) → Answered call (stepOf m call)
     unfolding stepOf
     step-answered (Call.Event k t) = event-answered k t

@@ -8,7 +8,7 @@ use Rattle.monitor.proofs.Names.{unlimited-delay-open, valid-none, verd
 use Rattle.monitor.proofs.Withdrawing.{promise, reading-keeps, stays, steps-keep, struck}
 use Rattle.monitor.proofs.{Demand.accepted-sound, FittingRows.sound-at}
 
--- over every table, every list of calls and withdrawals from a fresh monitor, and every row
+-- §3.1, §3.6 to §3.8, §3.12 to §3.15, §8.21, §9.2: over every table, every list of calls and withdrawals from a fresh monitor, and every row
 pub monitor-is-exact : Promise monitorOf step verdictOf
 monitor-is-exact = promise every-type-exact
 
@@ -23,7 +23,7 @@ pub struck-out : (rows : List Constraint) → Accepted rows → (requests : List
     × SameBare (after rows requests) (after rows (map asks calls))
 struck-out = struck every-type-exact
 
--- what equals the machine's result for a request keeps the contract of a request
+-- §11.2: what equals the machine's result for a request keeps the contract of a request
 pub step-kept : (m : Monitor) (r : Request) {result : Stepped} → result ≡ resultOf m r → Steps m r result
 step-kept m r e = subst (Steps m r) (sym e) (steps-keep every-type-exact m r)
 
@@ -49,12 +49,12 @@ module _ (rows : List Constraint) (requests : List Request) (left : Left) (accep
   same-verdict : (v : Verdict) → (verdictOf (after rows requests) i ≡ some v) ↔ (row-reads .0 ≡ v)
   same-verdict v = let e = row-reads .1 in (λ p. cc, λ q. cc)
 
-  -- at the close a row is kept exactly when the recorded events meet its definition
+  -- §2.6: at the close a row is kept exactly when the recorded events meet its definition
   pub kept-at-the-close : closed (left .steps) ≡ true → (verdictOf (after rows requests) i ≡ some Verdict.Kept) ↔ Meets c (left .steps)
   kept-at-the-close shut = Iff·trans (same-verdict Verdict.Kept)
       (kept-exactly c (left .steps) (run-valid (remains .1) valid-none) shut (row-reads .0) (row-reads .2))
 
-  -- a row reads broken exactly when no continuation can still meet its definition
+  -- §2.5: a row reads broken exactly when no continuation can still meet its definition
   pub broken-while-it-runs : ((n : ℕ) × (verdictOf (after rows requests) i ≡ some (Verdict.Broken n))) ↔ (¬ Open c (left .steps))
   broken-while-it-runs =
       let exactly = broken-exactly c (left .steps) (run-valid (remains .1) valid-none) (row-reads .0) (row-reads .2) in (
@@ -76,7 +76,7 @@ module _ (rows : List Constraint) (requests : List Request) (left : Left) (accep
   abbrev pub ReadsBroken : Type 0
   ReadsBroken = (n : ℕ) × (verdictOf (after rows requests) i ≡ some (Verdict.Broken n))
 
-  -- where an event of a Repeat has none span places after it and is more than upper before the clock
+  -- §5.3: where an event of a Repeat has none span places after it and is more than upper before the clock
   pub silent-repeat-broken : (kind span lower upper : ℕ) → c ≡ Repeat kind span lower upper → ¬ (upper ≡ noLimit) → (place : ℕ)
       → place < length (times kind (left .steps)) → length (times kind (left .steps)) ≤ place + span
       → at (times kind (left .steps)) place + upper < clock (left .steps) → ReadsBroken
@@ -85,7 +85,7 @@ module _ (rows : List Constraint) (requests : List Request) (left : Left) (accep
       (λ o. silent-repeat-shut kind span lower upper (left .steps) limit place there none silent
       (subst (λ (x : Constraint). Open x (left .steps)) is o))
 
-  -- and where the last event of a Sporadic is more than upper and jitter before the clock
+  -- §5.4: and where the last event of a Sporadic is more than upper and jitter before the clock
   pub silent-sporadic-broken : (kind lower upper jitter minimum : ℕ) → c ≡ Sporadic kind lower upper jitter minimum → ¬ (upper ≡ noLimit)
       → (place : ℕ) → place + 1 ≡ length (times kind (left .steps)) → at (times kind (left .steps)) place + upper + jitter < clock (left .steps)
       → ReadsBroken

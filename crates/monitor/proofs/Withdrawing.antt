@@ -460,7 +460,7 @@ module _ (every-type-exact : (c : Constraint) → Sound c → Exact c) where
 
   -- ---- the contracts
 
-  -- the monitor after a list of requests follows the steps that they have left
+  -- §3.4: the monitor after a list of requests follows the steps that they have left
   pub after-follows : (rows : List Constraint) (requests : List Request) → Accepted rows → (left : Left) × Remains rows requests left
       × Follows every-type-exact rows (left .steps) (after rows requests)
   unfolding after

@@ -25,7 +25,7 @@ use Rattle.monitor.specs.declared.Stepped.{Stepped}
 abbrev pub noRow : Row
 noRow = rowOf filler
 
--- §1.6: over the rows, the clock at 0, no events, count 0, not closed
+-- §1.6, §3.2: over the rows, the clock at 0, no events, count 0, not closed
 unfoldable pub monitorOf : List Constraint → Monitor
 monitorOf rows =
     record {
@@ -111,7 +111,7 @@ verdictOf m i = cond (ltb i (m .len) && ltb i rowLimit) (some (rowVerdict (getD 
 
 -- ---- withdrawing the last step
 
--- the rows, what is kept of them, and the other numbers, as they were before the last step (§3.12); nothing may be withdrawn then
+-- §3.12: the rows, what is kept of them, and the other numbers, as they were before the last step (§3.12); nothing may be withdrawn then
 unfoldable pub withdrawn : Monitor → Monitor
 withdrawn m =
     record {
@@ -129,7 +129,7 @@ withdrawn m =
 unfoldable pub withdrawOf : Monitor → Stepped
 withdrawOf m = cond (ltb 0 (m .undo .may)) (takes (withdrawn m)) (refuses 21 m)
 
--- the monitor but for what may be withdrawn: its rows, first free times, clock, count, close and number of rows
+-- §3.14: the monitor but for what may be withdrawn: its rows, first free times, clock, count, close and number of rows
 unfoldable pub bare : Monitor → Monitor
 bare m =
     record {

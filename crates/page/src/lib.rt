@@ -109,6 +109,7 @@ fn size(rows: usize) -> usize
     LINE * (rows + (rows + 15) / GROUP)
 }
 
+// §7.16
 // Puts a row's line at a place of a buffer, column by column.
 fn put_line(buffer: &mut [u8], place: usize, row: usize, tag: u64, verdict: Verdict)
     requires { ⌜ (place ≤ 4096) × (row < rowLimit) ⌝ }
@@ -124,6 +125,7 @@ fn put_line(buffer: &mut [u8], place: usize, row: usize, tag: u64, verdict: Verd
     big_endian::put(buffer, place + 57, b"               \n");
 }
 
+// §7.17
 // Puts the heading of a row, if it has one, at a place of a buffer, and answers the place behind it.
 fn put_heading(buffer: &mut [u8], place: usize, row: usize) -> usize
     requires { ⌜ place ≤ 4096 ⌝ }
@@ -166,6 +168,7 @@ pub fn held(rows: usize) -> usize
 }
 
 impl Summary {
+    // §7.15
     // Writes the page to the front of a buffer and answers its length; where the buffer is too short, answers 0 and leaves it as it was.
     pub fn write(self, buffer: &mut [u8]) -> usize
         ensures { λ r. ⌜ Copied (textOf self) (now (buffer .entry)) r (now (buffer .exit)) ⌝ }

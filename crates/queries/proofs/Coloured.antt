@@ -76,7 +76,7 @@ module _ (rows : List Constraint) (steps : List Step) (m : Monitor) (f : Follows
   coloured-free : ¬ Judged (questions rows steps call) (Refused 12)
   coloured-free = not-refused (crowded-says every-type-exact rows steps m f call)
 
--- after any list of requests over an accepted table
+-- §15.11: after any list of requests over an accepted table
 pub coloured-crowds-none : (rows : List Constraint) (requests : List Request) → Accepted rows
     → (left : Left) × Remains rows requests left
     × ((kind colour time : ℕ) → ¬ Judged (questions rows (left .steps) (Call.ColouredEvent kind colour time)) (Refused 12))

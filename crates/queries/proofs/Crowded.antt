@@ -158,6 +158,7 @@ module _ (every-type-exact : (c : Constraint) → Sound c
       subst (CrowdedRow rows steps call) (sym (first-is (found .0) (found .1)))
       (crowded (found .0) (found .2 .0) judged (found .2 .1) (found .2 .2) (found .2 .3))
 
+  -- §15.11
   pub crowded-says : CrowdedRow rows steps call (crowdedRowOf m call)
   unfolding stepOf
   crowded-says =

@@ -130,7 +130,7 @@ first-same f g (suc n) k (r ∷ rows) same =
     ap (λ (x : ℕ). firstMarked x f k (r ∷ rows)) less
     ∙ ap₂ (λ (b : Bool) (x : ℕ). cond b k x) (same 0 (omega arith)) (first-same f g n (k + 1) rows (λ i l. same (suc i) (omega (arith, l))))
 
--- in rows in which at most 64 wait, what is found by the types' own tests is the first row that the call crowds
+-- §15.11: in rows in which at most 64 wait, what is found by the types' own tests is the first row that the call crowds
 pub first-crowded-is : (m : Monitor) (call : Call) → length (m .rows) ≡ rowLimit → ((i : ℕ) → i < heldRows m → rowAt m i .now .len ≤ waitingLimit)
     → firstMarked (heldRows m) (λ r. crowdedBy (r .parameters) (r .now) (stepInputOf m call)) 0 (m .rows) ≡ crowdedFirst m call
 first-crowded-is m call whole few =

@@ -55,6 +55,7 @@ module _ (c : Constraint) (exact : Exact c) (steps : List Step) (valid : Valid s
         (ends (inr (broken-shut c (r .now .broken) valid (b .first)))))
         (f .state)))
 
+    -- §15.6, §15.7
     pub fits-deadline : (shut : ℕ) → ltb 0 shut ≡ closed steps → Deadline c steps (deadlineBy shut (r .now .broken) (r .now .due))
     fits-deadline shut is =
         by-state (Deadline c steps) shut noLimit _ is over
@@ -66,6 +67,7 @@ module _ (c : Constraint) (exact : Exact c) (steps : List Step) (valid : Valid s
         ∙ ap (λ (n : ℕ). cond (waitsIn (parametersOf c .tag)) n 0) (ring-length (r .times) (r .now .head) (r .now .len))
         ∙ ap (λ (x : Parameters). cond (waitsIn (x .tag)) (r .now .len) 0) (sym (f .parameters-is))
 
+    -- §15.5
     pub fits-waiting : (rows : List Constraint) (i : ℕ) → getElem? rows i ≡ some c → (shut : ℕ) → ltb 0 shut ≡ closed steps
         → RowWaiting rows steps i (waitingBy shut (r .now .broken) (r .parameters .tag) (r .now .len))
     fits-waiting rows i there shut is =
@@ -99,7 +101,7 @@ module _ {c : Constraint} {steps : List Step} where
       absurd (omega (arith, each′ (e + 1) (omega arith) (omega arith) .0 (each (e + 1) (omega arith) (omega arith))))
   while-open-once d e (endless each) (endless each′) = refl
 
-  -- §15.7: a row has one deadline
+  -- §15.6, §15.7: a row has one deadline
   pub deadline-once : (d e : ℕ) → Deadline c steps d → Deadline c steps e → d ≡ e
   deadline-once d e (running o is w) (running o′ is′ w′) = while-open-once d e w w′
   deadline-once d e (running o is w) (over (inl shut)) = both (sym shut ∙ o)

@@ -132,26 +132,34 @@ asked m number Says says {answer} is =
     }
 
 module _ (m : Monitor) {answer : ℕ} where
+  -- §15.1
   pub clock-asked : answer ≡ m .clock → AsksClock m answer
   clock-asked = asked m _ _ (λ rows steps f. f .clock-is)
 
+  -- §15.2
   pub steps-asked : answer ≡ m .count → AsksSteps m answer
   steps-asked = asked m _ _ (λ rows steps f. f .count-is)
 
+  -- §15.3
   pub closed-asked : answer ≡ mark (ltb 0 (m .closed)) → AsksClosed m answer
   closed-asked = asked m _ _ (λ rows steps f. ap mark (f .closed-is))
 
+  -- §15.4
   pub broken-rows-asked : answer ≡ brokenRowsOf m → AsksBrokenRows m answer
   broken-rows-asked = asked m _ BrokenRows (λ rows steps f. broken-says rows steps m f)
 
+  -- §15.5
   pub waiting-asked : (i : ℕ) → answer ≡ waitingOf m i → AsksWaiting m i answer
   waiting-asked i = asked m _ (λ rows steps. RowWaiting rows steps i) (λ rows steps f. waiting-says rows steps m f i)
 
+  -- §15.8
   pub row-deadline-asked : (i : ℕ) → answer ≡ deadlineOf m i → AsksRowDeadline m i answer
   row-deadline-asked i = asked m _ (λ rows steps. RowDeadline rows steps i) (λ rows steps f. deadline-says rows steps m f i)
 
+  -- §15.9
   pub deadline-asked : answer ≡ leastOf m rowLimit → AsksDeadline m answer
   deadline-asked = asked m _ LeastDeadline (λ rows steps f. least-says rows steps m f)
 
+  -- §15.11
   pub crowded-row-asked : (call : Call) → answer ≡ crowdedRowOf m call → AsksCrowdedRow m call answer
   crowded-row-asked call = asked m _ (λ rows steps. C.CrowdedRow rows steps call) (λ rows steps f. crowded-says every-type-exact rows steps m f call)

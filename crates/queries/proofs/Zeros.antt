@@ -49,19 +49,23 @@ indexes =
       };
     }
 
+-- §15.13
 pub zeros-hold : HoldsMonitor zeros zeroMonitor
 zeros-hold = record { lent = zeroLent; words-are = are; indexes = indexes; monitor-is = refl }
 
 -- ---- by the contracts of the calls
 
+-- §15.13
 pub zeros-closed : (answer : ℕ) → ReadOff zeros AsksClosed answer → answer ≡ 1
 zeros-closed answer asked = asked zeroMonitor zeros-hold .equals
 
+-- §15.13
 pub zeros-refuse : (call : Call) (number : ℕ) (exit : Words) → Takes zeros (asks call) number exit → (number ≡ 8) × (exit ≡ zeros)
 zeros-refuse call number exit takes =
     let eight : number ≡ 8 = takes .stores zeroLent are shaped .0 in
     (eight, takes .untouched (λ z. omega (arith, eight, z)))
 
+-- §15.13
 pub zeros-not-withdrawn : (number : ℕ) (exit : Words) → Takes zeros withdraws number exit → (number ≡ 21) × (exit ≡ zeros)
 zeros-not-withdrawn number exit takes =
     let none : number ≡ 21 = takes .stores zeroLent are shaped .0 in

@@ -23,7 +23,7 @@ use Rattle.monitor.specs.Contract.{after, Remains}
 use Rattle.monitor.specs.declared.Monitor.{Monitor}
 use Rattle.queries.specs.Numbers.{deadlineOf, leastOf, waitingOf, brokenRowsOf, crowdedRowOf}
 
--- bit i of a number
+-- §15.4: bit i of a number
 unfoldable pub bit : ℕ → ℕ → ℕ
 bit n zero = n % 2
 bit n (suc i) = bit (n / 2) i
@@ -40,11 +40,11 @@ pub data RowWaiting (rows : List Constraint) (steps : List Step) (i : ℕ) : ℕ
   other-row : (c : Constraint) → getElem? rows i ≡ some c → (closed steps ≡ true) ⊎ (¬ Open c steps) → RowWaiting rows steps i 0
   no-row : getElem? rows i ≡ none → RowWaiting rows steps i 0
 
--- the call would leave the row open with more than 64 waiting (§8.12)
+-- §15.11: the call would leave the row open with more than 64 waiting (§8.12)
 abbrev pub Crowds : List Step → Call → Constraint → Type 0
 Crowds steps call c = Open c (steps ++ (stepFor call ∷ [])) × (waitingLimit < waiting c (steps ++ (stepFor call ∷ [])))
 
--- §8.12: the first row that a call would crowd, where it is refused with 12; 32 where it is not
+-- §8.12, §15.11: the first row that a call would crowd, where it is refused with 12; 32 where it is not
 pub data CrowdedRow (rows : List Constraint) (steps : List Step) (call : Call) : ℕ → Type 0 where
   crowded : (i : ℕ) (c : Constraint) → Judged (questions rows steps call) (Refused 12) → getElem? rows i ≡ some c → Crowds steps call c
       → ((j : ℕ) (d : Constraint) → j < i → getElem? rows j ≡ some d → ¬ Crowds steps call d) → CrowdedRow rows steps call i

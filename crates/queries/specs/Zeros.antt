@@ -9,6 +9,7 @@ use Rattle.questions.specs.Questions.{noUndo}
 use Rattle.monitor.specs.declared.Monitor.{Monitor}
 use Rattle.in_place.specs.Layout.{Words}
 
+-- §15.13
 abbrev pub zeros : Words
 zeros = replicate 35 (replicate 2 (replicate 64 0))
 
@@ -19,6 +20,7 @@ zeroParameters =
 abbrev pub zeroRow : Row
 zeroRow = rowFrom zeroParameters (replicate 64 0) noState
 
+-- §15.13
 abbrev pub zeroMonitor : Monitor
 zeroMonitor =
     record {

@@ -30,6 +30,7 @@ ghost use Rattle.queries.specs.Numbers.{deadlineBy, firstMarked};
 ghost use Rattle.queries.specs.Contract.{AsksClock, AsksSteps, AsksClosed, AsksBrokenRows, AsksWaiting};
 ghost use Rattle.queries.specs.Contract.{AsksRowDeadline, AsksDeadline, AsksCrowdedRow};
 
+// §15.1
 // The clock.
 #[no_mangle]
 pub extern "C" fn delkuthi_clock(m: &Words) -> u64
@@ -38,6 +39,7 @@ pub extern "C" fn delkuthi_clock(m: &Words) -> u64
     m[NUMBERS][0][CLOCK]
 }
 
+// §15.2
 // How many steps were taken, the close included.
 #[no_mangle]
 pub extern "C" fn delkuthi_steps(m: &Words) -> u64
@@ -46,6 +48,7 @@ pub extern "C" fn delkuthi_steps(m: &Words) -> u64
     m[NUMBERS][0][COUNT]
 }
 
+// §15.3, §15.13
 // 1 once the recording is closed, else 0: one of the two whatever was lent.
 #[no_mangle]
 pub extern "C" fn delkuthi_closed(m: &Words) -> u8
@@ -62,6 +65,7 @@ fn deadline_at(m: &Words, i: usize) -> u64
     deadline_by(closed(m), m[i][1][BROKEN], m[i][1][DUE])
 }
 
+// §15.8
 // The deadline of a row: the largest number where it has none.
 #[no_mangle]
 pub extern "C" fn delkuthi_row_deadline(m: &Words, row: u64) -> u64
@@ -73,6 +77,7 @@ pub extern "C" fn delkuthi_row_deadline(m: &Words, row: u64) -> u64
     deadline_at(m, row as usize)
 }
 
+// §15.9
 // The least of the rows' deadlines.
 #[no_mangle]
 pub extern "C" fn delkuthi_deadline(m: &Words) -> u64
@@ -88,6 +93,7 @@ pub extern "C" fn delkuthi_deadline(m: &Words) -> u64
     least
 }
 
+// §15.5
 // How many wait in a row that reads open.
 #[no_mangle]
 pub extern "C" fn delkuthi_row_waiting(m: &Words, row: u64) -> u64
@@ -108,6 +114,7 @@ fn broken_at(m: &Words, i: usize) -> u32
     if 0 < m[i][1][BROKEN] { 1 } else { 0 }
 }
 
+// §15.4
 // A bit for each row: 1 where it is broken.
 #[no_mangle]
 pub extern "C" fn delkuthi_broken_rows(m: &Words) -> u32
@@ -138,6 +145,7 @@ fn first_crowded(m: &Words, rows: usize, o: StepInput) -> u8
     32
 }
 
+// §15.11
 // The first row that an event of a plain kind would crowd; 32 where it would not be refused with 12. At most 32 whatever was lent.
 #[no_mangle]
 pub extern "C" fn delkuthi_crowded_row(m: &Words, kind: u8, time: u64) -> u8

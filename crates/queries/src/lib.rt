@@ -7,6 +7,7 @@ ghost use mathlib.Core.Path.{_≡_};
 ghost use Rattle.row_type.specs.Parameters.{waitsIn};
 ghost use Rattle.queries.specs.Numbers.{deadlineBy, waitingBy};
 
+// §15.6, §15.7
 // The deadline of a row, by the mark of the close, the step that broke it and its due time.
 pub fn deadline_by(closed: u64, broken: u64, due: u64) -> u64
     ensures { λ r. ⌜ r ≡ deadlineBy closed broken due ⌝ }

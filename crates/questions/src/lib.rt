@@ -173,6 +173,7 @@ fn own_refusal(call: Call, clock: u64, next: u64) -> u8
     }
 }
 
+// §8.24
 // A call's questions but 12, over the mark of the close and the count of steps too: the number of the first "no", or 0.
 pub fn refusal(call: Call, closed: u64, count: u64, clock: u64, next: u64) -> u8
     ensures { λ r. ⌜ r ≡ refusalBy call closed count clock next ⌝ }

@@ -26,6 +26,7 @@ pub fn version(bytes: &[u8]) -> u8
     big_endian::byte_at(bytes, 0)
 }
 
+// §8.1, §8.13
 // Question 13: is the first byte there, and 1 or 2?
 pub fn version_known(bytes: &[u8]) -> bool
     ensures { λ r. ⌜ Decides (VersionKnown (now (bytes .entry))) r ⌝ }
@@ -143,6 +144,7 @@ fn read_record(version: u8, stretch: &[u8]) -> CallRead
     }
 }
 
+// §7.2, §8.14
 // The record at a place, which is read from its own stretch.
 pub fn call_at(bytes: &[u8], place: usize) -> CallRead
     ensures { λ r. ⌜ ReadsCall (now (bytes .entry)) place r ⌝ }

@@ -7,6 +7,7 @@ ghost use mathlib.Core.Path.{_≡_};
 ghost use Rattle.row_type.specs.Words.{askedOf, lastSaved, Applies};
 ghost use Rattle.repeat_burst.specs.Repeat.{overflowsRepeat, takenRepeat, decideRepeat};
 
+// §5.3, §5.5
 // What an event makes of the row, where it lies.
 pub fn apply(row: &mut [[u64; SIZE]; 2], stream: u64, t: u64, number: u64)
     ensures { λ _. ⌜ Applies lastSaved decideRepeat (now (row .entry)) stream t number (now (row .exit)) ⌝ }

@@ -11,6 +11,7 @@ ghost use Rattle.ring.specs.Ring.{ring};
 ghost use Rattle.row_type.specs.Words.{noneSaved, askedOf, Applies};
 ghost use Rattle.repetition.specs.Repetition.{overflowsRepetition, takenRepetition, firstHigh, decideRepetition};
 
+// §5.10
 // What an event makes of the row, where it lies. Its point comes at most upper behind the oldest that is kept, less one place for each point that is
 // still to come before the span is over; one of the first span is tied to no earlier one from below; with a later one the oldest leaves.
 pub fn apply(row: &mut [[u64; SIZE]; 2], stream: u64, t: u64, number: u64)

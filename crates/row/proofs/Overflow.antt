@@ -79,7 +79,7 @@ room-left r o h =
 
 -- ---- the question
 
--- an event of one of its own kinds crowds it as a step of the row would
+-- §6.5, §8.12: an event of one of its own kinds crowds it as a step of the row would
 pub full-known : (r : Row) (o : StepInput) → r .now .len ≤ 64 → concerns (r .parameters) (o .kind) ≡ true
     → eventOverflows (r .parameters) (r .now) (o .stream) (o .time) ≡ crowds o r
 unfolding eventOverflows

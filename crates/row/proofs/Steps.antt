@@ -109,7 +109,7 @@ module _ (c : Constraint) (exact : Exact c) (steps : List Step) (valid : Valid s
   going-open : (words : List ℕ) (s : State) → closed steps ≡ false → Going c exact steps words s → Open c steps
   going-open words s o g = exact .is-open past o (g .live) (by-due words s g)
 
-  -- a row that is open has at most 64 waiting
+  -- §6.5, §8.12: a row that is open has at most 64 waiting
   pub fits-room : (r : Row) → Fits c exact steps r → Open c steps → waiting c steps ≤ waitingLimit
   fits-room r f o =
       ⊎-elim
@@ -197,6 +197,7 @@ module _ (c : Constraint) (exact : Exact c) (steps : List Step) (valid : Valid s
             exact .is-open (past-with (event k t) accepts) (closed-event k t steps ∙ accepts .not-closed) (goes .live)
             (rw (clock-event k t steps) (subst (λ (n : ℕ). t ≤ n) (goes .due-is) (goes .in-time)))
 
+        -- §6.5, §8.12
         crowded-after : waitingLimit < length kept-times → Open c (steps ++ (event k t ∷ [])) × (waitingLimit < waiting c (steps ++ (event k t ∷ [])))
         crowded-after many = (
           open-after,

@@ -94,7 +94,7 @@ still r o n e = by-tests (ltb 0 (r .now .broken)) (ltb (r .now .due) (o .time)) 
     by-tests false false false true e = both e
     by-tests false false false false e = refl
 
--- a row without the step that it has just taken is the row as it was, where nothing of that number was kept before
+-- §3.13: a row without the step that it has just taken is the row as it was, where nothing of that number was kept before
 pub row-without : (r : Row) (b : RowUndo) (o : StepInput) (number : ℕ) → length (r .times) ≡ 64 → ¬ (b .step ≡ number)
     → rowWithout number (rowStep r o number .row) (savedBy o number r b) ≡ r
 unfolding rowWithout savedBy

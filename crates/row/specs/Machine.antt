@@ -84,6 +84,7 @@ rowOf c = rowFrom (parametersOf c) (replicate 64 0) (freshState (parametersOf c)
 abbrev pub brokenState : ℕ → State
 brokenState number = record { registers = noRegisters; head = 0; len = 0; due = noLimit; kept = 0; broken = number }
 
+-- §6.4
 unfoldable pub brokenRow : Row → ℕ → Row
 brokenRow r number = rowFrom (r .parameters) (r .times) (brokenState number)
 

@@ -20,7 +20,7 @@ use Rattle.row.specs.Undo.{savedAt}
 abbrev pub overflows : Parameters → Registers → ℕ → ℕ → ℕ → Bool
 overflows parameters = machineOf (parameters .tag) .overflows parameters
 
--- an event of one of the row's streams crowds it, where at most 64 wait
+-- §8.12: an event of one of the row's streams crowds it, where at most 64 wait
 unfoldable pub eventOverflows : Parameters → State → ℕ → ℕ → Bool
 eventOverflows parameters now stream t =
     cond (ltb (now .len) 63) false

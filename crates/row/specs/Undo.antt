@@ -48,7 +48,7 @@ savedAt r = savedFrom (r .now) (r .times)
 abbrev pub savedRow : Row → StepInput → ℕ → RowUndo
 savedRow r o number = savedAt r (stepPlace r o) number
 
--- so kept where the step may change the row
+-- §3.13: so kept where the step may change the row
 unfoldable pub savedBy : StepInput → ℕ → Row → RowUndo → RowUndo
 savedBy o number r before = cond (movesBy (r .parameters) (r .now) o) (savedRow r o number) before
 
@@ -56,7 +56,7 @@ savedBy o number r before = cond (movesBy (r .parameters) (r .now) o) (savedRow 
 unfoldable pub backRow : Row → RowUndo → Row
 backRow r b = rowFrom (r .parameters) (putBack (b .place) (b .first) (b .second) (r .times)) (b .state)
 
--- a row without the step of that number, and what is kept of it then
+-- §3.13: a row without the step of that number, and what is kept of it then
 unfoldable pub rowWithout : ℕ → Row → RowUndo → Row
 rowWithout number r b = cond (eqb (b .step) number) (backRow r b) r
 

@@ -46,6 +46,7 @@ pub struct RowUndo {
     pub step: u64,
 }
 
+// §2.1
 // Whether an event of the kind is of one of the row's kinds.
 pub fn concerns(parameters: Parameters, kind: u64) -> bool
     ensures { λ r. ⌜ r ≡ concerns parameters kind ⌝ }
@@ -91,6 +92,7 @@ impl Row {
         }
     }
 
+    // §6.5
     // The row after what occurs, which is the step of that number.
     pub fn step(self, o: StepInput, number: u64) -> RowStep
         ensures { λ r. ⌜ r ≡ rowStep self o number ⌝ }

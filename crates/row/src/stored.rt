@@ -284,6 +284,7 @@ fn overflows(w: &[u64; SIZE], stream: u64, t: u64) -> bool
     }
 }
 
+// §6.5, §8.12
 // Whether an event of one of the row's streams crowds it, where at most 64 wait: it is not tried, and the times are not read.
 pub fn event_overflows(row: &[[u64; SIZE]; 2], stream: u64, t: u64) -> bool
     ensures { λ r. ⌜ ((w : Row) (b : RowUndo) → now (row .entry) ≡ wordsOfRow w b → r ≡ eventOverflows (w .parameters) (w .now) stream t) ⌝ }
@@ -323,6 +324,7 @@ fn applies_event(row: &[[u64; SIZE]; 2], o: StepInput) -> bool
     concerns(parameters_at(&row[1]), o.kind)
 }
 
+// §6.5, §8.12
 // Whether what occurs would leave the row open with more than 64 waiting: each event does that goes to a row in which more wait, as no step leaves
 // one.
 pub fn would_overflow(row: &[[u64; SIZE]; 2], o: StepInput) -> bool

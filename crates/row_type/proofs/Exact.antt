@@ -55,15 +55,15 @@ pub record Exact (c : Constraint) (decide : Registers → List ℕ → ℕ → �
   pub does : {steps : List Step} {registers : Registers} {times : List ℕ} {k t : ℕ} → Past steps → Live steps registers times → OfStream c k
       → Accepts steps (event k t) → t ≤ due registers times
       → ByOutcome (¬ Open c (steps ++ (event k t ∷ []))) (GoesOn (Live (steps ++ (event k t ∷ []))) due kept times t) (decide registers times k t)
-  -- Ticks: steps that record nothing of the row's streams leave it as it is, until its due time has passed
+  -- §2.1: Ticks: steps that record nothing of the row's streams leave it as it is, until its due time has passed
   pub same : {a b : List Step} {registers : Registers} {times : List ℕ} → own (streams c) a ≡ own (streams c) b → Live a registers times
       → Live b registers times
   pub late : {steps : List Step} {registers : Registers} {times : List ℕ} {t : ℕ} → Past steps → Live steps registers times → due registers times < t
       → t ≤ lastTime → ¬ Open c (steps ++ (tick t ∷ []))
-  -- Open
+  -- §2.4: Open
   pub is-open : {steps : List Step} {registers : Registers} {times : List ℕ} → Past steps → closed steps ≡ false → Live steps registers times
       → clock steps ≤ due registers times → Open c steps
-  -- Waiting
+  -- §5.9.7, §6.1 to §6.4: Waiting
   pub waits : {steps : List Step} {registers : Registers} {times : List ℕ} → Past steps → Live steps registers times
       → Waits (waitsIn (parametersOf c .tag)) (waiting c steps) (length times)
   -- Close

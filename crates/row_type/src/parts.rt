@@ -33,6 +33,7 @@ pub fn far_enough(minimum: u64, last: u64, t: u64) -> bool
     last == 0 || reaches(last - 1, minimum, t)
 }
 
+// §1.9
 // The kind of a stream's events.
 pub fn kind_of(stream: u64) -> u64
     ensures { λ r. ⌜ r ≡ kindOf stream ⌝ }

@@ -47,12 +47,12 @@ exact-from bytes before {end = end} {requests = requests} {numbers = numbers} (b
       refused = λ table number after anew above. fresh-refused anew above;
     }
 
--- over what is given to a call that makes a monitor fresh, of whichever editions it takes
+-- §11.2, §16.3: over what is given to a call that makes a monitor fresh, of whichever editions it takes
 pub lent-is-exact-up-to : {newest : ℕ} (bytes : List ℕ) (before : Memory) {h end : Memory} {requests : List Request} {numbers : List ℕ}
     → BeginsUpTo newest bytes before 0 h → (host : Host h requests numbers end) → LentExactUpTo newest bytes host
 lent-is-exact-up-to bytes before begins host = exact-from bytes before begins refl host
 
--- and so over what is given to `delkuthi_fresh`
+-- §3.8, §7.23, §11.2: and so over what is given to `delkuthi_fresh`
 pub lent-is-exact : (bytes : List ℕ) (before : Memory) {h end : Memory} {requests : List Request} {numbers : List ℕ} → Begins bytes before 0 h
     → (host : Host h requests numbers end) → LentExact bytes host
 lent-is-exact = lent-is-exact-up-to

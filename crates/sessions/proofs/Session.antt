@@ -98,6 +98,7 @@ untouched (S.fresh newest table number begins rest) = (fresh-refused begins, unt
 untouched (S.request r number takes rest) = (λ above. takes .untouched (λ zero. omega arith), untouched rest)
 untouched (S.report-on newest table recording buffer number written on rest) = (left-refused table recording (on .left-by), untouched rest)
 
+-- §7.22, §11.2
 pub session-is-exact : {h end : Memory} (session : S.Session h end) → S.SessionExact session
 session-is-exact {end = end} session =
     let (known, answers, there) = through S.nothing tt session in

@@ -21,7 +21,7 @@ use Rattle.queries.specs.Deadlines.{RowDeadline, LeastDeadline}
 use Rattle.queries.specs.Contract.{BrokenRows, RowWaiting, CrowdedRow, AsksClock, AsksSteps, AsksClosed, AsksBrokenRows, AsksWaiting}
 use Rattle.queries.specs.Contract.{AsksRowDeadline, AsksDeadline, AsksCrowdedRow}
 
--- each of the thirteen answers what the definitions say of the rows after these steps
+-- §11.2: each of the thirteen answers what the definitions say of the rows after these steps
 pub record ReadsAs (h : Memory) (rows : List Constraint) (steps : List Step) : Type 0 where
   -- §11.5: `delkuthi_row_verdict` and `delkuthi_row_step`: the word and the step of what the row reads
   pub verdicts : (i : ℕ) → (v : Option Verdict) × ReadsRow rows steps i v

@@ -267,6 +267,7 @@ module _ (a : LateRow) where
         more = λ f. first-later events t small (keeps .none e);
       })
 
+  -- §12.3
   pub keeps-call : a .event < firstColoured → a .lower ≤ lastTime → (steps : List Step) (s : Stamps) → Keeps (times (a .event) steps) s
       → (call : Call) → Accepts steps (stepFor call)
       → Keeps (times (a .event) (steps ++ (stepFor call ∷ []))) (callAfter a s call)
@@ -343,6 +344,7 @@ module _ (a : LateRow) where
       reads-by false true (other, oc, not) (one, c, meets) = both-occur one other c meets oc not
       reads-by false false fail none = none-meets none
 
+    -- §12.3
     pub reads-now : (s : Stamps) → Keeps events s → ReadsStamps (a .late) (a .lower) (a .upper) events now (stampsVerdict a s now)
     unfolding stampsVerdict closeVerdict
     reads-now s keeps =

@@ -238,6 +238,7 @@ impl Stamps {
     }
 }
 
+// §12.3
 // The pass over a recording: questions 13 and 14 and those of the steps, and what the row reads in the end.
 fn pass(bytes: &[u8], asked: LateRow) -> Passed
     ensures { λ r. ⌜ PassesStamps (now (bytes .entry)) asked r ⌝ }
@@ -311,6 +312,7 @@ fn row_of(count: usize, row: u64, constraint: Constraint) -> FoundRow
     }
 }
 
+// §8.25, §12.4, §12.5
 // What a row of a table of an edition up to the newest reads at the close of a recording whose stamps are late by at most so much; or the refusal.
 pub fn read(newest: u8, table: &[u8], recording: &[u8], row: u64, late: u64) -> StampedAnswer
     ensures { λ r. ⌜ AnswersStampsUpTo newest (now (table .entry)) (now (recording .entry)) row late r ⌝ }

@@ -44,12 +44,14 @@ module _ (c : Constraint) (streams times : List ℕ) (count : ℕ) (need : List 
     as-steps : stretches count ≡ stretches (length steps)
     as-steps = ap stretches (sym (run .counted))
 
+    -- §14.4
     pub tries-first : 0 < r .tried → FirstAt (Breaking c steps) (stretches (length steps)) (stretchOf (r .first) (r .size)) (r .tried)
     tries-first h =
         first-as (Enough need) (Breaking c steps) (Inside (length steps)) breaking enough
         (stretches (length steps)) (stretches-inside (length steps)) _ _
         (subst (λ (l : List Stretch). FirstAt (Enough need) l (stretchOf (r .first) (r .size)) (r .tried)) as-steps (searches .first-is h))
 
+    -- §8.23
     pub tries-none : r .tried ≡ 0 → ¬ Some (Breaking c steps) (stretches (length steps))
     tries-none e one =
         searches .none e

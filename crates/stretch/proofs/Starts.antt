@@ -131,7 +131,7 @@ module _ (c : Constraint) (sound : Sound c) where
       unbroken-yet : (m : ℕ) → m ≤ size → ¬ Breaks c (part m)
       unbroken-yet m h breaks = breaks .1 (subst (Open c) (take-take m size rest h) (open-prefix c (takes-valid (run .takes)) is-open m))
 
-      -- the end comes first
+      -- §14.2: the end comes first
       pub run-end : length steps ≤ start + size → Needs c rest 257
       run-end end m more short =
           subst (Decides (Breaks c (part m))) (sym (lt-leb 257 m (omega (arith, short, length-drop start steps, few))))
@@ -168,7 +168,7 @@ module _ (c : Constraint) (sound : Sound c) where
             (subst (λ (n : ℕ). Holds (part size ++ (step ∷ [])) (rowStep r (seen (part size) step) (n + 1))) (part-size size (run .within))
             (fits-step c (every-type-exact c sound) (part size) (takes-valid (run .takes)) sound step accepts r (run .fits))))
 
-        -- 12 comes first
+        -- §14.2: 12 comes first
         pub run-crowded : moved .crowded ≡ true → Needs c rest 257
         run-crowded crowded m more short =
             let full = subst (λ b. After c (every-type-exact c sound) (part (suc size)) b (moved .row)) crowded after in
@@ -219,6 +219,7 @@ module _ (c : Constraint) (sound : Sound c) where
                 (takes-next steps taken start (suc size + d) (omega (arith, h, last)) alone (takes-on d (suc size + d) refl (omega (arith, h, last)))
                 (room-one (part (suc (suc size + d))) (λ o. absurd (shut (suc (suc size + d)) (omega arith) (omega (arith, h, last)) o))))
 
+            -- §14.2
             pub run-broken : Needs c rest (size + 1)
             run-broken m more short =
                 let h : start + m ≤ length steps = omega (arith, more, short, length-drop start steps) in

@@ -113,6 +113,7 @@ fn gather(bytes: &[u8], streams: &mut [u64; 256], times: &mut [u64; 256]) -> Gat
     }
 }
 
+// §14.2
 // The least number of records from a start on that break the row; 257 where none do, as the end or a 12 comes first.
 fn need_from(
     constraint: Constraint,
@@ -162,6 +163,7 @@ fn needs(
     need
 }
 
+// §14.3
 // The first stretch of so many records, by length and then by start, that is as long as its start needs; each one tried is counted.
 fn search(need: &[usize; 256], count: usize) -> Found
     requires { ⌜ count ≤ 256 ⌝ }
@@ -235,6 +237,7 @@ fn ask_row(
     try_row(constraint, streams, times, count)
 }
 
+// §8.22, §8.23, §14.4, §14.5
 // The shortest stretch of a recording that breaks a row of a table of an edition up to the newest, and how many were tried by length and by start;
 // or the refusal. For n records it takes at most n(n + 1)/2 steps of the row.
 pub fn shortest(newest: u8, table: &[u8], recording: &[u8], row: u64) -> StretchAnswer

@@ -22,6 +22,7 @@ module _ (one other : ℕ) (table : List ℕ) (known : at table 0 ≤ one) (know
         parts = numbers .parts;
       }
 
+-- §16.6
 pub stretch-as-before : (table : List ℕ) → at table 0 ≡ 1 → (recording : List ℕ) (i number : ℕ)
     → NumbersStretchUpTo 2 table recording i number ↔ NumbersStretch table recording i number
 stretch-as-before table first recording i number =

@@ -42,6 +42,6 @@ DecodesStretch word (StretchAnswer.Refused n place) = Decodes word (Answer.Refus
 
 -- ---- the editions
 
--- for a table of the first edition
+-- §14.6: for a table of the first edition
 abbrev pub NumbersStretch : List ℕ → List ℕ → ℕ → ℕ → Type 0
 NumbersStretch = NumbersStretchUpTo 1

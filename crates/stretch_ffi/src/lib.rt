@@ -17,6 +17,7 @@ fn stretch_number(newest: u8, table: &[u8], recording: &[u8], row: u64) -> u64
     }
 }
 
+// §14.6
 // The shortest stretch of a recording that breaks a row of a table: its first record's number in bits 8 to 15, its length from bit 16, and
 // from bit 32 how many stretches were tried, with it; on a refusal 256 times its place and its number. For n records it takes at most
 // n(n + 1)/2 steps of the row.
@@ -27,6 +28,7 @@ pub extern "C" fn delkuthi_shortest_stretch(table: &[u8], recording: &[u8], row:
     stretch_number(1, table, recording, row)
 }
 
+// §16.3
 // The same for a table of either edition.
 #[no_mangle]
 pub extern "C" fn delkuthi_shortest_stretch_2(table: &[u8], recording: &[u8], row: u64) -> u64

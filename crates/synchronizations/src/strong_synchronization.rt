@@ -11,6 +11,7 @@ ghost use Rattle.synchronizations.specs.StrongSynchronization.{overflows
 ghost use Rattle.synchronizations.specs.StrongSynchronization.{withoutOldest};
 ghost use Rattle.synchronizations.specs.StrongSynchronization.{RegistersBecome, decideStrongSynchronization};
 
+// §5.7
 // What an event makes of the row, where it lies.
 pub fn apply(row: &mut [[u64; SIZE]; 2], stream: u64, t: u64, number: u64)
     ensures { λ _. ⌜ Applies countsSaved decideStrongSynchronization (now (row .entry)) stream t number (now (row .exit)) ⌝ }

@@ -9,6 +9,7 @@ ghost use Rattle.row_type.specs.Words.{parametersAt, registersAt, countsSaved, 
 ghost use Rattle.synchronizations.specs.StrongSynchronization.{RegistersBecome};
 ghost use Rattle.synchronizations.specs.Synchronization.{latest, recent, full, decideSynchronization};
 
+// §5.11
 // What an event makes of the row, where it lies.
 pub fn apply(row: &mut [[u64; SIZE]; 2], stream: u64, t: u64, number: u64)
     ensures { λ _. ⌜ Applies countsSaved decideSynchronization (now (row .entry)) stream t number (now (row .exit)) ⌝ }

@@ -64,6 +64,7 @@ row-typed edition rows accepted i there = judged-all 4 _ _ (row-accepted edition
 module _ {newest : ℕ} (raw bytes before : List ℕ) (rows : List Constraint) (each : Bytes bytes)
     (reads : ReadsTableUpTo newest bytes (table-of rows)) (given : RawRows raw rows) (end : length raw < (length rows + 1) * rawSize)
     (long : length bytes ≤ length before) where
+  -- §4.9
   pub raw-write : {w : WriteAnswer} {after : List ℕ} → WritesRaw (at bytes 0) raw before w after
       → (w ≡ WriteAnswer.Written (length bytes)) × (after ≡ bytes ++ drop (length bytes) before)
   raw-write {w = w} {after = after} (all-read others read past writes) =

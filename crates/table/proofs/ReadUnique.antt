@@ -20,6 +20,7 @@ rows-once {edition} bytes (row-taken {i} {place} c h at-c p earlier) (row-taken 
     let shape = place-taken edition bytes i place c p .shape in
     ap₂ rowThen (stands-once (bodyAt bytes place) c d (at-c shape) (at-d shape)) (rows-once bytes earlier later)
 
+-- §7.6, §8.1, §9.3
 pub reads-once : {newest : ℕ} (bytes : List ℕ) {x y : TableRead} → ReadsTableUpTo newest bytes x → ReadsTableUpTo newest bytes y → x ≡ y
 reads-once bytes (version-refused h) (version-refused k) = refl
 reads-once bytes (version-refused h) (version-taken k rows) = absurd (h k)

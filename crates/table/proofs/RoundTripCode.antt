@@ -38,7 +38,7 @@ rows-write bytes before after rows w all reads long writes = go w writes
     go (WriteAnswer.Refused n) writes =
         let no = judged-once (writerQuestions (at bytes 0) rows before) Taken (Refused n) taken (writes .judged) in never (cc)
 
--- of a table record
+-- §4.9: of a table record
 pub read-write : {newest : ℕ} (bytes before after : List ℕ) (r : Reading) (w : WriteAnswer) → Bytes bytes → ReadsInto newest bytes r
     → r .answer ≡ ReadAnswer.Accepted → length bytes ≤ length before → Writes (at bytes 0) (rowsOf (r .table)) before w after
     → (w ≡ WriteAnswer.Written (length bytes)) × (after ≡ bytes ++ drop (length bytes) before)
@@ -64,7 +64,7 @@ module _ (newest edition : ℕ) (some : 0 < lastType edition) (known : edition �
           (subst (λ (qs : List Question). Judged qs Taken)
           (rows-then edition 0 rows ((16, length (tableBytesIn edition rows) ≤ length before) ∷ [])) (writes .judged)) .0
 
-  -- of a table record: the record's rows
+  -- §4.10: of a table record: the record's rows
   pub write-read : (table : Table) (before after : List ℕ) (n : ℕ) (r : Reading)
       → Writes edition (rowsOf table) before (WriteAnswer.Written n) after → ReadsInto newest (take n after) r
       → (r .answer ≡ ReadAnswer.Accepted) × (rowsOf (r .table) ≡ rowsOf table)
@@ -84,6 +84,7 @@ module _ (newest edition : ℕ) (some : 0 < lastType edition) (known : edition �
   RawRead bytes table =
       (rows : List Constraint) × RawRows bytes rows × (length bytes < (length rows + 1) * rawSize) × ReadsTableUpTo newest table (table-of rows)
 
+  -- §4.10
   pub raw-read : (bytes before after : List ℕ) (n : ℕ) → WritesRaw edition bytes before (WriteAnswer.Written n) after → RawRead bytes (take n after)
   raw-read bytes before after n writes = go refl writes
     where

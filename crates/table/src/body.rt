@@ -25,6 +25,7 @@ pub(crate) fn times_count(size: usize) -> usize
     size >> 3
 }
 
+// §8.4
 // Question 4 of a type byte and the byte behind it: is the type one of the edition, and is n in range?
 pub(crate) fn type_known(edition: u8, tag: u8, n: u8) -> bool
     ensures { λ r. ⌜ Decides (TypeKnown edition tag n) r ⌝ }
@@ -46,6 +47,7 @@ pub(crate) fn type_known(edition: u8, tag: u8, n: u8) -> bool
     true
 }
 
+// §8.4
 // Question 4, of a row with a length field of that size: is the type one of the edition, n in range, the length right?
 pub(crate) fn shape_fits(edition: u8, body: &[u8], size: usize) -> bool
     requires { ⌜ size ≡ length (now body) ⌝ }

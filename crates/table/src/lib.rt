@@ -29,6 +29,7 @@ pub enum WriteAnswer {
     Refused(u8),
 }
 
+// §4.2, §4.9, §4.10, §7.6, §8.1, §9.3
 // Reads a table of an edition up to the newest: its rows, or the first question answered "no" and the place.
 pub fn read(newest: u8, bytes: &[u8]) -> Reading
     ensures { λ r. ⌜ ReadsInto newest (now (bytes .entry)) r ⌝ }
@@ -40,6 +41,7 @@ pub fn read(newest: u8, bytes: &[u8]) -> Reading
     reader::read_rows(edition, bytes)
 }
 
+// §4.2, §4.9, §4.10, §8.16, §9.2, §9.7, §9.8
 // Writes a table of an edition to a lent buffer. A refusal leaves the buffer as it was, and bytes after those written stay.
 pub fn write(edition: u8, table: Table, buffer: &mut [u8]) -> WriteAnswer
     ensures { λ r. ⌜ Writes edition (rowsOf table) (now (buffer .entry)) r (now (buffer .exit)) ⌝ }

@@ -55,6 +55,7 @@ pub(crate) fn whole_at(bytes: &[u8], place: usize) -> bool
     big_endian::two_at(bytes, place) <= size - 2 - place
 }
 
+// §4.3, §8.2, §8.3
 // Questions 2 to 7, put to the row at a place in a table of an edition, with some rows before it.
 pub(crate) fn read_row(edition: u8, bytes: &[u8], place: usize, before: usize) -> RowRead
     ensures { λ r. ⌜ ReadsAt edition (now (bytes .entry)) before place r ⌝ }

@@ -51,6 +51,7 @@ fn validate_rows(edition: u8, bytes: &[u8]) -> Scan
     Scan { answer, rows }
 }
 
+// §7.6, §8.1, §9.3
 // Judges the bytes of a table of an edition up to the newest: the number of its rows, or the first question answered "no" and the place.
 pub fn validate(newest: u8, bytes: &[u8]) -> Scan
     ensures { λ r. ⌜ Scans newest (now (bytes .entry)) r ⌝ }

@@ -19,6 +19,7 @@ fn row_length(row: Constraint) -> usize
     constraint::length_of(line.tag, fields.bytes[0])
 }
 
+// §4.4
 // Stores the first `count` of some times in a buffer from a place on.
 fn put_times(buffer: &mut [u8], place: usize, times: [u64; 4], count: usize)
     requires { ⌜ (place ≤ length (now buffer)) × (count ≤ 4) ⌝ }
@@ -34,6 +35,7 @@ fn put_times(buffer: &mut [u8], place: usize, times: [u64; 4], count: usize)
     }
 }
 
+// §4.4
 // Stores a row's body of that size in a buffer from a place on: the type byte, the other bytes before its times, the times.
 fn put_body(buffer: &mut [u8], place: usize, row: Constraint, size: usize)
     requires { ⌜ (size ≡ length (rowBody row)) × (place + size ≤ length (now buffer)) ⌝ }
@@ -51,6 +53,7 @@ fn put_body(buffer: &mut [u8], place: usize, row: Constraint, size: usize)
     put_times(buffer, place + start, times, times_count);
 }
 
+// §4.3
 // Stores a row in a buffer from a place on: its length, and its body.
 fn put_row(buffer: &mut [u8], place: usize, row: Constraint)
     requires { ⌜ place + length (rowBytes row) ≤ length (now buffer) ⌝ }

@@ -241,6 +241,7 @@ module _ (source target lower upper : ℕ) (sound : Sound (Delay source target l
     waiting-is = λ steps. refl;
   }
 
+  -- §5.1
   pub exactDelay : Exact (Delay source target lower upper) (decideDelay parameters)
   exactDelay = exactTwoKinds delay-of (decideDelay parameters) delay-laws
 
@@ -260,7 +261,7 @@ module _ (source target lower : ℕ) (sound : Sound (Delay source target lower n
       (record { unmet-are = refl; last-is = refl })
       (omega (arith, none-due (unmet lower noLimit sources targets), r .small))
 
-  -- before the close the row is open, whatever has come and however late it is
+  -- §5.1.6: before the close the row is open, whatever has come and however late it is
   pub unlimited-delay-open : {steps : List Step} → Past steps → closed steps ≡ false → Open (Delay source target lower noLimit) steps
   unlimited-delay-open {steps} p o =
       let r : UpTo (clock steps) (times source steps) (times target steps) = record {
@@ -273,7 +274,7 @@ module _ (source target lower : ℕ) (sound : Sound (Delay source target lower n
       pair-open (delay-of source target lower noLimit sound) (decideDelay (parametersOf (Delay source target lower noLimit)))
       (delay-laws source target lower noLimit sound) steps o (inr (unlimited-further r))
 
-  -- so no tick breaks it
+  -- §5.1.6: so no tick breaks it
   pub unlimited-delay-waits : {steps : List Step} {t : ℕ} → Valid steps → Accepts steps (tick t)
       → Open (Delay source target lower noLimit) (steps ++ (tick t ∷ []))
   unlimited-delay-waits {steps} {t} v a = unlimited-delay-open (past-of (valid-more (tick t) v a)) (closed-tick t steps ∙ a .not-closed)

@@ -181,6 +181,7 @@ module _ (source target : ℕ) (sound : Sound (Order source target)) where
         not-kept = λ live. order-not-kept _ _ _ _ live;
       }
 
+  -- §5.6
   pub exactOrder : Exact (Order source target) (decideOrder parameters)
   unfolding Meets MeetsOrder waiting
   exactOrder =

@@ -202,6 +202,7 @@ module _ (source target lower upper : ℕ) (sound : Sound (StrongDelay source ta
         not-kept = λ live. not-kept-by _ _ _ _ (live .pairing);
       }
 
+  -- §5.2
   pub exactStrongDelay : Exact (StrongDelay source target lower upper) (decideStrongDelay parameters)
   unfolding Meets MeetsStrongDelay waiting
   exactStrongDelay =

@@ -344,6 +344,7 @@ module _ (stimulus response minimum maximum : ℕ) (sound : Sound (Reaction stim
 
   -- ---- Exact
 
+  -- §5.9
   pub exactReaction : Exact c (decideReaction parameters)
   unfolding waiting
   exactReaction =

@@ -355,6 +355,7 @@ module _ (start stop preempt resume lower upper : ℕ) (sound : Sound (Execution
 
   -- ---- Exact
 
+  -- §5.8
   pub exactExecutionTime : Exact c (decideExecutionTime parameters)
   unfolding own waiting
   exactExecutionTime =

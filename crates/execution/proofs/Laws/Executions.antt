@@ -91,10 +91,12 @@ module _ (start stop preempt resume lower upper : ℕ) where
 
   -- ---- the definition
 
+  -- §5.8
   pub meets-ends : (es : List (ℕ × ℕ)) → MeetsExecutionTime start stop preempt resume lower upper es → Ends idle 0 es
   unfolding MeetsExecutionTime
   meets-ends es m = executes-ends m
 
+  -- §5.8
   pub ends-meets : (es : List (ℕ × ℕ)) → Ends idle 0 es → MeetsExecutionTime start stop preempt resume lower upper es
   unfolding MeetsExecutionTime
   ends-meets es h = rest-of idle 0 es h

@@ -291,6 +291,7 @@ module _ (parameters : Parameters) (events : List ℕ) (registers : Registers) (
 
 -- ---- Exact
 
+-- §5.4
 pub exactSporadic : (kind lower upper jitter minimum : ℕ) → Sound (Sporadic kind lower upper jitter minimum)
     → Exact (Sporadic kind lower upper jitter minimum) (decideSporadic (parametersOf (Sporadic kind lower upper jitter minimum)))
 unfolding Meets waiting InRange

@@ -21,6 +21,7 @@ burst-says parameters none events registers kept now small keeps = (
 
 -- ---- Exact
 
+-- §5.5
 pub exactBurst : (kind maximum len minimum : ℕ) → Sound (Burst kind maximum len minimum)
     → Exact (Burst kind maximum len minimum) (decideRepeat (parametersOf (Burst kind maximum len minimum)))
 unfolding Meets MeetsBurst waiting InRange

@@ -200,6 +200,7 @@ repeat-few parameters small {events} {registers} {kept} keeps = omega (arith, ke
 
 -- ---- Exact
 
+-- §5.3
 pub exactRepeat : (kind span lower upper : ℕ) → Sound (Repeat kind span lower upper)
     → Exact (Repeat kind span lower upper) (decideRepeat (parametersOf (Repeat kind span lower upper)))
 unfolding Meets MeetsRepeat waiting InRange

@@ -122,6 +122,7 @@ repetition-says parameters positive possible events kept now rising small row = 
 
 -- ---- Exact
 
+-- §5.10
 pub exactRepetition : (kind span lower upper jitter : ℕ) → Sound (Repetition kind span lower upper jitter)
     → Exact (Repetition kind span lower upper jitter) (decideRepetition (parametersOf (Repetition kind span lower upper jitter)))
 unfolding Meets waiting InRange LowerFirst

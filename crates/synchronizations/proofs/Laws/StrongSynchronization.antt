@@ -112,18 +112,21 @@ module _ (c : Constraint) (s : Synchronized c) where
         not-kept = λ past live. live-not-kept _ _ _ live;
       }
 
+-- §5.7
 pub exactStrongSynchronization2 : (a b tolerance : ℕ) → Sound (StrongSynchronization2 a b tolerance)
     → Exact (StrongSynchronization2 a b tolerance) (decideStrongSynchronization (parametersOf (StrongSynchronization2 a b tolerance)))
 unfolding Meets waiting
 exactStrongSynchronization2 a b tolerance sound =
     exact-synchronized (StrongSynchronization2 a b tolerance) (of-kinds _ sound 2 (omega arith) refl refl refl (λ steps. refl) refl (λ steps. refl))
 
+-- §5.7
 pub exactStrongSynchronization3 : (a b c tolerance : ℕ) → Sound (StrongSynchronization3 a b c tolerance)
     → Exact (StrongSynchronization3 a b c tolerance) (decideStrongSynchronization (parametersOf (StrongSynchronization3 a b c tolerance)))
 unfolding Meets waiting
 exactStrongSynchronization3 a b c tolerance sound =
     exact-synchronized (StrongSynchronization3 a b c tolerance) (of-kinds _ sound 1 (omega arith) refl refl refl (λ steps. refl) refl (λ steps. refl))
 
+-- §5.7
 pub exactStrongSynchronization4 : (a b c d tolerance : ℕ) → Sound (StrongSynchronization4 a b c d tolerance)
     → Exact (StrongSynchronization4 a b c d tolerance) (decideStrongSynchronization (parametersOf (StrongSynchronization4 a b c d tolerance)))
 unfolding Meets waiting

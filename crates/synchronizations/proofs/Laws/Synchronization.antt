@@ -418,18 +418,21 @@ module _ (c : Constraint) (s : Synchronized c) where
         not-kept = λ past live. live-not-kept _ _ _ live;
       }
 
+-- §5.11
 pub exactSynchronization2 : (a b tolerance : ℕ) → Sound (Synchronization2 a b tolerance)
     → Exact (Synchronization2 a b tolerance) (decideSynchronization (parametersOf (Synchronization2 a b tolerance)))
 unfolding Meets waiting
 exactSynchronization2 a b tolerance sound =
     exact-synchronized (Synchronization2 a b tolerance) (of-kinds _ sound 2 (omega arith) refl refl refl (λ steps. refl) refl (λ steps. refl))
 
+-- §5.11
 pub exactSynchronization3 : (a b c tolerance : ℕ) → Sound (Synchronization3 a b c tolerance)
     → Exact (Synchronization3 a b c tolerance) (decideSynchronization (parametersOf (Synchronization3 a b c tolerance)))
 unfolding Meets waiting
 exactSynchronization3 a b c tolerance sound =
     exact-synchronized (Synchronization3 a b c tolerance) (of-kinds _ sound 1 (omega arith) refl refl refl (λ steps. refl) refl (λ steps. refl))
 
+-- §5.11
 pub exactSynchronization4 : (a b c d tolerance : ℕ) → Sound (Synchronization4 a b c d tolerance)
     → Exact (Synchronization4 a b c d tolerance) (decideSynchronization (parametersOf (Synchronization4 a b c d tolerance)))
 unfolding Meets waiting

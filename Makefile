@@ -95,10 +95,15 @@ $(BUILD)/delkuthi.3: release/delkuthi.3.in release/manual.py VERSION $(HEADERS)
 	@mkdir -p $(BUILD)
 	python3 release/manual.py library $@
 
-trace: $(BUILD)/TRACE.md
-$(BUILD)/TRACE.md: release/trace.py docs/READING.md docs/CONTRACT.md VERSION $(wildcard host/*/tests/*.rs)
+trace: $(BUILD)/TRACE.md $(BUILD)/READING.md
+TRACED := release/trace.py docs/READING.md docs/CONTRACT.md VERSION $(wildcard host/*/tests/*.rs) $(shell find crates -name '*.antt' -o -name '*.rt')
+$(BUILD)/TRACE.md: $(TRACED)
 	@mkdir -p $(BUILD)
 	python3 release/trace.py $@
+
+$(BUILD)/READING.md: $(TRACED)
+	@mkdir -p $(BUILD)
+	python3 release/trace.py --links $@
 
 # What a host runs with, and what it is compiled with: two packages of a distribution.
 install-lib: $(BUILD)/$(SHARED)

@@ -7,9 +7,10 @@
     text-check.py --fix FOLDER..   takes the names that are not used out of the imports of the files below the folders, and cuts long imports
 
 What is looked for: a line of more than 150 characters, a tab, a blank at a line's end, a name that a file of code or of proofs imports and does not
-use, and one that a file of definitions or proofs declares and that nothing else uses, cites in a contract or names in a document. Rows of a table in
-a document may be long, and so may what it shows as it is printed. What a file passes on (`pub use`) is used where another file imports it from
-there. The allowance has, for a folder that is not clean, how many of each it may have: what is above that is wrong, so the numbers only fall.
+use, and one that a file of definitions or proofs declares and that nothing else uses, cites in a contract or names in a document. A law that is
+tagged with a clause (§) counts as used. Rows of a table in a document may be long, and so may what it shows as it is printed. What a file passes on
+(`pub use`) is used where another file imports it from there. The allowance has, for a folder that is not clean, how many of each it may have: what is
+above that is wrong, so the numbers only fall.
 """
 import re
 import subprocess
@@ -33,6 +34,8 @@ DECLARED = re.compile(r"^\s*(?:(?:pub|abbrev|unfoldable|opaque|data|record|priva
 # A module with parameters declares no name, and what stands in its line is used.
 MODULE = re.compile(r"\s*(?:pub )?module\b")
 COMMENT = re.compile(r"(?:^|\s)(?:--|//).*")
+# A law that is tagged with the clause that it proves.
+TAGGED = re.compile(r"^\s*-- §.*\n(?:\s*--.*\n)*\s*(?:(?:pub|abbrev|unfoldable|opaque|data|record|private)\s+)*([^\s(){}.,;:]+)", re.M)
 
 
 def sources(folders):
@@ -184,6 +187,8 @@ def idle(texts):
             cited |= tokens(text)
         elif file.suffix == ".md" and "history" not in file.parts:
             cited |= set(re.findall(r"[^\s`\[\]().,;:]+", text))
+        elif "proofs" in file.parts:
+            cited |= set(TAGGED.findall(text))
 
     def has_other_users(word, file, name):
         return word in cited or bool(users.get(word, set()) - {(file, name)})

@@ -1,6 +1,6 @@
-# make: the library and the program, in build/. make help says what else there is.
+# make builds the library and the program in build/. make help lists the other targets.
 PREFIX     = /usr/local
-# What the file for pkg-config says of the prefix: with $${pcfiledir}/../.. it may be moved.
+# The prefix in the file for pkg-config. With $${pcfiledir}/../.. the copy can be moved.
 PC_PREFIX  = $(PREFIX)
 BINDIR     = $(PREFIX)/bin
 LIBDIR     = $(PREFIX)/lib
@@ -9,20 +9,21 @@ DOCDIR     = $(PREFIX)/share/doc/delkuthi
 MANDIR     = $(PREFIX)/share/man
 CMAKEDIR   = $(LIBDIR)/cmake/delkuthi
 BUILD      = build
+LOG        = $(BUILD)/log
 CC        ?= cc
 CPPFLAGS  ?= -D_FORTIFY_SOURCE=2
 CFLAGS    ?= -O2
-# What the program is compiled and linked with whatever the flags above are: a program that is handed files from elsewhere.
+# The program reads files from elsewhere, so it is always compiled and linked with these flags too.
 HARDENED   = -fPIE -fstack-protector-strong -Wformat -Werror=format-security
 LINKED     = -Wl,-z,relro -Wl,-z,now -Wl,-z,noexecstack
 VERSION   := $(shell cat VERSION)
-# What a host is linked with is good for every version of the same first two numbers.
+# A host that is linked with one version runs with every version that has the same first two numbers.
 INTERFACE := $(basename $(VERSION))
 SHARED    := libdelkuthi.so.$(VERSION)
 CMAKE     := $(BUILD)/delkuthi-config.cmake $(BUILD)/delkuthi-config-version.cmake
 LIBRARY   := $(BUILD)/libdelkuthi.a $(BUILD)/$(SHARED) $(BUILD)/delkuthi.pc $(CMAKE)
 HEADERS   := $(wildcard include/*.h include/*.hpp)
-DOCUMENTS := CHANGELOG.md LICENSE NOTICE docs/CONTRACT.md docs/DATASHEET.md docs/SAFETY.md $(BUILD)/TRACE.md
+DOCUMENTS := CHANGELOG.md LICENSE NOTICE docs/CONTRACT.md docs/DATASHEET.md docs/SAFETY.md docs/MISRA.md $(BUILD)/TRACE.md
 MANUALS   := $(BUILD)/delkuthi.1 $(BUILD)/delkuthi.3
 EXAMPLES  := $(addprefix host/c/,bench_loop.c report.c file.c file.h) examples/table.bin examples/recording.bin
 
@@ -33,46 +34,53 @@ lib: $(LIBRARY)
 program: $(BUILD)/delkuthi $(MANUALS) $(BUILD)/TRACE.md
 
 help:
-	@echo "make             the library and the program, in $(BUILD)/ (needs rt, of the Rattle kit, a C compiler and python3)"
+	@echo "make run         prints the report and the page of the drive in examples/; proves and builds the library first"
+	@echo "make test        the gate: proves everything from nothing, then runs all tests"
+	@echo "make             the library and the program, in $(BUILD)/"
 	@echo "make lib         $(SHARED), libdelkuthi.a and the files for pkg-config and CMake alone"
 	@echo "make program     delkuthi and the manual pages alone"
-	@echo "make install     to PREFIX ($(PREFIX)), under DESTDIR if that is set"
-	@echo "make uninstall   takes away what make install has put there"
-	@echo "make dist        the release: a folder and a tarball in $(BUILD)/, with manifest, list of parts and checksums"
+	@echo "make install     installs to PREFIX ($(PREFIX)), under DESTDIR if that is set"
+	@echo "make uninstall   removes what make install has installed"
+	@echo "make wheel       a wheel of the package in python/ with the shared library in it, in $(BUILD)/"
+	@echo "make dist        the release: a folder and a tarball in $(BUILD)/, of a commit on which the gate passed; UNCHECKED=yes without a gate"
 	@echo "make portable    the sources as one no_std crate of Rust for other machines, in $(BUILD)/portable"
-	@echo "make trace       TRACE.md alone, from each promise of the contract to its definition, theorem, function and tests (needs python3)"
-	@echo "make clean       takes away $(BUILD)/"
-	@echo "make run         proves and builds delkuthi_cli, and prints the report on the drive in examples/"
-	@echo "make test        the gate: proves everything from nothing, then runs the tests"
-	@echo "make wheel       a wheel of the package in python/ that carries the shared library, in $(BUILD)/ (needs python3)"
+	@echo "make trace       TRACE.md, from each promise of the contract to its definition, theorem, function and tests"
 	@echo "make test-python the tests of the package in python/ alone"
-	@echo "make test-ports  the portable crate on ARM, 64 and 32 bits, beside the proved library; says which packages are missing"
+	@echo "make test-ports  the portable crate on other machines under qemu, beside the proved library; INSTALL=--install installs the packages"
 	@echo "make bench       the speed beside plain Rust"
 	@echo "make worst       the slowest calls, in cycles"
-	@echo "make count       the instructions of a call beside plain Rust (needs valgrind)"
-	@echo "With DELKUTHI_LIB set, libdelkuthi.a is taken from the folder that it names, and rt is not needed."
+	@echo "make count       the instructions of a call beside plain Rust; needs valgrind"
+	@echo "make clean       removes $(BUILD)/"
+	@echo "The library is proved and built with rt, of the Rattle kit. If DELKUTHI_LIB names the folder of a libdelkuthi.a, that archive is used;"
+	@echo "rt is not needed then, and make test runs all tests but the proofs."
 
-# The archive: proved and built, or taken from where DELKUTHI_LIB says, to the byte. It is put together of parts that are compiled by
-# themselves: the search for a stretch uses what a step uses, and the compiler would treat the steps otherwise if both were one.
+# The archive is proved and built, or copied byte for byte from the folder that DELKUTHI_LIB names. Its parts are compiled separately:
+# the search for a stretch uses what a step uses, and in one unit the compiler would optimise the steps differently.
 PARTS := delkuthi stretch_host status
 ifdef DELKUTHI_LIB
 ARCHIVES := $(DELKUTHI_LIB)/libdelkuthi.a
 put_together = cp $(ARCHIVES) $@.new
 else
 ARCHIVES := $(patsubst %,target/staticlib/lib%.a,$(PARTS))
-$(ARCHIVES): target/staticlib/lib%.a: crates.txt $(shell find crates -type f)
-	@command -v rt >/dev/null || { echo "rt, of the Rattle kit, is not there; DELKUTHI_LIB can name the folder of a libdelkuthi.a"; exit 1; }
-	rt staticlib $*
+CRATES   := crates.txt $(shell find crates -type f)
+BELOW    := $(sort $(shell sed -nE 's/^(delkuthi|stretch_host|status): *//p' crates.txt))
+# rt proves crates side by side here, and one after the other in rt staticlib.
+$(BUILD)/proved: $(CRATES)
+	@command -v rt >/dev/null || { echo "rt, of the Rattle kit, is not installed; set DELKUTHI_LIB to the folder of a libdelkuthi.a"; exit 1; }
+	@python3 release/progress.py $(LOG)/proofs.log rt check $(BELOW)
+	@touch $@
+$(ARCHIVES): target/staticlib/lib%.a: $(BUILD)/proved
+	@python3 release/progress.py $(LOG)/$*.log rt staticlib $*
 put_together = { echo "create $@.new"; for part in $(ARCHIVES); do echo "addlib $$part"; done; echo save; echo end; } | ar -M
 endif
 
-# What is made in every make, as DELKUTHI_LIB and PREFIX may be others than last time, and left as it is where nothing changed.
+# These are made in every make, because DELKUTHI_LIB and PREFIX may differ from last time. A file that would not change is left alone.
 $(BUILD)/libdelkuthi.a: $(ARCHIVES) always
 	@mkdir -p $(BUILD)
 	@$(put_together)
 	@if cmp -s $@.new $@; then rm $@.new; else mv $@.new $@; fi
 
-# Where something lies by the prefix, or by the folder that the file itself is in.
+# A path relative to the prefix, or to the folder that the file itself is in.
 from_prefix = $(patsubst $(PREFIX)/%,$${prefix}/%,$1)
 from_cmake = $(shell realpath -m --relative-to=$(CMAKEDIR) $1)
 $(BUILD)/delkuthi.pc $(CMAKE) $(BUILD)/exports.map $(BUILD)/delkuthi.1: $(BUILD)/%: release/%.in VERSION always
@@ -105,7 +113,7 @@ $(BUILD)/READING.md: $(TRACED)
 	@mkdir -p $(BUILD)
 	python3 release/trace.py --links $@
 
-# What a host runs with, and what it is compiled with: two packages of a distribution.
+# A distribution has two packages: what a host needs to run, and what it needs to be compiled.
 install-lib: $(BUILD)/$(SHARED)
 	install -d $(DESTDIR)$(LIBDIR)
 	install -m 755 $(BUILD)/$(SHARED) $(DESTDIR)$(LIBDIR)/
@@ -127,13 +135,19 @@ install: all install-lib install-dev
 	install -m 755 $(BUILD)/delkuthi $(DESTDIR)$(BINDIR)/
 	install -m 644 $(BUILD)/delkuthi.1 $(DESTDIR)$(MANDIR)/man1/
 
+# The folders that make install makes, inner ones first. Those of /usr and /usr/local belong to the system, even if they are empty.
+OWN_FOLDERS := $(DOCDIR)/examples $(DOCDIR) $(CMAKEDIR)
+ALL_FOLDERS := $(OWN_FOLDERS) $(LIBDIR)/cmake $(LIBDIR)/pkgconfig $(LIBDIR) $(BINDIR) $(INCLUDEDIR) $(MANDIR)/man1 $(MANDIR)/man3 \
+    $(MANDIR) $(dir $(DOCDIR)) $(PREFIX)/share $(PREFIX)
+EMPTIED     := $(if $(filter /usr /usr/local,$(PREFIX)),$(OWN_FOLDERS),$(ALL_FOLDERS))
+
 uninstall:
 	rm -f $(DESTDIR)$(BINDIR)/delkuthi $(DESTDIR)$(MANDIR)/man1/delkuthi.1 $(DESTDIR)$(MANDIR)/man3/delkuthi.3
 	rm -f $(addprefix $(DESTDIR)$(INCLUDEDIR)/,$(notdir $(HEADERS)))
 	rm -f $(addprefix $(DESTDIR)$(LIBDIR)/,libdelkuthi.a libdelkuthi.so libdelkuthi.so.$(INTERFACE) $(SHARED) pkgconfig/delkuthi.pc)
 	rm -f $(addprefix $(DESTDIR)$(CMAKEDIR)/,$(notdir $(CMAKE)))
 	rm -f $(addprefix $(DESTDIR)$(DOCDIR)/,$(notdir $(DOCUMENTS)) $(addprefix examples/,$(notdir $(EXAMPLES))))
-	-rmdir $(DESTDIR)$(CMAKEDIR) $(DESTDIR)$(DOCDIR)/examples $(DESTDIR)$(DOCDIR)
+	@for folder in $(addprefix $(DESTDIR),$(EMPTIED)); do rmdir --ignore-fail-on-non-empty $$folder 2>/dev/null || true; done
 
 clean:
 	rm -rf $(BUILD)
@@ -141,18 +155,23 @@ clean:
 test:
 	bash .ci/run
 
-# A wheel that carries the shared library: pip install needs nothing else.
+# The wheel has the shared library in it: pip install needs nothing else.
 wheel: $(LIBRARY)
 	@python3 python/backend.py $(BUILD) $(BUILD)/$(SHARED)
 
-# Debian's modules are for Debian's own Python: make test-python PYTHON=python3 takes another one.
+# Debian's modules are for Debian's own Python. For another one: make test-python PYTHON=python3.
 PYTHON = /usr/bin/python3
 test-python: lib
 	$(PYTHON) -m pytest -q -p no:cacheprovider python/tests
 
+# What a new user sees first. It installs a compiler, binutils and Python if they are missing.
 run:
-	rt check delkuthi_cli
-	cd examples && ../target/bin/delkuthi_cli
+	@bash .ci/install build
+	@$(MAKE) --no-print-directory --silent $(BUILD)/report
+	@$(BUILD)/report examples/table.bin examples/recording.bin page
+
+$(BUILD)/report: host/c/report.c host/c/file.c host/c/file.h $(HEADERS) $(BUILD)/libdelkuthi.a
+	$(CC) -std=c99 $(CPPFLAGS) $(CFLAGS) -Iinclude $(LDFLAGS) -o $@ host/c/report.c host/c/file.c $(BUILD)/libdelkuthi.a
 
 bench:
 	cd host && cargo run --release --offline -p bench
@@ -160,7 +179,7 @@ bench:
 count:
 	cd host && cargo run --release --offline -p bench count
 
-# Cycles by the time stamp counter of x86-64.
+# Counts cycles with the time stamp counter of x86-64.
 worst: lib
 	$(CC) -std=c99 -O2 -Iinclude host/c/worst.c $(BUILD)/libdelkuthi.a -o $(BUILD)/worst
 	$(BUILD)/worst
@@ -169,10 +188,12 @@ portable:
 	python3 release/portable.py $(BUILD)/portable $(PARTS)
 
 test-ports: lib portable
-	BUILD=$(BUILD) bash release/test-ports
+	BUILD=$(BUILD) bash release/test-ports $(INSTALL)
 
 # The release finds its own parts wherever it is unpacked.
-dist: portable wheel
+dist:
+	@python3 release/dist.py check $(BUILD) $(if $(UNCHECKED),unchecked)
+	$(MAKE) --no-print-directory portable wheel
 	rm -rf $(BUILD)/dist
 	$(MAKE) --no-print-directory install DESTDIR=$(BUILD)/dist PREFIX=/tree PC_PREFIX='$$$${pcfiledir}/../..'
-	python3 release/dist.py $(BUILD)
+	python3 release/dist.py make $(BUILD) $(if $(UNCHECKED),unchecked)

@@ -2,89 +2,120 @@
  * delkuthi.h: a proved monitor for TADL2 timing constraints
  *
  * The monitor takes a table of timing constraints (its rows) and the stamped
- * events of a bench, and says for each row, while the recording runs, whether
- * it is open, kept, or broken, and at which step it broke.
+ * events of a bench. For each row it says, while the recording runs, whether
+ * the row is open, kept, or broken, and which step broke it.
  *
- * It is for x86-64 Linux. Link libdelkuthi.a, or libdelkuthi.so, which needs
- * glibc 2.14 or newer (pkg-config --cflags --libs delkuthi). Of the C library
- * the archive needs no more than memcpy, memmove, memset and memcmp, and any
- * that has them will do.
+ * It runs on x86-64 Linux. Link libdelkuthi.a, or libdelkuthi.so, which needs
+ * glibc 2.14 or newer (pkg-config --cflags --libs delkuthi). The archive needs
+ * only memcpy, memmove, memset and memcmp of a C library, so any C library
+ * will do.
  *
  *
  * THE PROMISE
  *
- * For every table, every recording and every order of calls, the refused ones
+ * For every table, every recording and every order of calls, refused ones
  * included:
- *   - Each call answers: a result, or the number of a refusal. A refusal
- *     changes nothing. No call reads or writes outside what it is lent, and
- *     none runs without end.
- *   - A row reads broken exactly when no continuation of the recording can
- *     still meet its TADL2 definition, with the first step after which that
- *     was so. Else it reads open, or kept once the recording is closed.
- *   - A broken row stays broken, at the same step, until a step is withdrawn:
- *     then the rows read what they would read had it never been taken.
- * A machine has checked this. It is one theorem, lent-is-exact, over the bytes
- * given to delkuthi_fresh, any list of the calls below and what the calls that
- * only read answer after it; that no call leaves what it is lent or runs
- * without end is the contract of each call.
- * DATASHEET.md has what they say, what they assume, and what is not
- * promised; CONTRACT.md says all of it in words, in numbered clauses,
- * with examples to check a verdict by hand.
+ *   - Each call returns a result or the number of a refusal. A refused call
+ *     changes nothing, with one exception: if delkuthi_report_on refuses a
+ *     record, its monitor has taken the records before that one. No call
+ *     reads or writes outside the memory that it is given, and every call
+ *     ends.
+ *   - A row reads broken exactly if no continuation of the recording can
+ *     still meet its TADL2 definition. The step that broke it is the first
+ *     one after which this holds. Otherwise the row reads open, or kept once
+ *     the recording is closed.
+ *   - A broken row stays broken, at the same step, unless a step up to that
+ *     one is withdrawn. After a withdrawal every row reads as if the withdrawn
+ *     step had never been taken.
+ * A machine has checked these statements. For the calls on a monitor the
+ * theorem is lent-is-exact. It speaks of memory in which delkuthi_fresh has
+ * accepted a table, of any list of events, ticks, closes and withdrawals, and
+ * of what delkuthi_row_verdict, delkuthi_row_step, delkuthi_rows,
+ * delkuthi_page, delkuthi_report_of and delkuthi_report_on answer after it.
+ * That a broken row stays broken is the theorem broken-stays, about the state
+ * machine behind the calls. The rest is in the contract of each call.
+ * DATASHEET.md lists the promises with their theorems, the assumptions, and
+ * what is not promised. CONTRACT.md says everything in words, in numbered
+ * clauses, with examples by which you can check a verdict by hand.
  *
  *
  * STEPS
  *
- * Times are whole numbers, 0 to DELKUTHI_LAST_TIME, in any unit that the table
- * and the events share. Events come in kinds, numbered 0 to DELKUTHI_LAST_KIND.
- * Kinds 0 to 47 are plain. Kinds from DELKUTHI_FIRST_COLOURED, 48, on are
- * coloured: their events have a colour, 0 to DELKUTHI_LAST_COLOUR, which tells
- * the runs through a chain apart. A step is an event (a kind, for a coloured
- * kind a colour, and a time), a tick (the clock moved on to a time, without an
- * event) or the close. The first step that is taken has number 1, and the close
- * has a number too; a refused step has none.
+ * Times are whole numbers, 0 to DELKUTHI_LAST_TIME. The host chooses the time
+ * unit; the table and the events must use the same one. An event has a kind,
+ * numbered 0 to DELKUTHI_LAST_KIND. Kinds 0 to 47 are plain. Kinds from
+ * DELKUTHI_FIRST_COLOURED, 48, on are coloured: their events also have a
+ * colour, 0 to DELKUTHI_LAST_COLOUR, which tells the runs through a chain
+ * apart. A step is an event, a tick (the clock moves to a time without an
+ * event) or the close. The first step that is taken has number 1. The close
+ * has a number too. A refused step has none.
  *
- * Two events of one kind, and of a coloured kind of one colour, never share a
- * time: the second is refused with 11.
- * Where a recorder's clock is too coarse to tell two events apart, take a finer
- * unit: multiply the times of the table and all stamps by 1,000, say, and give
- * the second event the next time. Where the second tells nothing new, leave it
- * out. Events of different kinds or colours may share a time, in whichever
- * order they are given.
+ * Two events of one kind never have the same time; if the kind is coloured,
+ * this holds for each colour. The second such event is refused with 11. If the
+ * recorder's clock is too coarse to tell two events apart, use a finer unit:
+ * for example, multiply the times of the table and all stamps by 1,000, and
+ * give the second event the next time. If the second event tells nothing new,
+ * leave it out. Events of different kinds or colours may have the same time,
+ * in any order.
  *
- * A step that is refused has changed nothing, and the monitor goes on. So a
- * host that meets a 12 (more than 64 would wait in a row) can give the step
- * again once something was answered, at a time that is in order then;
- * delkuthi_crowded_row says in which row. A report ends at the first refusal,
- * a 12 as any other: it is then one line.
+ *
+ * LATE EVENTS
+ *
+ * A tick to time t, or an event at time t, says that every event stamped
+ * before t has been given. An event with an earlier stamp that arrives later
+ * is refused with 11, and the tick may have broken a row that the event would
+ * have kept. So:
+ *   - Tick only as far as your slowest source allows. If an event can arrive
+ *     up to L after its stamp, tick to t only when the bench's clock reads
+ *     t + L or more. The bench loop below has this lag.
+ *   - If several sources have different delays, hold each event back until no
+ *     source can still deliver an earlier one, and give events in the order of
+ *     their stamps.
+ *   - Close only when every source has delivered its last event.
+ *
+ *
+ * WHAT TO DO AFTER A 12
+ *
+ * A step is refused with 12 if more than 64 would then wait in an open row.
+ * The event is then lost to every row of the monitor, not only to the crowded
+ * one. A row that it would have broken may read kept. So a host that meets a
+ * 12 must not count the recording as passed. It can
+ *   - ask delkuthi_crowded_row, with the same kind and time, which row is full;
+ *   - give the event again once something has answered in that row. Its time
+ *     then has to be in order, and the verdicts are about that time;
+ *   - for the next run, shorten that row's upper limit, or put the row into a
+ *     monitor of its own, where a 12 affects no other row.
+ * A report ends at the first refusal, and a 12 is one: the report is then the
+ * one line "refused 12 P".
  *
  *
  * MEMORY AND THREADS
  *
  * The host owns all memory. The library allocates nothing and keeps nothing
- * between calls: a monitor is its delkuthi_monitor and no more. It can be
- * copied as a struct, and the copy is a monitor of its own.
+ * between calls: the whole state of a monitor is its delkuthi_monitor. You can
+ * copy it as a struct; the copy is an independent monitor.
  *
- *   - No pointer may be NULL, not even where its length is 0. An empty table
- *     or recording may well come as NULL, as data() of an empty vector does:
- *     give the address of any byte then, and length 0.
- *   - A pointer is to as many bytes as its length says, and is aligned for
- *     its type. Of one call's arguments, memory that it writes does not
- *     overlap with the rest.
- *   - One caller at a time for each monitor, or several that only read it
- *     (const delkuthi_monitor *); nobody else writes its memory from the first
- *     call to the last. Calls on different monitors, and delkuthi_report, may
- *     run at the same time in different threads.
- *   - Every call is reentrant, so a signal handler may make it by the same
+ *   - No pointer may be NULL, even if its length is 0. An empty table or
+ *     recording may come as NULL, for example from data() of an empty vector.
+ *     Then pass the address of any byte, with length 0.
+ *   - A pointer points to as many bytes as its length says and is aligned for
+ *     its type. The memory that a call writes does not overlap with the other
+ *     arguments of that call.
+ *   - Each monitor has one caller at a time, or several callers that only read
+ *     it (const delkuthi_monitor *). Nobody else writes its memory from the
+ *     first call to the last. Calls on different monitors, and
+ *     delkuthi_report, may run at the same time in different threads.
+ *   - Every call is reentrant, so a signal handler may make it under the same
  *     rules. The code uses SSE registers and the red zone below the stack
- *     pointer: in an interrupt handler or a kernel it may be used only where
- *     both are cared for. It has no unwind tables: a debugger that stops in a
- *     call does not find the caller.
- *   - Every pattern of bits is safe: a call on memory that delkuthi_fresh
- *     never filled still ends, as soon as on any other, and still touches
- *     nothing else. But what it answers then means nothing, unless the memory
- *     is all zeros, as static memory is at first: that is a monitor which is
- *     closed and has no rows. Every step on it is refused with 8, and a
- *     withdrawal with 21.
+ *     pointer. Use it in an interrupt handler or a kernel only if you preserve
+ *     both. It has no unwind tables: a debugger that stops inside a call does
+ *     not find the caller.
+ *   - Every content of the memory is safe. A call on memory that
+ *     delkuthi_fresh never filled still ends as soon as on any other, and
+ *     touches nothing else, but its answer means nothing. Memory of zeros, as
+ *     static memory is at first, is an exception: it is a closed monitor
+ *     without rows. Every step on it is refused with 8, and a withdrawal with
+ *     21.
  *
  *
  * LIMITS
@@ -98,8 +129,8 @@
  *   a table          at most 1,153 bytes  DELKUTHI_TABLE_LIMIT
  *   a report         at most 1,024 bytes  DELKUTHI_REPORT_LIMIT
  *   a page           at most 2,482 bytes  DELKUTHI_PAGE_LIMIT
- *   stack, report    at most 40 KiB       DELKUTHI_REPORT_STACK
- *   stack, report_on at most 6 KiB        DELKUTHI_REPORT_ON_STACK
+ *   stack, report    at most 50 KiB       DELKUTHI_REPORT_STACK
+ *   stack, report_on at most 11 KiB       DELKUTHI_REPORT_ON_STACK
  *   stack, page      at most 2 KiB        DELKUTHI_PAGE_STACK
  *   stack, stamps    at most 20 KiB       DELKUTHI_STAMPS_STACK
  *   stack, join      at most 16 KiB       DELKUTHI_JOIN_STACK
@@ -108,11 +139,15 @@
  *   stack, fresh     at most 1 KiB        DELKUTHI_MONITOR_STACK
  *   stack, steps     at most 1 KiB        DELKUTHI_STEP_STACK
  *
- * What waits in a row: sources that have no target yet (Delay, StrongDelay),
- * groups begun and not complete (StrongSynchronization). In other rows nothing
- * waits. The stack that a call uses is measured, not proved: a verdict uses no
- * more than a step may, and so does a withdrawal; delkuthi_report_of uses no
- * more than report_on may.
+ * Sources without a target wait in a Delay and in a StrongDelay, incomplete
+ * groups in a StrongSynchronization. Nothing waits in rows of other types.
+ *
+ * The stack of a call is measured, not proved. Each limit leaves at least ten
+ * percent of room on every machine that DATASHEET.md names. The limit of a
+ * step also holds for a withdrawal and for the calls that only read, the limit
+ * of report_on for delkuthi_report_of. Link the host statically or with
+ * -Wl,-z,now: otherwise the loader resolves a function at its first call, and
+ * that takes 3 KiB more on the caller's stack.
  *
  *
  * THE TABLE
@@ -145,25 +180,26 @@
  *
  * Type 11: in tables of edition 2 alone.
  *
- * A host need not count these bytes: it makes rows by their fields' names, and
- * delkuthi_make_table writes the table. A Delay and an Order, say:
+ * A host need not count these bytes. A function for each type makes a row from
+ * its fields, and delkuthi_make_table_2 writes the table. A Delay and an
+ * Order:
  *
  *     uint8_t table[DELKUTHI_TABLE_LIMIT];
  *     const delkuthi_row rows[2] = {
  *         delkuthi_delay(0, 1, 2, 3),
  *         delkuthi_order(4, 5)
  *     };
- *     uint64_t answer = delkuthi_make_table(rows, 2, table, sizeof table);
+ *     uint64_t answer = delkuthi_make_table_2(rows, 2, table, sizeof table);
  *
  *     if (DELKUTHI_NUMBER(answer) == DELKUTHI_TAKEN)
- *         answer = delkuthi_fresh(&monitor, table, DELKUTHI_LENGTH(answer));
+ *         answer = delkuthi_fresh_2(&monitor, table, DELKUTHI_LENGTH(answer));
  *
  *
  * EDITIONS
  *
  * The version of a table is its edition. Edition 1 has the row types 1 to 10,
- * and edition 2 has all; nothing else is different. A call that takes a table
- * has two forms, with the same arguments and answers:
+ * and edition 2 has all types. There is no other difference. A call that takes
+ * a table has two forms, with the same arguments and answers:
  *
  *   tables of edition 1           tables of editions 1 and 2
  *   delkuthi_fresh                delkuthi_fresh_2
@@ -173,16 +209,16 @@
  *   delkuthi_shortest_stretch     delkuthi_shortest_stretch_2
  *   delkuthi_make_table           delkuthi_make_table_2, which writes edition 2
  *
- * A new host calls the second forms. Of a table of edition 1 both answer the
- * same. The first forms mean what they meant when there was no other edition:
- * they refuse a table of edition 2 with 1. In every form a row whose type the
- * table's edition does not have is refused with 4. A monitor is the same
- * whichever form made it, and every other call goes with both.
+ * A new host calls the second forms. For a table of edition 1 both forms
+ * answer the same. The first forms behave as they did before there was edition
+ * 2: they refuse a table of edition 2 with 1. Both forms refuse a row with 4
+ * if the table's edition does not have its type. The monitor is the same
+ * whichever form made it, and every other call works on both.
  *
  *
  * WHAT EACH ROW ASKS
  *
- * Bounds include their ends. CONTRACT.md has the corners and examples of
+ * Limits include their ends. CONTRACT.md has the special cases and examples of
  * each type, from clause 5.1 on.
  *
  *   1 Delay       For each source, at time s, a target comes at s + lower or
@@ -257,23 +293,26 @@
  *
  * A BENCH LOOP
  *
- * It has a monitor, gives it each step when it comes, sleeps until the deadline
- * where none comes, and says each row that breaks at the moment at which it
- * breaks. next_step is the bench's own; bench_loop.c, among the examples, has
- * one that reads a recording.
+ * The loop gives the monitor each step as it arrives. If nothing arrives, it
+ * sleeps until the deadline and then ticks, later by the lag of its slowest
+ * source. It prints each row when the row breaks. You write next_step for your
+ * bench; bench_loop.c, among the examples, has one that reads a recording.
 
 #include "delkuthi.h"
 #include <inttypes.h>
 #include <stdio.h>
 
-// What comes next: 'e' an event, 'c' one with a colour, 0 the end; or 't', a
-// tick, once the bench's clock reads `until` and nothing has come.
-extern int next_step(uint64_t until, uint8_t *kind, uint8_t *colour,
+// The longest time from the stamp of an event to its arrival, over all sources.
+static uint64_t lag;
+
+// What comes next: 'e' an event, 'c' an event with a colour, 't' a tick, 0 the
+// end; or 'w' once the bench's clock reads `wake` and nothing has arrived.
+extern int next_step(uint64_t wake, uint8_t *kind, uint8_t *colour,
                      uint64_t *time);
 
 static delkuthi_monitor monitor;
 
-// When a row breaks if nothing comes: one past the deadline.
+// When a row breaks if no event comes: one past the deadline.
 static uint64_t breaks(void)
 {
     uint64_t deadline = delkuthi_deadline(&monitor);
@@ -281,7 +320,7 @@ static uint64_t breaks(void)
     return deadline == DELKUTHI_NO_LIMIT ? deadline : deadline + 1;
 }
 
-// Says each row that is broken now and was not; all that are broken now.
+// Prints each row that has broken since; returns all that are broken now.
 static uint32_t say(uint32_t before)
 {
     uint32_t now = delkuthi_broken_rows(&monitor), row;
@@ -294,16 +333,16 @@ static uint32_t say(uint32_t before)
 }
 
 // 0: every row kept. 1: a row is broken. 2: the table or a step was refused.
-// 3: the library is not this header's.
+// 3: the library does not match this header.
 static int bench(const uint8_t *table, size_t table_length)
 {
-    uint64_t time, answer;
+    uint64_t time, until, answer;
     uint32_t broken = 0;
     uint8_t kind, colour, refused = DELKUTHI_TAKEN;
     int what = 't';
 
     if (!DELKUTHI_MATCHES()) {
-        printf("the library is not this header's\n");
+        printf("the library does not match this header\n");
         return 3;
     }
     answer = delkuthi_fresh_2(&monitor, table, table_length);
@@ -313,13 +352,16 @@ static int bench(const uint8_t *table, size_t table_length)
         return 2;
     }
     while (what && !refused) {
-        what = next_step(breaks(), &kind, &colour, &time);
+        until = breaks();
+        what = next_step(lag < DELKUTHI_NO_LIMIT - until ? until + lag
+                                                         : DELKUTHI_NO_LIMIT,
+                         &kind, &colour, &time);
         if (what == 'e')
             refused = delkuthi_event(&monitor, kind, time);
         else if (what == 'c')
             refused = delkuthi_coloured_event(&monitor, kind, colour, time);
-        else if (what == 't')
-            refused = delkuthi_tick(&monitor, time);
+        else if (what)
+            refused = delkuthi_tick(&monitor, what == 'w' ? until : time);
         else
             refused = delkuthi_close(&monitor);
         broken = say(broken);
@@ -343,9 +385,9 @@ extern "C" {
 #endif
 
 /*
- * The compiler warns where an answer that may be a refusal is not looked at,
- * and where a pointer is NULL. A host that wants neither defines both as
- * nothing before it includes this header.
+ * With these the compiler warns if a host ignores an answer that may be a
+ * refusal, or passes NULL. To switch the warnings off, define both as nothing
+ * before you include this header.
  */
 #if defined(__GNUC__) || defined(__clang__)
 #ifndef DELKUTHI_CHECKED
@@ -375,8 +417,8 @@ extern "C" {
 #define DELKUTHI_TABLE_LIMIT   1153
 #define DELKUTHI_REPORT_LIMIT  1024
 #define DELKUTHI_PAGE_LIMIT    2482
-#define DELKUTHI_REPORT_STACK  40960
-#define DELKUTHI_REPORT_ON_STACK 6144
+#define DELKUTHI_REPORT_STACK  51200
+#define DELKUTHI_REPORT_ON_STACK 11264
 #define DELKUTHI_PAGE_STACK    2048
 #define DELKUTHI_STAMPS_STACK  20480
 #define DELKUTHI_JOIN_STACK    16384
@@ -393,106 +435,108 @@ extern "C" {
 #define DELKUTHI_FIRST_EDITION_TYPES 10
 
 /*
- * A monitor: 35,840 bytes, aligned as a uint64_t is. Put it on the stack, in
- * static memory, on a heap or in a struct of your own, and give it to
- * delkuthi_fresh first. What its words mean is the library's own business.
+ * A monitor: 35,840 bytes, aligned as a uint64_t. Put it on the stack, in
+ * static memory, on the heap or in a struct, and pass it to delkuthi_fresh
+ * first. Only the library reads and writes its words.
  */
 typedef struct delkuthi_monitor {
     uint64_t words[4480];
 } delkuthi_monitor;
 
-/* Returns the version of the library, which is that of its own header. */
+/* Returns the version of the library. */
 uint32_t delkuthi_version(void);
 
-/* Returns the bytes of a monitor, as the library has it. */
+/* Returns the size of a monitor in the library, in bytes. */
 uint64_t delkuthi_monitor_size(void);
 
 /*
- * Has the library that was linked the interface of this header? It has where
- * the first two numbers of the version are the same, and so is the size of a
- * monitor. Ask it once, before the first call: another library may answer other
+ * Does the linked library have the interface of this header? It does if the
+ * first two numbers of the version and the size of a monitor are the same. Ask
+ * once, before the first call: a library that does not match may answer other
  * numbers, or write past the end of a monitor.
  */
 #define DELKUTHI_MATCHES() \
     (delkuthi_version() / 1000 == DELKUTHI_VERSION / 1000 && \
      delkuthi_monitor_size() == sizeof(delkuthi_monitor))
 
-/* The answer of a call that was taken. */
+/* The answer of a call that is not refused. */
 #define DELKUTHI_TAKEN 0
 
 /*
- * Every answer of 64 bits that may be a refusal is taken apart in one way: its
- * number is DELKUTHI_TAKEN or that of a refusal, and the rest is what the call
- * says, a place, a row or a length. An answer of 8 bits is the number alone.
+ * An answer of 64 bits that may be a refusal has two parts. DELKUTHI_NUMBER is
+ * DELKUTHI_TAKEN or the number of the refusal. The other macros give the rest:
+ * the comment of each call says whether that is a place, a row, a length or a
+ * word. An answer of 8 bits is the number alone.
  */
 #ifdef __cplusplus
-#define DELKUTHI_LOW(answer, bits) (static_cast<uint8_t>((answer) & (bits)))
+#define DELKUTHI_CAST(type, value) (static_cast<type>(value))
 #else
-#define DELKUTHI_LOW(answer, bits) ((uint8_t)((answer) & (bits)))
+#define DELKUTHI_CAST(type, value) ((type)(value))
 #endif
+#define DELKUTHI_LOW(answer, bits) DELKUTHI_CAST(uint8_t, (answer) & (bits))
 #define DELKUTHI_NUMBER(answer) DELKUTHI_LOW(answer, 127)
 #define DELKUTHI_PLACE(answer)  ((answer) >> 8)
 #define DELKUTHI_ROW(answer)    ((answer) >> 8)
-#define DELKUTHI_LENGTH(answer) ((answer) >> 8)
+#define DELKUTHI_LENGTH(answer) DELKUTHI_CAST(size_t, (answer) >> 8)
 #define DELKUTHI_WORD(answer)   ((answer) >> 8)
 
 /*
- * The refusals, with what to do about each. The first question answered "no"
- * gives the number.
+ * The refusals, with what to do about each. A call asks its questions in a
+ * fixed order, and the first one that is answered "no" gives the number.
  */
 enum delkuthi_refusal {
-    /* A table (delkuthi_fresh, delkuthi_report; 3 to 7 and 18 also of
-       delkuthi_make_table). Mend the table. */
-    DELKUTHI_TABLE_VERSION = 1, /* it does not begin with a byte 1, or 2 where
-                                   the call takes both editions */
-    DELKUTHI_ROW_CUT = 2,       /* a length field, or a row, is not whole */
+    /* A table (delkuthi_fresh, delkuthi_report; delkuthi_make_table: only 3 to
+       7 and 18). Correct the table. */
+    DELKUTHI_TABLE_VERSION = 1, /* it does not begin with a byte 1, or 2 if the
+                                   call takes both editions */
+    DELKUTHI_ROW_CUT = 2,       /* a length field or a row is cut off */
     DELKUTHI_ROW_TOO_MANY = 3,  /* more than 32 rows: use two monitors */
-    DELKUTHI_ROW_SHAPE = 4,     /* no such type in the table's edition, no such
-                                   n, or the wrong length */
-    DELKUTHI_ROW_KINDS = 5,     /* a kind above 63, or one kind twice */
+    DELKUTHI_ROW_SHAPE = 4,     /* the table's edition has no such type, no such
+                                   n, or the length is wrong */
+    DELKUTHI_ROW_KINDS = 5,     /* a kind above 63, or the same kind twice */
     DELKUTHI_ROW_RANGE = 6,     /* a time, span or maximum out of range */
     DELKUTHI_ROW_BOUNDS = 7,    /* lower is more than upper, or minimum more
                                    than maximum in a Reaction */
     DELKUTHI_ROW_SORT = 18,     /* a plain kind in a Reaction, or a coloured
-                                   one in another row; asked after 5 */
+                                   kind in another row; asked after 5 */
 
     /* A step (delkuthi_event, _coloured_event, _tick, _close, _report). */
-    DELKUTHI_CLOSED = 8,     /* it is closed: start a fresh monitor */
-    DELKUTHI_COUNT_FULL = 24,/* 2^64 - 1 steps were taken: start a fresh
-                                monitor. Asked after 8, also of the close */
+    DELKUTHI_CLOSED = 8,     /* the recording is closed: use a fresh monitor */
+    DELKUTHI_COUNT_FULL = 24,/* 2^64 - 1 steps were taken: use a fresh monitor.
+                                Asked after 8, also of the close */
     DELKUTHI_KIND = 9,       /* a kind above 63: leave the event out */
-    DELKUTHI_FORM = 19,      /* a coloured kind without a colour, a plain one
-                                with one, or a colour above 7; in a recording
-                                of version 1 any colour. Asked after 9: use
-                                the other call, or the other form of record */
-    DELKUTHI_TIME_RANGE = 10,/* a time above 2^60 - 1: mend the host's clock */
+    DELKUTHI_FORM = 19,      /* a coloured kind without a colour, a plain kind
+                                with a colour, or a colour above 7; in a
+                                recording of version 1 any colour. Asked after
+                                9: use the other call or form of record */
+    DELKUTHI_TIME_RANGE = 10,/* a time above 2^60 - 1: check the host's clock */
     DELKUTHI_TIME_ORDER = 11,/* an event before the clock, or not after the
-                                last one of its kind and colour; a tick not
-                                after the clock: give steps in the order of
-                                time */
-    DELKUTHI_CROWDED = 12,   /* more than 64 would wait in a row: give the
-                                event again once something was answered, or
-                                take a table that asks for less patience */
+                                last event of its kind and colour; a tick not
+                                after the clock. Give steps in the order of
+                                time. See LATE EVENTS above */
+    DELKUTHI_CROWDED = 12,   /* more than 64 would wait in a row. The event is
+                                lost to every row, so do not count the recording
+                                as passed. See WHAT TO DO AFTER A 12 above */
 
-    /* A recording (delkuthi_report). Mend the recording. */
+    /* A recording (delkuthi_report). Correct the recording. */
     DELKUTHI_RECORDING_VERSION = 13, /* its first byte is neither 1 nor 2 */
-    DELKUTHI_RECORD = 14,            /* a record is not whole, or its length
-                                        is not 8, 9 or 10 */
+    DELKUTHI_RECORD = 14,            /* a record is cut off, or its length is
+                                        not 8, 9 or 10 */
 
-    /* A row's number (delkuthi_row_verdict). Rows are numbered from 0. */
+    /* A row number (delkuthi_row_verdict). The first row is row 0. */
     DELKUTHI_NO_ROW = 15, /* the table has no row of that number */
 
-    /* A buffer (delkuthi_make_table, delkuthi_join). Lend a longer one. */
+    /* A buffer (delkuthi_make_table, delkuthi_join). Pass a longer one. */
     DELKUTHI_TABLE_ROOM = 16, /* it is too short for the table, or for the
                                  joined recording */
 
-    /* Two recordings (delkuthi_join). Join others, or give the kinds of one
-       other numbers. */
-    DELKUTHI_COMMON_KIND = 20, /* a kind is found in both */
+    /* Two recordings (delkuthi_join). Join other recordings, or renumber the
+       kinds of one. */
+    DELKUTHI_COMMON_KIND = 20, /* both have events of one kind */
 
     /* The shortest stretch (delkuthi_shortest_stretch). */
-    DELKUTHI_TOO_MANY_RECORDS = 22, /* the recording has more than 256: give a
-                                       part of it */
+    DELKUTHI_TOO_MANY_RECORDS = 22, /* the recording has more than 256 records:
+                                       pass a part of it */
     DELKUTHI_NO_STRETCH = 23, /* no stretch of it breaks the row */
 
     /* A withdrawal (delkuthi_withdraw). Take a step first. */
@@ -503,12 +547,12 @@ enum delkuthi_refusal {
     DELKUTHI_NOT_REPEAT = 25 /* the row is not a Repeat of span 1 */
 
     /*
-     * One more has no call of this header that answers it: 17, a file that is
-     * too large, is the program's.
+     * No call of this header answers 17, a file that is too large. It is a
+     * refusal of the program.
      */
 };
 
-/* What a refusal's number says, in a line for whoever reads the bench's log. */
+/* Returns a line of text for the number of a refusal, for the bench's log. */
 static inline const char *delkuthi_refusal_text(uint8_t number)
 {
     switch (number) {
@@ -574,28 +618,28 @@ static inline const char *delkuthi_refusal_text(uint8_t number)
 }
 
 /*
- * Makes the memory a fresh monitor over a table, with its clock at 0 and nothing
- * recorded. Whatever the memory held before is gone. The table's bytes are
- * not needed any more once the call has returned.
+ * Makes the memory a fresh monitor over a table: its clock is at 0 and nothing
+ * is recorded. The earlier content of the memory is lost. The table's bytes
+ * are not needed after the call.
  *
- * Returns DELKUTHI_TAKEN, or a refusal of number 1 to 7 or 18:
- * DELKUTHI_NUMBER of it is the number, DELKUTHI_PLACE the place in the table of the length field
- * concerned, counted in bytes (0 for the version byte). On a refusal the
- * memory stays as it was: a monitor that it held can go on.
+ * Returns DELKUTHI_TAKEN, or a refusal of number 1 to 7 or 18. DELKUTHI_NUMBER
+ * of a refusal is its number, and DELKUTHI_PLACE is the place in the table of
+ * the length field concerned, counted in bytes (0 for the version byte). A
+ * refusal leaves the memory as it was: a monitor in it can go on.
  */
 DELKUTHI_CHECKED DELKUTHI_NONNULL
 uint64_t delkuthi_fresh(delkuthi_monitor *monitor,
                         const uint8_t *table, size_t table_length);
 
 /*
- * A row for delkuthi_make_table or delkuthi_make_table_2. Make it with the function of its type, which
- * takes the fields by their names and in the order of the list above.
+ * A row for delkuthi_make_table or delkuthi_make_table_2. Make it with the
+ * function of its type, which takes the fields in the order of the list above.
  */
 typedef struct delkuthi_row {
     uint8_t body[34];
 } delkuthi_row;
 
-/* A row with its type and two bytes; the functions below are for hosts. */
+/* A row with its type and two bytes. Hosts use the functions below. */
 static inline delkuthi_row delkuthi_row_bytes(uint8_t type, uint8_t a,
                                               uint8_t b)
 {
@@ -607,7 +651,7 @@ static inline delkuthi_row delkuthi_row_bytes(uint8_t type, uint8_t a,
     return row;
 }
 
-/* The row with a time in the eight bytes from a place on. */
+/* Returns the row with a time in the eight bytes from a place on. */
 static inline delkuthi_row delkuthi_row_time(delkuthi_row row, size_t place,
                                              uint64_t time)
 {
@@ -727,21 +771,21 @@ static inline delkuthi_row delkuthi_synchronization(
     return delkuthi_row_time(row, 2 + i, tolerance);
 }
 
-/* The table writer; rows_size is in bytes. delkuthi_make_table calls it. */
+/* The table writer; rows_size is in bytes. Call delkuthi_make_table instead. */
 DELKUTHI_CHECKED DELKUTHI_NONNULL
 uint64_t delkuthi_table(const delkuthi_row *rows, size_t rows_size,
                         uint8_t *table, size_t table_length);
 
 /*
  * Writes the table of some rows in edition 1, for delkuthi_fresh and
- * delkuthi_report; a buffer of DELKUTHI_TABLE_LIMIT bytes holds any. Bytes
- * behind the table stay as they were.
+ * delkuthi_report. A buffer of DELKUTHI_TABLE_LIMIT bytes holds every table.
+ * Bytes behind the table stay as they were.
  *
- * DELKUTHI_NUMBER of the answer is DELKUTHI_TAKEN, and DELKUTHI_LENGTH then the
- * length of the table; or a refusal, and the buffer stays as it was: of number
- * 3 to 7 or 18, with DELKUTHI_ROW the row that is refused, or
- * DELKUTHI_TABLE_ROOM. It puts 3 to 7 and 18 to each row before the next, so
- * that rows behind the 33rd change no answer, and none of them is read.
+ * If DELKUTHI_NUMBER of the answer is DELKUTHI_TAKEN, DELKUTHI_LENGTH is the
+ * length of the table. Otherwise the call is refused and the buffer stays as
+ * it was: with 3 to 7 or 18, where DELKUTHI_ROW is the refused row, or with
+ * DELKUTHI_TABLE_ROOM. The call asks 3 to 7 and 18 of each row before the
+ * next. Rows behind the 33rd are never read.
  */
 DELKUTHI_CHECKED DELKUTHI_NONNULL
 static inline uint64_t delkuthi_make_table(const delkuthi_row *rows,
@@ -754,21 +798,21 @@ static inline uint64_t delkuthi_make_table(const delkuthi_row *rows,
 }
 
 /*
- * Takes an event of a plain kind, 0 to 47. Its time may be the clock's or later,
- * and has to be later than those of all earlier events of its kind. The clock
- * moves to its time.
+ * Takes an event of a plain kind, 0 to 47. Its time must not be before the
+ * clock, and must be later than the last event of its kind. The clock moves to
+ * its time, which says that all earlier events have been given (LATE EVENTS).
  *
- * Returns DELKUTHI_TAKEN, or a refusal, which is one of DELKUTHI_CLOSED,
- * DELKUTHI_COUNT_FULL, DELKUTHI_KIND, DELKUTHI_FORM, DELKUTHI_TIME_RANGE,
- * DELKUTHI_TIME_ORDER and DELKUTHI_CROWDED, and leaves the monitor as it was.
+ * Returns DELKUTHI_TAKEN or a refusal: DELKUTHI_CLOSED, DELKUTHI_COUNT_FULL,
+ * DELKUTHI_KIND, DELKUTHI_FORM, DELKUTHI_TIME_RANGE, DELKUTHI_TIME_ORDER or
+ * DELKUTHI_CROWDED. A refusal leaves the monitor as it was.
  */
 DELKUTHI_CHECKED DELKUTHI_NONNULL
 uint8_t delkuthi_event(delkuthi_monitor *monitor, uint8_t kind, uint64_t time);
 
 /*
- * Takes an event of a coloured kind, 48 to 63, with its colour, 0 to 7. Its time
- * may be the clock's or later, and has to be later than those of all earlier
- * events of its kind and colour. The clock moves to its time.
+ * Takes an event of a coloured kind, 48 to 63, with its colour, 0 to 7. Its
+ * time must not be before the clock, and must be later than the last event of
+ * its kind and colour. The clock moves to its time.
  *
  * Returns what delkuthi_event returns.
  */
@@ -777,31 +821,38 @@ uint8_t delkuthi_coloured_event(delkuthi_monitor *monitor, uint8_t kind,
                                 uint8_t colour, uint64_t time);
 
 /*
- * Takes a tick: the clock moves to a time later than it. A host whose clock
- * runs on without events learns by ticks that a row's answer did not come.
+ * Takes a tick: the clock moves to a later time. Ticks tell the monitor that
+ * time passes without events, so that a row whose answer does not come breaks.
+ * A tick to t says that every event stamped before t has been given: tick only
+ * as far as your slowest source allows (LATE EVENTS).
  *
- * Returns DELKUTHI_TAKEN, or a refusal, which is one of DELKUTHI_CLOSED,
- * DELKUTHI_COUNT_FULL, DELKUTHI_TIME_RANGE and DELKUTHI_TIME_ORDER, and leaves
- * the monitor as it was.
+ * Returns DELKUTHI_TAKEN or a refusal: DELKUTHI_CLOSED, DELKUTHI_COUNT_FULL,
+ * DELKUTHI_TIME_RANGE or DELKUTHI_TIME_ORDER. A refusal leaves the monitor as
+ * it was.
  */
 DELKUTHI_CHECKED DELKUTHI_NONNULL
 uint8_t delkuthi_tick(delkuthi_monitor *monitor, uint64_t time);
 
 /*
- * Closes the recording. No step is taken after it, and no row is open.
+ * Closes the recording. After it no step is taken, and no row reads open.
  *
- * Returns DELKUTHI_TAKEN; or DELKUTHI_CLOSED if it is closed already, or
- * DELKUTHI_COUNT_FULL, which leave the monitor as it was.
+ * Returns DELKUTHI_TAKEN; DELKUTHI_CLOSED if it is already closed; or
+ * DELKUTHI_COUNT_FULL. A refusal leaves the monitor as it was.
  */
 DELKUTHI_CHECKED DELKUTHI_NONNULL
 uint8_t delkuthi_close(delkuthi_monitor *monitor);
 
 /*
- * Withdraws the last step that was taken, be it an event, a tick or the close:
- * rows, clock and count are as if it had never been taken. Only the last step
- * can be withdrawn, and once: after that another step must be taken first. A
- * call that is refused changes nothing about that. A withdrawal is no step
- * itself.
+ * Withdraws the last step that was taken: an event, a tick or the close. Rows,
+ * clock and count are then as if it had never been taken. Only the last step
+ * can be withdrawn, and only once: the next withdrawal needs a new step first.
+ * A refused call does not change what can be withdrawn. A withdrawal is not a
+ * step itself.
+ *
+ * It takes back the last step, whichever that is. To take back a certain step,
+ * keep the answer of delkuthi_steps right after that step, and withdraw only
+ * if delkuthi_steps still returns the same number. Otherwise another step has
+ * come since, and the call would withdraw that one.
  *
  * Returns DELKUTHI_TAKEN, or DELKUTHI_NOTHING_TO_WITHDRAW, which leaves the
  * monitor as it was.
@@ -810,17 +861,17 @@ DELKUTHI_CHECKED DELKUTHI_NONNULL
 uint8_t delkuthi_withdraw(delkuthi_monitor *monitor);
 
 /*
- * Says what the row of a number reads, the first row being 0. It changes
- * nothing and can be asked at any time.
+ * Says what a row reads. The first row is row 0. The call changes nothing and
+ * can be made at any time.
  *
  * Returns
  *   DELKUTHI_OPEN    it can still be met, and the recording is not closed
  *   DELKUTHI_KEPT    it is met, and the recording is closed
- *   DELKUTHI_BROKEN  it cannot be met any more: delkuthi_row_step says since
+ *   DELKUTHI_BROKEN  it can no longer be met; delkuthi_row_step says since
  *                    which step
  *   DELKUTHI_NO_ROW  the table has no row of that number
  *
- * It is one of these four whatever the memory holds.
+ * It returns one of these four whatever the memory holds.
  */
 DELKUTHI_NONNULL
 uint8_t delkuthi_row_verdict(const delkuthi_monitor *monitor, uint64_t row);
@@ -830,14 +881,14 @@ uint8_t delkuthi_row_verdict(const delkuthi_monitor *monitor, uint64_t row);
 #define DELKUTHI_BROKEN 2
 
 /*
- * Returns the number of the step that broke a row, the first step being 1; or
- * 0 if the row is not broken, or there is no row of that number.
+ * Returns the number of the step that broke a row; the first step is 1.
+ * Returns 0 if the row is not broken, or there is no row of that number.
  */
 DELKUTHI_NONNULL
 uint64_t delkuthi_row_step(const delkuthi_monitor *monitor, uint64_t row);
 
 /*
- * Returns the number of rows of the monitor's table: 0 to 32, whatever the
+ * Returns the number of rows of the monitor's table, 0 to 32 whatever the
  * memory holds.
  */
 DELKUTHI_NONNULL
@@ -846,12 +897,13 @@ uint64_t delkuthi_rows(const delkuthi_monitor *monitor);
 /*
  * WHAT A HOST ASKS WHILE IT RUNS
  *
- * These calls only read, and can be made at any time. Two threads may read one
- * monitor at once, as long as none takes a step. After any calls and
- * withdrawals each answers what the definitions say of the steps that are left.
+ * These calls only read, and can be made at any time. Several threads may read
+ * one monitor at once, as long as none takes a step. After any calls and
+ * withdrawals each returns what the definitions say about the steps that are
+ * left.
  */
 
-/* Returns the clock: the time of the last event or tick; 0 before any. */
+/* Returns the clock: the time of the last event or tick, and 0 before any. */
 DELKUTHI_NONNULL
 uint64_t delkuthi_clock(const delkuthi_monitor *monitor);
 
@@ -860,71 +912,78 @@ DELKUTHI_NONNULL
 uint64_t delkuthi_steps(const delkuthi_monitor *monitor);
 
 /*
- * Returns 1 once the recording is closed, else 0: one of the two whatever the
- * memory holds.
+ * Returns 1 if the recording is closed, otherwise 0. It returns one of the two
+ * whatever the memory holds.
  */
 DELKUTHI_NONNULL
 uint8_t delkuthi_closed(const delkuthi_monitor *monitor);
 
-/* Returns a bit for each row: bit i is 1 where row i reads broken. */
+/* Returns a bit for each row: bit i is 1 if row i reads broken. */
 DELKUTHI_NONNULL
 uint32_t delkuthi_broken_rows(const delkuthi_monitor *monitor);
 
 /*
- * Returns how many wait in a row that reads open: sources or groups, as said
- * above. 0 for any other row, and where there is no row of that number.
+ * Returns how many sources or groups wait in a row that reads open. Returns 0
+ * for any other row, and if there is no row of that number.
  */
 DELKUTHI_NONNULL
 uint64_t delkuthi_row_waiting(const delkuthi_monitor *monitor, uint64_t row);
 
 /*
- * Returns the first row for which delkuthi_event, given the same kind and time,
+ * Returns the first row for which delkuthi_event with the same kind and time
  * would answer DELKUTHI_CROWDED: the row would be open with more than 64
- * waiting. So a host that met a 12 learns in which row it has to be answered.
+ * waiting. After a 12 this tells the host in which row something has to
+ * answer.
  *
- * Returns DELKUTHI_ROW_LIMIT where that call would answer anything else, and
- * no more than that whatever the memory holds. An event of a coloured kind, a
- * tick and the close never crowd a row.
+ * Returns DELKUTHI_ROW_LIMIT if that call would answer anything else. It never
+ * returns more, whatever the memory holds. An event of a coloured kind, a tick
+ * and the close never crowd a row.
  */
 DELKUTHI_NONNULL
 uint8_t delkuthi_crowded_row(const delkuthi_monitor *monitor, uint8_t kind,
                              uint64_t time);
 
 /*
- * Returns the deadline of a row that reads open: a tick to a time that is not
- * after it leaves the row open, and a tick to any later time breaks the row. So
- * if none of the row's events comes, it breaks one past its deadline.
+ * Returns the deadline of a row that reads open. A tick to a time that is not
+ * after the deadline leaves the row open, and a tick to any later time breaks
+ * it. So if none of the row's events comes, the row breaks one past its
+ * deadline. A tick that is refused does not break it: once 2^64 - 1 steps have
+ * been taken, every tick is refused with 24, and the row stays open.
  *
- * Returns DELKUTHI_NO_LIMIT where no tick can break the row, for a row that is
- * broken, after the close, and where there is no row of that number.
+ * Returns DELKUTHI_NO_LIMIT if no tick can break the row, if it is broken,
+ * after the close, and if there is no row of that number.
  */
 DELKUTHI_NONNULL
 uint64_t delkuthi_row_deadline(const delkuthi_monitor *monitor, uint64_t row);
 
 /*
- * Returns the least deadline of all rows: until then a host may sleep if no
- * event comes. DELKUTHI_NO_LIMIT where no row has one.
+ * Returns the earliest deadline of all rows: a host may sleep until then if no
+ * event comes. Returns DELKUTHI_NO_LIMIT if no row has a deadline.
  */
 DELKUTHI_NONNULL
 uint64_t delkuthi_deadline(const delkuthi_monitor *monitor);
 
 /*
- * Writes a page to be printed: what each row of a monitor, closed or not, reads
- * now. It changes nothing in the monitor and can be asked at any time. Each
- * line has 72 bytes, in ASCII, and byte 10 behind them. 72 hyphens stand before
- * row 0, before row 16, and alone where the table has no rows. Else a line has
+ * Writes a page for printing: what each row of a monitor, closed or not, reads
+ * now. It changes nothing in the monitor and can be called at any time. The
+ * page shows no kinds and no limits, so it cannot tell which table is loaded;
+ * compare a checksum of the table's bytes for that.
  *
- *   columns 0 to 2    the row's number, at their right
- *   columns 5 to 28   its type's name as in the table above, at their left
- *   columns 29 to 36  open, kept or broken, at their left
- *   columns 37 to 56  if it is broken, the step that broke it, at their right
+ * Each line has 72 bytes of ASCII followed by byte 10. A line of 72 hyphens
+ * stands before row 0 and before row 16, and alone if the table has no rows.
+ * Every other line has
+ *
+ *   columns 0 to 2    the row's number, right-aligned
+ *   columns 5 to 28   the name of its type as in the list above, left-aligned
+ *   columns 29 to 36  open, kept or broken, left-aligned
+ *   columns 37 to 56  the step that broke it, if it is broken, right-aligned
  *
  * and blanks elsewhere. Row i's line begins at byte 73 * (i + i / 16 + 1).
  *
- * Returns how many bytes were written, at most DELKUTHI_PAGE_LIMIT: 73 for each
- * line. If the page is longer than page_length it returns 0, and the memory
- * stays as it was. Bytes behind the page stay as they were; no byte 0 is put
- * there.
+ * Returns the number of bytes written, 73 for each line, at most
+ * DELKUTHI_PAGE_LIMIT. If the page is longer than page_length, it returns 0
+ * and writes nothing. Bytes behind the page stay as they were; there is no
+ * byte 0 at the end.
  */
 DELKUTHI_CHECKED DELKUTHI_NONNULL
 size_t delkuthi_page(const delkuthi_monitor *monitor,
@@ -932,28 +991,28 @@ size_t delkuthi_page(const delkuthi_monitor *monitor,
 
 /*
  * Reports on a whole recording: gives its records to a fresh monitor over the
- * table, closes, and writes to the report, in ASCII, each line ended by byte 10,
+ * table, closes it, and writes a report in ASCII. Each line ends with byte 10.
  *
- *   closed N         N: the number of steps, the close included
+ *   closed N         N is the number of steps, the close included
  *   0 kept           then a line for each row: its number, and kept,
  *   1 broken 38      or broken and the step that broke it
  *
- * or, if the table, a record or a step was refused, only
+ * If the table, a record or a step is refused, the report is only
  *
- *   refused N P      the number 1 to 14, 18 or 19, and the place P of the
+ *   refused N P      the number, 1 to 14, 18 or 19, and the place P of the
  *                    length field concerned, in the table (1 to 7, 18) or in
  *                    the recording
  *
- * A recording is one byte, its version, then records: a length of two bytes,
- * then a kind and a time (length 9, an event), a kind, a colour and a time
- * (length 10, an event of a coloured kind) or a time (length 8, a tick),
- * big-endian. The version is 2 where a record has a colour; without colours it
- * is 1 or 2.
- * A record's place is that of its length; the place of a version byte is 0.
+ * A recording is one byte, its version, followed by records: a length of two
+ * bytes, then a kind and a time (length 9, an event), a kind, a colour and a
+ * time (length 10, an event of a coloured kind) or a time (length 8, a tick),
+ * big-endian. The version is 2 if a record has a colour; without colours it is
+ * 1 or 2. The place of a record is that of its length; the place of a version
+ * byte is 0.
  *
- * Returns how many bytes were written, at most DELKUTHI_REPORT_LIMIT. If the
- * report is longer than report_length it returns 0, and the memory stays as it
- * was. Bytes behind the report stay as they were; no byte 0 is put there.
+ * Returns the number of bytes written, at most DELKUTHI_REPORT_LIMIT. If the
+ * report is longer than report_length, it returns 0 and writes nothing. Bytes
+ * behind the report stay as they were; there is no byte 0 at the end.
  */
 DELKUTHI_CHECKED DELKUTHI_NONNULL
 size_t delkuthi_report(const uint8_t *table, size_t table_length,
@@ -961,14 +1020,15 @@ size_t delkuthi_report(const uint8_t *table, size_t table_length,
                        uint8_t *report, size_t report_length);
 
 /*
- * The same report, on a monitor that is lent, whatever lies in it: no monitor
- * is on the stack. If the table is refused, the monitor stays as it was.
- * Otherwise it is made fresh over the table, and has then taken the records up
- * to the first that was refused, or all of them and the close, and goes on as
- * after those calls: delkuthi_row_verdict, say, tells what its rows read. This
- * is so however short the buffer is.
+ * Writes the same report with a monitor that the host passes, so that no
+ * monitor is on the stack. The earlier content of the monitor does not matter.
+ * If the table is refused, the monitor stays as it was. Otherwise it is made
+ * fresh over the table and takes the records up to the first one that is
+ * refused, or all records and the close. It then goes on as after those calls:
+ * for example, delkuthi_row_verdict tells what its rows read. All this holds
+ * even if the buffer is too short.
  *
- * Returns what delkuthi_report returns, and writes what it writes.
+ * Returns and writes what delkuthi_report returns and writes.
  */
 DELKUTHI_CHECKED DELKUTHI_NONNULL
 size_t delkuthi_report_on(delkuthi_monitor *monitor,
@@ -977,14 +1037,15 @@ size_t delkuthi_report_on(delkuthi_monitor *monitor,
                           uint8_t *report, size_t report_length);
 
 /*
- * The report of a closed monitor whose steps the host gave it one by one: the
- * bytes that delkuthi_report writes for the same table and steps. It changes
- * nothing in the monitor.
+ * Writes the report of a closed monitor whose steps the host gave it one by
+ * one: the bytes that delkuthi_report writes for the same table and steps. It
+ * changes nothing in the monitor.
  *
- * Returns how many bytes were written, at most DELKUTHI_REPORT_LIMIT. If the
- * monitor is not closed, or the report is longer than report_length, it returns
- * 0, and the memory stays as it was. Bytes behind the report stay as they were;
- * no byte 0 is put there.
+ * Returns the number of bytes written, at most DELKUTHI_REPORT_LIMIT. Returns
+ * 0 and writes nothing in two cases: the monitor is not closed, or the report
+ * is longer than report_length. delkuthi_closed tells them apart: it returns 0
+ * in the first case. Bytes behind the report stay as they were; there is no
+ * byte 0 at the end.
  */
 DELKUTHI_CHECKED DELKUTHI_NONNULL
 size_t delkuthi_report_of(const delkuthi_monitor *monitor,
@@ -993,14 +1054,15 @@ size_t delkuthi_report_of(const delkuthi_monitor *monitor,
 /*
  * Says what a Repeat row of span 1 reads at the close of a recording whose
  * stamps may be late by up to `late`. Each event of the row then happened at a
- * time t with stamp - late <= t <= stamp and 0 <= t, each after the one before;
- * of the clock the recording is right. The row's number counts from 0.
+ * time t with stamp - late <= t <= stamp and 0 <= t, each after the one
+ * before. The clock of the recording is exact. The first row is row 0.
  *
- * Returns a word as below; or, if DELKUTHI_NUMBER of the answer is not
- * DELKUTHI_TAKEN, a refusal with that number and DELKUTHI_PLACE: of the table
- * (1 to 7 and 18), of a record or its step (9 to 11, 13, 14 and 19); then, with
- * the place 0, DELKUTHI_NO_ROW, DELKUTHI_NOT_REPEAT, and DELKUTHI_TIME_RANGE if
- * `late` is above DELKUTHI_LAST_TIME. A place above 2^56 - 1 is given as that.
+ * Returns a word as below if DELKUTHI_NUMBER of the answer is DELKUTHI_TAKEN.
+ * Otherwise the answer is a refusal with that number and DELKUTHI_PLACE: of
+ * the table (1 to 7 and 18), or of a record or its step (9 to 11, 13, 14 and
+ * 19). After those come, with the place 0, DELKUTHI_NO_ROW,
+ * DELKUTHI_NOT_REPEAT, and DELKUTHI_TIME_RANGE if `late` is above
+ * DELKUTHI_LAST_TIME. A place above 2^56 - 1 is given as 2^56 - 1.
  */
 DELKUTHI_CHECKED DELKUTHI_NONNULL
 uint64_t delkuthi_stamps(const uint8_t *table, size_t table_length,
@@ -1008,50 +1070,50 @@ uint64_t delkuthi_stamps(const uint8_t *table, size_t table_length,
                          uint64_t row, uint64_t late);
 
 /*
- * DELKUTHI_WORD of an answer of delkuthi_stamps that is no refusal is
- * DELKUTHI_KEPT if each choice of true times meets the row, DELKUTHI_BROKEN if
- * none does, and DELKUTHI_UNSURE if one does and another does not.
+ * DELKUTHI_WORD of an answer of delkuthi_stamps that is not a refusal is
+ * DELKUTHI_KEPT if every choice of true times meets the row, DELKUTHI_BROKEN
+ * if none does, and DELKUTHI_UNSURE if some do and some do not.
  */
 #define DELKUTHI_UNSURE 3
 
 /*
- * Joins two recordings that have no kind in common, and writes the joined one
- * to the front of a buffer. Records stand by time, at equal times those of the
- * first before those of the second; a tick that is not later than the joined
- * clock is dropped. The version is the higher of the two. A buffer of as many
- * bytes as both recordings have together is always long enough. Bytes behind
- * the joined recording stay as they were.
+ * Joins two recordings that have no kind in common, and writes the joined
+ * recording to the front of a buffer. Its records are in the order of time; at
+ * equal times those of the first recording come first. A tick that is not
+ * later than the joined clock is dropped. The version is the higher of the
+ * two. A buffer as long as both recordings together is always long enough.
+ * Bytes behind the joined recording stay as they were.
  *
- * Returns the number of bytes, DELKUTHI_LENGTH of the answer; or, if
- * DELKUTHI_NUMBER of it is not DELKUTHI_TAKEN, a refusal with that number and
- * DELKUTHI_PLACE: of a record of the first recording or its step (9 to 11, 13, 14
- * and 19), then of the second; then DELKUTHI_COMMON_KIND, with
- * the place of the second's first record of such a kind; then
- * DELKUTHI_TABLE_ROOM, with the place 0. DELKUTHI_JOIN_SECOND tells whether it
- * is the second recording that is refused. A place or a length above 2^56 - 1
- * is given as that. On a refusal the buffer stays as it was.
+ * If DELKUTHI_NUMBER of the answer is DELKUTHI_TAKEN, DELKUTHI_LENGTH is the
+ * number of bytes. Otherwise the answer is a refusal with that number and
+ * DELKUTHI_PLACE: of a record of the first recording or its step (9 to 11, 13,
+ * 14 and 19), then of the second; then DELKUTHI_COMMON_KIND, with the place of
+ * the second recording's first record of such a kind; then
+ * DELKUTHI_TABLE_ROOM, with the place 0. DELKUTHI_JOIN_SECOND tells whether
+ * the second recording is the one that is refused. A place or a length above
+ * 2^56 - 1 is given as 2^56 - 1. A refusal leaves the buffer as it was.
  */
 DELKUTHI_CHECKED DELKUTHI_NONNULL
 uint64_t delkuthi_join(const uint8_t *first, size_t first_length,
                        const uint8_t *second, size_t second_length,
                        uint8_t *joined, size_t joined_length);
 
-/* Whether it is the second recording that delkuthi_join refuses: 1, or 0. */
+/* 1 if delkuthi_join refuses the second recording, 0 if the first. */
 #define DELKUTHI_JOIN_SECOND(answer) (((answer) >> 7) & 1)
 
 /*
  * Finds the shortest stretch of consecutive records of a recording that breaks
- * a row, before any close, when a fresh monitor over this row alone is given
- * them; among equals the earliest. A stretch that meets DELKUTHI_CROWDED on the
- * way does not break the row. The row's number counts from 0. For n records it
- * takes at most n(n + 1)/2 steps of the row.
+ * a row, before any close, when a fresh monitor over this row alone takes
+ * them; among stretches of equal length the earliest. A stretch that meets
+ * DELKUTHI_CROWDED on the way does not break the row. The first row is row 0.
+ * For n records the call takes at most n(n + 1)/2 steps of the row.
  *
- * Returns a stretch as below; or, if DELKUTHI_NUMBER of the answer is not
- * DELKUTHI_TAKEN, a refusal with that number and DELKUTHI_PLACE: of the table
- * (1 to 7 and 18), of a record or its step (9 to 11, 13, 14 and 19); then, with
- * the place 0, DELKUTHI_TOO_MANY_RECORDS, DELKUTHI_NO_ROW, and
- * DELKUTHI_NO_STRETCH if no stretch breaks the row. A place above 2^56 - 1 is
- * given as that.
+ * Returns a stretch as below if DELKUTHI_NUMBER of the answer is
+ * DELKUTHI_TAKEN. Otherwise the answer is a refusal with that number and
+ * DELKUTHI_PLACE: of the table (1 to 7 and 18), or of a record or its step (9
+ * to 11, 13, 14 and 19). After those come, with the place 0,
+ * DELKUTHI_TOO_MANY_RECORDS, DELKUTHI_NO_ROW, and DELKUTHI_NO_STRETCH if no
+ * stretch breaks the row. A place above 2^56 - 1 is given as 2^56 - 1.
  */
 DELKUTHI_CHECKED DELKUTHI_NONNULL
 uint64_t delkuthi_shortest_stretch(const uint8_t *table, size_t table_length,
@@ -1059,10 +1121,10 @@ uint64_t delkuthi_shortest_stretch(const uint8_t *table, size_t table_length,
                                    size_t recording_length, uint64_t row);
 
 /*
- * In an answer of delkuthi_shortest_stretch that is no refusal: the number of
- * the stretch's first record, from 0, how many records it has, and how many
- * stretches were tried, by length and then by start, up to and with it, which
- * is its place in that order.
+ * Parts of an answer of delkuthi_shortest_stretch that is not a refusal: the
+ * number of the stretch's first record, from 0; how many records it has; and
+ * how many stretches were tried, by length and then by start, including this
+ * one.
  */
 #define DELKUTHI_STRETCH_FIRST(answer)  ((answer) >> 8 & 255)
 #define DELKUTHI_STRETCH_LENGTH(answer) ((answer) >> 16 & 65535)
@@ -1071,10 +1133,10 @@ uint64_t delkuthi_shortest_stretch(const uint8_t *table, size_t table_length,
 /*
  * THE SECOND FORMS
  *
- * The calls above that take a table, for tables of editions 1 and 2: each has
- * the arguments, the answers and the stack of the call without _2. Question 1
- * is for them whether the table begins with a byte 1 or 2, and question 4
- * whether the row's type is one of the edition that this byte says.
+ * These are the calls above that take a table, for tables of editions 1 and 2.
+ * Each has the arguments, the answers and the stack of the call without _2.
+ * They refuse a table with 1 if it does not begin with a byte 1 or 2, and a
+ * row with 4 if the edition that this byte names does not have its type.
  */
 
 DELKUTHI_CHECKED DELKUTHI_NONNULL
@@ -1108,8 +1170,8 @@ uint64_t delkuthi_table_2(const delkuthi_row *rows, size_t rows_size,
                           uint8_t *table, size_t table_length);
 
 /*
- * Writes the table of some rows as delkuthi_make_table does, in edition 2: for
- * delkuthi_fresh_2, delkuthi_report_2 and their like.
+ * Writes the table of some rows as delkuthi_make_table does, in edition 2, for
+ * delkuthi_fresh_2, delkuthi_report_2 and the other second forms.
  */
 DELKUTHI_CHECKED DELKUTHI_NONNULL
 static inline uint64_t delkuthi_make_table_2(const delkuthi_row *rows,
@@ -1122,8 +1184,8 @@ static inline uint64_t delkuthi_make_table_2(const delkuthi_row *rows,
 }
 
 /*
- * Returns the edition that some rows need: 1, or 2 where one of them has a type
- * that the first edition has not. No row behind the 33rd is looked at.
+ * Returns the edition that some rows need: 1, or 2 if one of them has a type
+ * that edition 1 does not have. Rows behind the 33rd are not read.
  */
 DELKUTHI_NONNULL
 static inline uint8_t delkuthi_edition(const delkuthi_row *rows, size_t count)

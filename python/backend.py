@@ -16,6 +16,9 @@ from typing import Any, Iterator
 
 HERE = Path(__file__).parent
 PACKAGE = HERE / "delkuthi"
+#: What stands beside this folder in a checkout, and in it in an archive of the sources.
+BESIDE = HERE if (HERE / "LICENSE").exists() else HERE.parent
+LICENCES = ("LICENSE", "NOTICE")
 
 
 def _project() -> dict[str, Any]:
@@ -35,6 +38,7 @@ def _metadata() -> str:
              f"Summary: {project['description']}", f"Requires-Python: {project['requires-python']}"]
     lines.append(f"Keywords: {','.join(project['keywords'])}")
     lines += [f"Classifier: {one}" for one in project["classifiers"]]
+    lines += [f"License-File: {name}" for name in LICENCES]
     for extra, needed in project["optional-dependencies"].items():
         lines.append(f"Provides-Extra: {extra}")
         lines += [f'Requires-Dist: {name}; extra == "{extra}"' for name in needed]
@@ -47,6 +51,11 @@ def _sources() -> list[Path]:
     return sorted(path for path in PACKAGE.rglob("*") if path.is_file() and "__pycache__" not in path.parts)
 
 
+def _examples() -> list[Path]:
+    """The files of the examples, without what the command writes of them."""
+    return sorted(path for path in (BESIDE / "examples").rglob("*") if path.is_file() and path.suffix not in (".html", ".svg", ".xml"))
+
+
 def _files(tag: str, library: Path | None) -> Iterator[tuple[str, bytes]]:
     """The files of the wheel, without its list of them."""
     info = f"delkuthi-{_version()}.dist-info"
@@ -54,6 +63,10 @@ def _files(tag: str, library: Path | None) -> Iterator[tuple[str, bytes]]:
         yield f"delkuthi/{path.relative_to(PACKAGE)}", path.read_bytes()
     if library is not None:
         yield f"delkuthi/libdelkuthi.so.{_version().rsplit('.', 1)[0]}", library.read_bytes()
+    for name in LICENCES:
+        yield f"{info}/{name}", (BESIDE / name).read_bytes()
+    for path in _examples():
+        yield f"delkuthi-{_version()}.data/data/share/delkuthi/{path.relative_to(BESIDE)}", path.read_bytes()
     scripts = "".join(f"{name} = {place}\n" for name, place in _project()["scripts"].items())
     yield f"{info}/METADATA", _metadata().encode()
     pure = str(library is None).lower()
@@ -91,6 +104,8 @@ def build_sdist(sdist_directory: str, config_settings: object = None) -> str:
     with tarfile.open(Path(sdist_directory) / f"{base}.tar.gz", "w:gz", dereference=True) as archive:
         for path in [HERE / "pyproject.toml", HERE / "backend.py", HERE / "README.md", *_sources()]:
             archive.add(path, f"{base}/{path.relative_to(HERE)}")
+        for path in [*(BESIDE / name for name in LICENCES), *_examples()]:
+            archive.add(path, f"{base}/{path.relative_to(BESIDE)}")
         data = _metadata().encode()
         entry = tarfile.TarInfo(f"{base}/PKG-INFO")
         entry.size = len(data)

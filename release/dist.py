@@ -1,10 +1,15 @@
 #!/usr/bin/env python3
-"""Makes the release of what `make install` has put to BUILD/dist/tree: a folder and a tarball, the same bytes wherever it is made.
+"""Makes the release from what `make install` has put into BUILD/dist/tree: a folder and a tarball, and beside them what the gate said.
 
-    dist.py BUILD
+    dist.py check BUILD [unchecked]   is there a gate that passed on this commit? If not, says why and ends with status 1
+    dist.py make BUILD [unchecked]    makes the release
 
-Beside the installed files it has the portable crate, the sources, a manifest, a list of parts in the form of SPDX, and checksums.
-Times are those of the commit, owners are none, files stand in the order of their names.
+The release has the installed files, the portable crate, the sources, a manifest, a list of parts in the form of SPDX, and checksums. The
+tarball's bytes depend on the commit and the archive alone: times are those of the commit, owners are none, files are in the order of their
+names. How many tests the gate passed and how long it took is in a file beside the tarball.
+
+A commit on which the gate failed or was not run is refused. With `unchecked` the release is made all the same, and the first line of its
+manifest says so.
 """
 import gzip
 import hashlib
@@ -47,13 +52,26 @@ def commit():
     return said("git", "rev-parse", "HEAD").strip() + changed, int(said("git", "log", "-1", "--format=%ct"))
 
 
-def gate(of_commit):
-    """The gate's last line and how long it took, if it ran on this commit: .ci/run keeps both."""
-    kept = ROOT / "target/gate"
-    lines = kept.read_text().splitlines() if kept.is_file() else []
-    if len(lines) == 3 and lines[0] == of_commit:
-        return lines[1], lines[2]
-    return "not run on this commit where the release was made", "see the check times in source/docs/SPEED.md"
+class Gate:
+    """What the gate said of this commit. .ci/run keeps its last line and how long it took in target/gate."""
+
+    def __init__(self, of_commit, unchecked):
+        kept = ROOT / "target/gate"
+        lines = kept.read_text().splitlines() if kept.is_file() else []
+        ran = len(lines) == 3 and lines[0] == of_commit
+        self.line, self.took = lines[1:] if ran else ("not run on this commit", "")
+        self.passed = ran and re.fullmatch(r"[1-9]\d* passed, 0 failed", self.line) is not None
+        if not self.passed and not unchecked:
+            sys.exit(f"dist.py: the gate on this commit: {self.line}. Commit, run make test until it passes, then make dist again;\n"
+                     "dist.py: or use make dist UNCHECKED=yes, which says so in the first line of the manifest")
+
+    def opening(self):
+        """The first line of the manifest."""
+        return "The gate passed on this commit." if self.passed else "**NOT CHECKED: made without a gate that passed on this commit.**"
+
+    def text(self, of_commit):
+        """The file beside the tarball."""
+        return f"commit: {of_commit}\ngate, last line: {self.line}\ngate, time: {self.took or 'not known'}\n"
 
 
 class Archive:
@@ -97,13 +115,12 @@ def declared(function):
     sys.exit(f"dist.py: no crate declares {function}, which is in the archive")
 
 
-def manifest(version, of_commit, archive, tree):
-    """What the release is of, which proof stands behind which function, and how to check it all again."""
-    line, took = gate(of_commit)
+def manifest(version, of_commit, archive, tree, opening):
+    """What is in the release, which proof is behind which function, and how to check it all again."""
     rows = [(f"`{name}`", str(size), *declared(name)) for name, size in sorted(archive.functions)]
     table = "".join(f"| {name} | {size} | {place} | {contract} |\n" for name, size, place, contract in rows)
     text = (ROOT / "release/MANIFEST.md.in").read_text(encoding="utf-8")
-    values = {"VERSION": version, "COMMIT": of_commit, "KIT": archive.kits[0], "GATE": line, "TOOK": took, "FUNCTIONS": table,
+    values = {"VERSION": version, "COMMIT": of_commit, "KIT": archive.kits[0], "OPENING": opening, "FUNCTIONS": table,
               "OBJECTS": ", ".join(archive.objects), "ARCHIVE": digest(tree / "lib/libdelkuthi.a"),
               "SHARED": digest(tree / f"lib/libdelkuthi.so.{version}"), "BYTES": str(sum(size for _, size in archive.functions)),
               "NEEDED": ", ".join(f"`{name}`" for name in sorted(archive.needed))}
@@ -155,12 +172,9 @@ def pack(folder, time):
     return name
 
 
-def main():
-    if len(sys.argv) != 2:
-        sys.exit("dist.py BUILD")
-    build = Path(sys.argv[1]).resolve()
+def make(build, gate, of_commit, time):
+    """The release: the folder, the tarball, and beside it what the gate said."""
     version = (ROOT / "VERSION").read_text().strip()
-    of_commit, time = commit()
     created = datetime.fromtimestamp(time, timezone.utc).strftime("%Y-%m-%dT%H:%M:%SZ")
     folder = build / f"delkuthi-{version}-x86_64-linux"
     shutil.rmtree(folder, ignore_errors=True)
@@ -176,11 +190,22 @@ def main():
         shutil.copy(ROOT / name, folder / name)
     (folder / "README.md").write_text((ROOT / "release/README.md.in").read_text(encoding="utf-8").replace("@VERSION@", version), encoding="utf-8")
     (folder / "delkuthi.spdx").write_text(spdx(version, created, archive, folder), encoding="utf-8")
-    (folder / "MANIFEST.md").write_text(manifest(version, of_commit, archive, folder), encoding="utf-8")
+    (folder / "MANIFEST.md").write_text(manifest(version, of_commit, archive, folder, gate.opening()), encoding="utf-8")
     sums = "".join(f"{digest(path)}  {path.relative_to(folder)}\n" for path in files(folder) if not path.is_symlink())
     (folder / "SHA256SUMS").write_text(sums, encoding="utf-8")
     packed = pack(folder, time)
+    folder.with_name(f"{folder.name}.gate.txt").write_text(gate.text(of_commit), encoding="utf-8")
     print(f"{digest(packed)}  {packed}")
+
+
+def main():
+    words = sys.argv[1:]
+    if len(words) not in (2, 3) or words[0] not in ("check", "make") or words[2:] not in ([], ["unchecked"]):
+        sys.exit("dist.py check|make BUILD [unchecked]")
+    of_commit, time = commit()
+    gate = Gate(of_commit, words[2:] == ["unchecked"])
+    if words[0] == "make":
+        make(Path(words[1]).resolve(), gate, of_commit, time)
 
 
 if __name__ == "__main__":

@@ -2,7 +2,7 @@
 """What follows from the list of row types is made from it: tables and limits in the documents, makers in C and Rust, other lists of the types.
 
     row-types.py            says which parts differ from the list, and what a type still lacks; status 1 where there is such
-    row-types.py --write    writes the parts anew
+    row-types.py --write    writes the parts
 
 The list is python/delkuthi/rowtypes, a file for each type. Each part stands between two texts of its file: in code from a comment that says so to
 the end of the list, in documents and in the header between what stands around it. What a type lacks is written by hand: its section of the contract,
@@ -107,7 +107,7 @@ def comment(text, first=" * ", other=" * "):
 
 
 def header_line(row_type):
-    """A type, its fields and its length, in columns; where there is no room for all fields, the times have a line of their own."""
+    """A type, its fields and its length, in columns; where there is no room for all fields, the times have a separate line."""
     fields, first = ", ".join(names(row_type, "n from 2 to 4, n kinds")), f" *  {row_type.number:2} {row_type.name:22}  "
     if len(fields) > 40:
         kinds, fields = map(", ".join, small(row_type))
@@ -142,7 +142,7 @@ def last_type():
 
 
 def header_asks():
-    """What each row asks, in full; a long name has a line of its own."""
+    """What each row asks, in full; a long name has a separate line."""
     def said(row_type):
         first, other = f" *  {row_type.number:2} {row_type.name:11} ", " *".ljust(19)
         return comment(row_type.asks, first, other) if len(first) == len(other) else first.rstrip() + "\n" + comment(row_type.asks, other, other)

@@ -12,6 +12,7 @@ tagged with a clause (§) counts as used. Rows of a table in a document may be l
 (`pub use`) is used where another file imports it from there. The allowance has, for a folder that is not clean, how many of each it may have: what is
 above that is wrong, so the numbers only fall.
 """
+import os
 import re
 import subprocess
 import sys
@@ -21,6 +22,7 @@ ROOT = Path(__file__).resolve().parent.parent
 ALLOWANCE = ROOT / "release/text-allowance.txt"
 ENDINGS = {".rt", ".antt", ".rs", ".py", ".c", ".h", ".hpp", ".cpp", ".md"}
 IMPORTING = {".rt", ".antt"}
+BUILT = {"build", "target", "__pycache__"}
 SORTS = {"long": "long lines", "unused": "unused imports", "idle": "names that nothing uses"}
 WIDTH = 150
 # One line is one import, of proofs or of code: a module and names in braces, each by itself or behind a path, a module by another name, or one name
@@ -38,11 +40,30 @@ COMMENT = re.compile(r"(?:^|\s)(?:--|//).*")
 TAGGED = re.compile(r"^\s*-- §.*\n(?:\s*--.*\n)*\s*(?:(?:pub|abbrev|unfoldable|opaque|data|record|private)\s+)*([^\s(){}.,;:]+)", re.M)
 
 
+def listed_by_git(folders):
+    """The files below some folders that git lists; none where the sources are in no repository, as in a release."""
+    if not (ROOT / ".git").exists():
+        return None
+    words = ["git", "ls-files", "--cached", "--others", "--exclude-standard", "-z", *folders]
+    try:
+        return subprocess.run(words, cwd=ROOT, check=True, capture_output=True, text=True).stdout.split("\0")
+    except (OSError, subprocess.CalledProcessError):
+        return None
+
+
+def walked(folders):
+    """The files below some folders, without those that are built and those of hidden folders."""
+    for folder in [ROOT / name for name in folders] or [ROOT]:
+        for place, below, names in os.walk(folder):
+            below[:] = sorted(name for name in below if name not in BUILT and not name.startswith("."))
+            yield from (str(Path(place, name).relative_to(ROOT)) for name in sorted(names))
+
+
 def sources(folders):
-    """The files of the repository below some folders that are looked at."""
-    listed = subprocess.run(["git", "ls-files", "--cached", "--others", "--exclude-standard", "-z", *folders], cwd=ROOT, check=True,
-                            capture_output=True, text=True).stdout.split("\0")
-    return [ROOT / name for name in listed if Path(name).suffix in ENDINGS and (ROOT / name).is_file()]
+    """The files below some folders that are looked at."""
+    listed = listed_by_git(folders)
+    names = walked(folders) if listed is None else listed
+    return [ROOT / name for name in names if Path(name).suffix in ENDINGS and (ROOT / name).is_file()]
 
 
 def folder_of(file):

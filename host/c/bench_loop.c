@@ -1,22 +1,26 @@
 /*
- * A bench loop over a recorded drive: bench_loop TABLE RECORDING
+ * A bench loop over a recorded drive: bench_loop TABLE RECORDING [LAG [LATE]]
  *
- * It gives the monitor each record as it comes, and a tick where the clock of
- * the drive passes a deadline before the next record. The loop is the one in
- * the manual, delkuthi.h.
+ * It gives the monitor each record as it arrives, and a tick if the clock of the
+ * drive passes a deadline by LAG before the next record arrives. A record
+ * arrives LATE after its stamp. Both are 0 if they are not given. The loop is
+ * the one in the manual, delkuthi.h.
  */
 #include "delkuthi.h"
 #include <inttypes.h>
 #include <stdio.h>
 
-// What comes next: 'e' an event, 'c' one with a colour, 0 the end; or 't', a
-// tick, once the bench's clock reads `until` and nothing has come.
-extern int next_step(uint64_t until, uint8_t *kind, uint8_t *colour,
+// The longest time from the stamp of an event to its arrival, over all sources.
+static uint64_t lag;
+
+// What comes next: 'e' an event, 'c' an event with a colour, 't' a tick, 0 the
+// end; or 'w' once the bench's clock reads `wake` and nothing has arrived.
+extern int next_step(uint64_t wake, uint8_t *kind, uint8_t *colour,
                      uint64_t *time);
 
 static delkuthi_monitor monitor;
 
-// When a row breaks if nothing comes: one past the deadline.
+// When a row breaks if no event comes: one past the deadline.
 static uint64_t breaks(void)
 {
     uint64_t deadline = delkuthi_deadline(&monitor);
@@ -24,7 +28,7 @@ static uint64_t breaks(void)
     return deadline == DELKUTHI_NO_LIMIT ? deadline : deadline + 1;
 }
 
-// Says each row that is broken now and was not; all that are broken now.
+// Prints each row that has broken since; returns all that are broken now.
 static uint32_t say(uint32_t before)
 {
     uint32_t now = delkuthi_broken_rows(&monitor), row;
@@ -37,16 +41,16 @@ static uint32_t say(uint32_t before)
 }
 
 // 0: every row kept. 1: a row is broken. 2: the table or a step was refused.
-// 3: the library is not this header's.
+// 3: the library does not match this header.
 static int bench(const uint8_t *table, size_t table_length)
 {
-    uint64_t time, answer;
+    uint64_t time, until, answer;
     uint32_t broken = 0;
     uint8_t kind, colour, refused = DELKUTHI_TAKEN;
     int what = 't';
 
     if (!DELKUTHI_MATCHES()) {
-        printf("the library is not this header's\n");
+        printf("the library does not match this header\n");
         return 3;
     }
     answer = delkuthi_fresh_2(&monitor, table, table_length);
@@ -56,13 +60,16 @@ static int bench(const uint8_t *table, size_t table_length)
         return 2;
     }
     while (what && !refused) {
-        what = next_step(breaks(), &kind, &colour, &time);
+        until = breaks();
+        what = next_step(lag < DELKUTHI_NO_LIMIT - until ? until + lag
+                                                         : DELKUTHI_NO_LIMIT,
+                         &kind, &colour, &time);
         if (what == 'e')
             refused = delkuthi_event(&monitor, kind, time);
         else if (what == 'c')
             refused = delkuthi_coloured_event(&monitor, kind, colour, time);
-        else if (what == 't')
-            refused = delkuthi_tick(&monitor, time);
+        else if (what)
+            refused = delkuthi_tick(&monitor, what == 'w' ? until : time);
         else
             refused = delkuthi_close(&monitor);
         broken = say(broken);
@@ -79,10 +86,11 @@ static int bench(const uint8_t *table, size_t table_length)
 
 static struct file recording;
 static size_t place = 1; // behind the version byte
+static uint64_t late;
 
-// The next record: its length of two bytes is 9 for an event, 10 for one with
-// a colour, 8 for a tick. In version 1 there are no colours: 255 is none.
-int next_step(uint64_t until, uint8_t *kind, uint8_t *colour, uint64_t *time)
+// The next record. Its length of two bytes is 9 for an event, 10 for an event
+// with a colour, 8 for a tick. Version 1 has no colours; 255 is not a colour.
+int next_step(uint64_t wake, uint8_t *kind, uint8_t *colour, uint64_t *time)
 {
     const uint8_t *record = recording.bytes + place;
     size_t left = recording.length - place, size;
@@ -95,23 +103,31 @@ int next_step(uint64_t until, uint8_t *kind, uint8_t *colour, uint64_t *time)
         exit(4);
     }
     *time = time_of(record + size - 6);
-    if (*time > until) {
-        *time = until;
-        return 't';
-    }
+    if (wake != DELKUTHI_NO_LIMIT && (wake < late || *time > wake - late))
+        return 'w';
     *kind = record[2];
     *colour = recording.bytes[0] == 1 ? 255 : record[3];
     place += 2 + size;
     return size == 8 ? 't' : size == 9 ? 'e' : 'c';
 }
 
+// Reads a whole number. Returns 0 if the text is not one.
+static int read_number(const char *text, uint64_t *number)
+{
+    char *end;
+
+    *number = strtoull(text, &end, 10);
+    return *text >= '0' && *text <= '9' && *end == 0;
+}
+
 int main(int argc, char **argv)
 {
     struct file table;
-    int result;
+    int result, well = argc >= 3 && argc <= 5;
 
-    if (argc != 3 || !read_file(argv[1], &table) || !read_file(argv[2], &recording)) {
-        fprintf(stderr, "usage: bench_loop TABLE RECORDING\n");
+    well = well && (argc < 4 || read_number(argv[3], &lag)) && (argc < 5 || read_number(argv[4], &late));
+    if (!well || !read_file(argv[1], &table) || !read_file(argv[2], &recording)) {
+        fprintf(stderr, "usage: bench_loop TABLE RECORDING [LAG [LATE]]\n");
         return 4;
     }
     if (recording.length == 0 || recording.bytes[0] < 1 || recording.bytes[0] > 2) {

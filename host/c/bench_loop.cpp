@@ -1,9 +1,12 @@
-// A bench loop over a recorded drive, in C++17: bench_loop TABLE RECORDING
+// A bench loop over a recorded drive, in C++17: bench_loop TABLE RECORDING [LAG [LATE]]
 //
-// It gives the monitor each record as it comes, and a tick where the clock of the drive passes a deadline before the next record; and it
-// says each row that breaks at the moment at which it breaks.
+// It gives the monitor each record as it arrives, and a tick if the clock of the drive passes a deadline by LAG before the next record
+// arrives. LAG is the longest time from a stamp to its arrival: a tick says that every earlier event has been given. A record arrives LATE
+// after its stamp. Both are 0 if they are not given. The loop prints each row when the row breaks.
 #include "delkuthi.hpp"
+#include <charconv>
 #include <cstdio>
+#include <cstring>
 #include <fstream>
 #include <iterator>
 #include <optional>
@@ -28,7 +31,7 @@ struct record {
     std::uint64_t time;
 };
 
-// A recording, record by record. In version 1 there are no colours: 255 is none.
+// A recording, record by record. Version 1 has no colours; 255 is not a colour.
 class drive {
 public:
     explicit drive(bytes recording) : recording_(std::move(recording)) {}
@@ -70,7 +73,7 @@ delkuthi::answer take(delkuthi::monitor &monitor, const record &step)
     return step.colour ? monitor.event(*step.kind, *step.colour, step.time) : monitor.event(*step.kind, step.time);
 }
 
-// Says each row that is broken now and was not; all that are broken now.
+// Prints each row that has broken since; returns all that are broken now.
 std::uint32_t say(const delkuthi::monitor &monitor, std::uint32_t before)
 {
     const std::uint32_t now = monitor.broken_rows();
@@ -80,7 +83,22 @@ std::uint32_t say(const delkuthi::monitor &monitor, std::uint32_t before)
     return now;
 }
 
-int bench(const bytes &table, drive steps)
+// Times in the drive.
+struct delays {
+    std::uint64_t lag = 0;
+    std::uint64_t late = 0;
+};
+
+// Does the bench's clock pass a time by the lag before a record arrives?
+bool passes(const delays &given, std::uint64_t until, std::uint64_t stamp)
+{
+    const std::uint64_t never = DELKUTHI_NO_LIMIT;
+    const std::uint64_t wake = given.lag < never - until ? until + given.lag : never;
+
+    return wake != never && (wake < given.late || stamp > wake - given.late);
+}
+
+int bench(const bytes &table, drive steps, const delays &given)
 {
     static delkuthi::monitor monitor;
     const delkuthi::answer made = monitor.fresh(table.data(), table.size());
@@ -95,9 +113,9 @@ int bench(const bytes &table, drive steps)
         if (!next)
             return 4;
         const std::optional<std::uint64_t> deadline = monitor.deadline();
-        const bool passes = !closed && deadline && next->time > *deadline + 1;
-        const delkuthi::answer answer = closed ? monitor.close() : passes ? monitor.tick(*deadline + 1) : take(monitor, *next);
-        if (!passes && !closed)
+        const bool silent = !closed && deadline && passes(given, *deadline + 1, next->time);
+        const delkuthi::answer answer = closed ? monitor.close() : silent ? monitor.tick(*deadline + 1) : take(monitor, *next);
+        if (!silent && !closed)
             steps.pass();
         broken = say(monitor, broken);
         if (!answer) {
@@ -110,17 +128,28 @@ int bench(const bytes &table, drive steps)
     return broken ? 1 : 0;
 }
 
+// Reads a whole number. Returns false if the text is not one.
+bool read_number(const char *text, std::uint64_t &number)
+{
+    const char *end = text + std::strlen(text);
+    const auto [stopped, error] = std::from_chars(text, end, number);
+
+    return error == std::errc() && stopped == end;
+}
+
 } // namespace
 
 int main(int argc, char **argv)
 {
-    const std::optional<bytes> table = argc == 3 ? file(argv[1]) : std::nullopt;
-    const std::optional<bytes> recording = argc == 3 ? file(argv[2]) : std::nullopt;
+    delays given;
+    const bool well = argc >= 3 && argc <= 5 && (argc < 4 || read_number(argv[3], given.lag)) && (argc < 5 || read_number(argv[4], given.late));
+    const std::optional<bytes> table = well ? file(argv[1]) : std::nullopt;
+    const std::optional<bytes> recording = well ? file(argv[2]) : std::nullopt;
     if (!delkuthi::matches())
         return 3;
     if (!table || !recording || recording->empty() || recording->front() < 1 || recording->front() > 2) {
-        std::fprintf(stderr, "usage: bench_loop TABLE RECORDING\n");
+        std::fprintf(stderr, "usage: bench_loop TABLE RECORDING [LAG [LATE]]\n");
         return 4;
     }
-    return bench(*table, drive(*recording));
+    return bench(*table, drive(*recording), given);
 }

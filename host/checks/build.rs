@@ -1,10 +1,16 @@
-//! Links `libtable_host.a`, and tells the tests where `libdelkuthi.a` is, for the C hosts to be linked with.
+//! Links `libtable_host.a`, and tells the tests where `libdelkuthi.a` is, for the C hosts to be linked with. A folder that
+//! `DELKUTHI_LIB` names may have `libdelkuthi.a` alone, as a release has it: then the tests of `libtable_host.a` are left out.
 
 #[path = "../delkuthi/archive.rs"]
 mod archive;
 
 fn main() {
-    archive::link("table_host");
+    println!("cargo::rustc-check-cfg=cfg(table_host)");
+    let given = std::env::var_os("DELKUTHI_LIB").map(std::path::PathBuf::from);
+    if given.is_none_or(|folder| folder.join("libtable_host.a").is_file()) {
+        archive::link("table_host");
+        println!("cargo::rustc-cfg=table_host");
+    }
     let folder = std::env::var("DEP_DELKUTHI_FOLDER").expect("the crate delkuthi says where its archive is");
     println!("cargo::rustc-env=DELKUTHI_FOLDER={folder}");
 }

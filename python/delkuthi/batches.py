@@ -5,13 +5,13 @@ What is done for each line is done by what Python has in C: splitting, looking u
 """
 from __future__ import annotations
 
-import json
+import re
 import sys
 from array import array
 from math import gcd
 from itertools import chain, islice, takewhile
 from operator import gt, lt
-from typing import IO, TYPE_CHECKING, Iterator, NamedTuple, Sequence
+from typing import IO, TYPE_CHECKING, Iterable, Iterator, NamedTuple, Sequence
 
 from .library import FIRST_COLOURED
 from .signals import parts, signals_of
@@ -22,8 +22,9 @@ if TYPE_CHECKING:
 
 #: The code of a line that is no event of the table.
 OTHER = 255
+_WHOLE = re.compile(rb"[+-]?[0-9]{1,40}")
 #: So many bytes of a log are looked at together.
-BLOCK = 1 << 16
+BLOCK = 1 << 17
 
 
 class NeedsSlowPath(Exception):
@@ -31,11 +32,56 @@ class NeedsSlowPath(Exception):
 
 
 class Batch(NamedTuple):
-    """Lines that follow each other: their stamps, the codes of their events, and the place of the first."""
+    """Lines that follow each other: their stamps, the codes of their events, and the place of the first. Where a line is several events, it
+    stands there once for each, and ``places`` has the place of each entry."""
 
     times: list[int]
     codes: bytes
     place: int
+    places: list[int] | None = None
+
+    @property
+    def lines(self) -> int:
+        """How many lines they are."""
+        return len(self.codes) if self.places is None else self.places[-1] - self.place + 1
+
+    def place_of(self, entry: int) -> int:
+        """The place of an entry."""
+        return self.place + entry if self.places is None else self.places[entry]
+
+    def moved(self, places: int) -> Batch:
+        """The same lines so many places further on."""
+        return Batch(self.times, self.codes, self.place + places, None if self.places is None else [place + places for place in self.places])
+
+
+def batch_of(times: list[int], found: Sequence[bytes], place: int) -> Batch:
+    """A batch of lines, of each of which the codes are given, one or several."""
+    codes = b"".join(found)
+    if len(codes) == len(found):
+        return Batch(times, codes, place)
+    entries = [(time, at) for at, (time, some) in enumerate(zip(times, found), place) for _ in some]
+    return Batch([time for time, _ in entries], codes, place, [at for _, at in entries])
+
+
+def with_events(times: list[int], codes: bytes, found: Iterable[tuple[int, Iterable[int]]], place: int) -> Batch:
+    """A batch of lines with their codes, and further codes with the numbers of the lines that have them."""
+    first = bytearray(codes)
+    several: dict[int, bytearray] = {}
+    for code, lines in found:
+        for at in lines:
+            if first[at] == OTHER:
+                first[at] = code
+            elif first[at] != code and code not in several.setdefault(at, bytearray()):
+                several[at].append(code)
+    if not any(several.values()):
+        return Batch(times, bytes(first), place)
+    together, entries, places, last = bytearray(), list[int](), list[int](), 0
+    for at, more in sorted(several.items()):
+        together += first[last : at + 1] + more
+        entries += times[last : at + 1] + [times[at]] * len(more)
+        places += [*range(place + last, place + at + 1), *[place + at] * len(more)]
+        last = at + 1
+    return Batch(entries + times[last:], bytes(together + first[last:]), place, [*places, *range(place + last, place + len(times))])
 
 
 class Codes:
@@ -105,7 +151,7 @@ class Scale:
                 times = list(map(int, joined.replace(b".", b"").split(b",")))
             else:
                 times = _whole(cells, joined)
-        except (ValueError, RecursionError):
+        except ValueError:
             raise NeedsSlowPath from None
         above, below = self.above, self.below * 10**digits
         common = gcd(above, below)
@@ -116,16 +162,8 @@ class Scale:
 
 
 def _whole(cells: list[bytes], joined: bytes) -> list[int]:
-    """Whole numbers; what is not one of them is no integer, or is found here."""
-    try:
-        # The reader of JSON takes a list of numbers in one call. What else it takes is no stamp: true and false have an e, of others
-        # there is no sum that is a whole number.
-        times: list[int] = json.loads(f"[{joined.decode('ascii')}]")
-        if len(times) == len(cells) and b"e" not in joined and type(sum(times)) is int:
-            return times
-    except (TypeError, ValueError):
-        pass
-    if not joined.replace(b",", b"").isdigit():
+    """Whole numbers, which may have a sign."""
+    if not joined.replace(b",", b"").isdigit() and not all(map(_WHOLE.fullmatch, cells)):
         raise NeedsSlowPath
     return list(map(int, cells))
 
@@ -146,37 +184,6 @@ def _digits(cells: list[bytes], joined: bytes) -> int:
 def rising(times: Sequence[int], clock: int) -> bool:
     """Is each time later than the one before it, and the first later than the clock?"""
     return times[0] > clock and all(map(lt, times, islice(times, 1, None)))
-
-
-class Tally:
-    """How often each code has come. Eight codes together have a byte for each place, with a bit for each of them; the bits of a place are counted in
-    binary, the digits of one worth in one large number, so that a string of codes is added by a few operations on large numbers."""
-
-    def __init__(self, number: int):
-        """For the codes below a number."""
-        self._tables = [bytes(1 << code - first if first <= code < min(first + 8, number) else 0 for code in range(256))
-                        for first in range(0, number, 8)]
-        self._digits: list[list[int]] = [[] for _ in self._tables]
-
-    def add(self, codes: bytes) -> None:
-        """Counts some codes."""
-        for table, digits in zip(self._tables, self._digits):
-            carry, worth = int.from_bytes(codes.translate(table), "little"), 0
-            while carry:
-                if worth == len(digits):
-                    digits.append(0)
-                digits[worth], carry = digits[worth] ^ carry, digits[worth] & carry
-                worth += 1
-
-    def counts(self) -> dict[int, int]:
-        """The codes that have come, and how often."""
-        found: dict[int, int] = {}
-        for first, digits in zip(range(0, 256, 8), self._digits):
-            size = max((digit.bit_length() for digit in digits), default=0) // 8 + 1
-            for bit in range(8):
-                mask = int.from_bytes(bytes([1 << bit]) * size, "little")
-                found[first + bit] = sum((digit & mask).bit_count() << worth for worth, digit in enumerate(digits))
-        return {code: count for code, count in found.items() if count}
 
 
 def level(times: list[int], codes: bytes, clock: int, taken: set[int]) -> tuple[list[int], bytes]:

@@ -1,33 +1,38 @@
 """A log checked against a table: a verdict for each row, and for a broken one where, when and why."""
 from __future__ import annotations
 
+import time as clock
 from collections import Counter, deque
-from contextlib import AbstractContextManager, nullcontext
-from dataclasses import asdict, dataclass, field
+from contextlib import AbstractContextManager, contextmanager, nullcontext
+from dataclasses import asdict, dataclass, field, replace
+from datetime import datetime, timezone
 from itertools import islice
 from operator import itemgetter
 from typing import Callable, Iterable, Iterator, Sequence
 
-from .batches import Codes, NeedsSlowPath, Tally
+from .batches import Codes, NeedsSlowPath
 from .library import Refused
 from .logs import Counts, Log, LogError, Policy, Step
-from .measure import Measuring
+from .judge import Judging, RowVerdict, ScopedMeasuring, StepRefused
+from .measure import Measure, Measuring
 from .measured import Described, described
-from .unseen_events import warnings
+from .explain import Explanation, reasons_of
 from .time_format import TimeFormat
+from .unseen_events import warnings
 from .monitor import Monitor
 from .monitors import Monitors, Recorder, monitor_of
-from .reasons import Case, Kind, Reason
 from .rowtypes import judged
 from .table import Row, Table
+from .violations import Spool, Violations
+from .window_text import window_text
 
 #: What watches a log while it is read.
 Progress = Callable[[Log], AbstractContextManager[None]]
-#: What is said where no reason is found.
-UNKNOWN = "nothing that could still come would meet it"
 #: What is said behind the verdict of a row that is kept, or open, because nothing of it was in the log.
 IDLE = ", never exercised"
 UNEXERCISED = f"kept{IDLE}"
+#: What a row reads that is not broken, in a log that is cut.
+SO_FAR = "kept so far"
 #: So many steps are given to the monitor before its rows are asked.
 CHUNK = 1024
 _SIGNAL, _PAIR = itemgetter(0), itemgetter(0, 1)
@@ -53,8 +58,15 @@ class RowOutcome:
     #: The events that the reason is about: their signals and stamps.
     about: list[tuple[int, int]] = field(default_factory=list)
     message: str | None = None
-    #: What it measured, where that was asked for.
+    #: What it measured, and how many instances are outside or missing, where that was asked for.
     measured: Described | None = None
+    violations: int | None = None
+    #: In a log that was cut: how much had not come yet and was not due yet at its end, and how many instances that began before it
+    #: were left out.
+    not_yet_due: int = 0
+    left_out: int = 0
+    #: Of a row with a ``while`` window in how many stretches of the log it was judged.
+    stretches: int | None = None
 
 
 @dataclass
@@ -77,6 +89,13 @@ class Outcome:
     page: str | None = None
     #: The file, or the files, that the log is in.
     files: str | tuple[str, ...] = ""
+    #: Which part of the log was checked, and how its beginning and its end were taken, in words.
+    scope: str = ""
+    #: Every instance that is outside or missing, where that was asked for.
+    violations: Violations | None = None
+    #: When the check began (ISO 8601, universal time), and how many seconds it took.
+    started: str = ""
+    seconds: float = 0.0
 
     @property
     def broken(self) -> list[RowOutcome]:
@@ -107,16 +126,9 @@ class Outcome:
 
     def as_dict(self) -> dict[str, object]:
         """For JSON: the fields by their names, times as the log's stamps."""
-        found = {name: value for name, value in asdict(self).items() if name not in ("counts", "time_format", "exercised", "files")}
+        hidden = ("counts", "time_format", "exercised", "files", "violations", "started", "seconds")
+        found = {name: value for name, value in asdict(replace(self, violations=None)).items() if name not in hidden}
         return {**found, **asdict(self.counts), "offset": self.time_format.shift, "status": self.status}
-
-
-class StepRefused(Exception):
-    """A step of a log that the monitor refused."""
-
-    def __init__(self, step: Step, refusal: Refused):
-        self.step, self.refusal = step, refusal
-        super().__init__(str(refusal))
 
 
 @dataclass
@@ -128,6 +140,11 @@ class Run:
     steps: int = 0
     last: Step = Step(None, 0, 0)
     seen: Counter[int | None] = field(default_factory=Counter)
+
+    @property
+    def breaks(self) -> dict[int, int]:
+        """The number of the step that broke each broken row."""
+        return {row: number for row, (number, _) in self.broken.items()}
 
 
 def run(monitor: Monitor | Monitors, steps: Iterable[Step], close: bool) -> Run:
@@ -160,31 +177,29 @@ def run_log(table: Table, log: Log, close: bool) -> tuple[Run, Monitor | Monitor
 
 def _run_chunks(table: Table, log: Log, close: bool) -> tuple[Run, Monitor | Monitors]:
     """The same by chunks; :class:`NeedsSlowPath` where they do not do."""
-    codes, found, whole = Codes(table), Run(), table.whole
-    tally = Tally(len(codes.numbers))
+    codes, found, whole = Codes(table), Run(), table.single
+    tally = [0] * len(codes.numbers)
     recorders = [Recorder(Monitor(table if whole else part.data), codes, None if whole else part, len(table.parts)) for part in table.parts]
     try:
         for times, events, last in log.chunks(codes):
             for recorder in recorders:
                 recorder.take(times, events)
-            tally.add(events)
+            tally = [count + events.count(code) for code, count in enumerate(tally)]
             found.steps, found.last = found.steps + len(events), last
     except LogError:
         _flush(log, recorders)
         raise
     _flush(log, recorders)
-    found.seen.update({codes.numbers[code]: count for code, count in tally.counts().items()})
+    found.seen.update({codes.numbers[code]: count for code, count in enumerate(tally) if count})
     for recorder in recorders if close else ():
         recorder.monitor.close()
     found.steps += close
-    for recorder in recorders:
-        for row in range(len(recorder.monitor.table.rows)):
-            number = recorder.monitor.step(row)
-            if number is not None and not whole:
-                raise NeedsSlowPath  # its steps are not numbered as those of the whole table
+    for recorder, part in zip(recorders, table.parts):
+        for local, row in enumerate(part.rows):
+            number = recorder.monitor.step(local)
             if number is not None:
-                found.broken[row] = number, None
-    return found, recorders[0].monitor if whole else Monitors.closed(table, [recorder.monitor for recorder in recorders], found.steps)
+                found.broken[row] = found.steps if number > recorder.steps else recorder.number(number), None
+    return found, recorders[0].monitor if whole else Monitors.closed(table, [one.monitor for one in recorders], found.steps, found.breaks)
 
 
 def _flush(log: Log, recorders: list[Recorder]) -> None:
@@ -220,172 +235,162 @@ def _ask(monitor: Monitor | Monitors, found: Run, chunk: list[Step]) -> None:
                 found.broken[row] = number, (chunk[number - found.steps - 1] if chunk else None)
 
 
-@dataclass(frozen=True)
-class Late:
-    """A reason that waits for an answer, which comes too late if it comes."""
-
-    case: Case
-    reason: Reason
-
-    def take(self, kind: int, time: int, place: int) -> str | None:
-        """One more event; what is to be said once all that was awaited has come."""
-        if kind in self.reason.needs:
-            self.case.of(kind).add(time, place)
-            if all(map(self.case.came, self.reason.awaited)):
-                return self.reason.say(True)
-        return None
-
-
-@dataclass(frozen=True)
-class Why:
-    """Why a row is broken: the reason, and the signals and times of the events that it is about."""
-
-    text: str
-    about: tuple[tuple[int, int], ...] = ()
-    #: What the reason still waits for, while a bus is watched.
-    late: Late | None = None
-
-
-class _Reasons:
-    """The reasons of a run, found in the same steps once more."""
-
-    def __init__(self, table: Table, found: Run, at: Callable[[int], str], time_format: TimeFormat):
-        self.table, self.at, self.time_format = table, at, time_format
-        self.said: dict[int, Why] = {}
-        self.open: dict[int, tuple[Case, Reason]] = {}
-        self.ends: dict[int, list[int]] = {}
-        for row, (number, _) in found.broken.items():
-            self.ends.setdefault(number, []).append(row)
-        self.events: dict[int, Kind] = {}
-        self.needed = self.needs()
-
-    def needs(self) -> set[int]:
-        """The signals whose events are looked at from now on."""
-        rows = [row for rows in self.ends.values() for row in rows]
-        late = {number for _, reason in self.open.values() for number in reason.needs}
-        return late | {number for row in rows for number in self.table.rows[row].signals}
-
-    def take(self, number: int, step: Step) -> None:
-        """The step of a number: an event more, rows that it broke, answers that came late."""
-        kind, time, place = step
-        if kind in self.needed:
-            assert kind is not None
-            self.events.setdefault(kind, Kind()).add(time, place)
-            for row in [row for row, (case, reason) in self.open.items() if all(map(case.came, reason.awaited))]:
-                self.say(row, True)
-        self.broken(number, time, False)
-
-    def broken(self, number: int, time: int, closed: bool) -> None:
-        """The rows that the step of a number broke."""
-        rows = self.ends.pop(number, ())
-        for row in rows:
-            case = Case(self.table, self.table.rows[row], self.events, time, closed, self.at, self.time_format)
-            reason = self.table.rows[row].type.reason(case)
-            self.open[row] = case, reason or Reason(lambda ended: UNKNOWN)
-            if reason is None or all(map(case.came, reason.awaited)):
-                self.say(row, True)
-        if rows:
-            self.needed = self.needs()
-
-    def say(self, row: int, ended: bool) -> None:
-        """The reason of a row, now that nothing more is awaited."""
-        case, reason = self.open.pop(row)
-        about = tuple((one.signal, case.time(one)) for one in reason.about if case.came(one))
-        waits = not ended and not all(map(case.came, reason.awaited))
-        self.said[row] = Why(reason.say(ended), about, Late(case, reason) if waits else None)
-        self.needed = self.needs()
-
-    @property
-    def done(self) -> bool:
-        """Is there nothing more to look for?"""
-        return not self.ends and not self.open
-
-
-def reasons_of(table: Table, steps: Iterable[Step], found: Run, at: Callable[[int], str], time_format: TimeFormat,
-               ended: bool = True) -> dict[int, Why]:
-    """Why each broken row is broken, from the same steps once more. Unless the log is at its end, what has not come may still."""
-    reasons = _Reasons(table, found, at, time_format)
-    number, last = 0, Step(None, 0, 0)
-    for number, last in enumerate(steps, 1):
-        reasons.take(number, last)
-        if reasons.done:
-            break
-    reasons.broken(number + 1, last.time, True)
-    for row in list(reasons.open):
-        reasons.say(row, ended)
-    return reasons.said
-
-
 def _without(log: Log) -> AbstractContextManager[None]:
     """Nothing that watches a log."""
     return nullcontext()
 
 
+@dataclass
+class _Checked:
+    """What a log gave: for each row what was found and the word for it, the number of steps, the last one, and the library's page."""
+
+    verdicts: list[RowVerdict]
+    words: list[str]
+    steps: int
+    last: Step
+    page: str | None = None
+    measures: list[Measure] | None = None
+
+
 def check(table: Table, path: str | Sequence[str], policy: Policy = Policy(), progress: Progress | None = None, exercised: bool = False,
-          measured: bool = False) -> Outcome:
+          measured: bool = False, violations: str | None = None) -> Outcome:
     """Checks a log, or several files that are one, against a table, and measures its rows if asked. Nothing of the log is kept: where
-    a row is broken, or for measuring, it is read a second time."""
-    log = Log(path, table, policy)
-    outcome = Outcome(log.path, log.word, closed=policy.close, exercised=exercised, files=log.files)
-    measuring, bar, why = Measuring(table) if measured else None, progress or _without, {}
+    a row is broken, or for measuring, it is read a second time. ``violations`` is a file for every instance that is not as asked."""
+    log, started = Log(path, table, policy), clock.perf_counter()
+    outcome = Outcome(log.path, log.word, closed=policy.close and not policy.scope.cut_end, exercised=exercised, files=log.files)
+    outcome.started = datetime.now(timezone.utc).strftime("%Y-%m-%dT%H:%M:%S")
+    partly = policy.scope.cut_begin or policy.scope.cut_end or any(row.window is not None for row in table.rows)
     try:
-        with bar(log):
-            found, monitor = run_log(table, log, policy.close)
-        outcome.counts, outcome.time_format = log.counts, log.time_format
-        outcome.warnings = warnings(table, log, found.seen)
-        if found.broken or measuring is not None:
-            with bar(log):
-                # A log that has grown since is read as far as before.
-                again = _noted(islice(log.steps(), found.steps - policy.close), found, policy.close)
-                steps = again if measuring is None else measuring.taking(again)
-                why = reasons_of(table, steps, found, log.at, outcome.time_format, policy.close)
-                deque(steps if measuring is not None else (), maxlen=0)
+        found = (_check_scoped if partly else _check_whole)(table, log, outcome, progress or _without, measured, violations)
+        _fill(table, log, outcome, found)
     except LogError as error:
         outcome.error = str(error)
-        return outcome
     except OSError as error:
         outcome.error = f"{error.filename or log.path}: {error.strerror or error}"
-        return outcome
     except StepRefused as refused:
         outcome.error = f"{log.placed(refused.step.place)}: {_refusal(table, log.time_format, refused)}"
         outcome.refused = refused.refusal.number
-        return outcome
-    outcome.steps, outcome.clock, outcome.page = found.steps, outcome.time_format.stamp(found.last.time), monitor.page()
-    outcome.rows = [_row(table, log, number, found, why, outcome.time_format) for number in range(len(table.rows))]
-    for row, measure in zip(outcome.rows, [] if measuring is None else measuring.end(found.last.time, policy.close)):
-        row.measured = described(measure, outcome.time_format.stamp, log.at)
-    for row in outcome.rows:
-        if row.verdict != "broken":
-            row.verdict = monitor.verdict(row.number).word + ("" if row.instances else IDLE)
+    outcome.seconds = clock.perf_counter() - started
     return outcome
 
 
-def _row(table: Table, log: Log, number: int, found: Run, why: dict[int, Why], time_format: TimeFormat) -> RowOutcome:
+def _check_whole(table: Table, log: Log, outcome: Outcome, bar: Progress, measured: bool, violations: str | None) -> _Checked:
+    """A log whose end is closed or left open, and whose beginning is taken as it is."""
+    close, why = log.policy.close, {}
+    with bar(log):
+        found, monitor = run_log(table, log, close)
+    _note_read(table, log, outcome, found.seen)
+    measuring = Measuring(table) if measured or violations is not None else None
+    with _spooled(table, log, outcome, measuring, violations):
+        if found.broken or measuring is not None:
+            with bar(log):
+                # A log that has grown since is read as far as before.
+                again = _noted(islice(log.steps(), found.steps - close), found, close)
+                steps = again if measuring is None else measuring.taking(again)
+                why = reasons_of(table, steps, found.breaks, log.at, outcome.time_format, close)
+                deque(steps if measuring is not None else (), maxlen=0)
+        measures = None if measuring is None else measuring.end(found.last.time, close)
+    verdicts = [_verdict(row, found, number, why.get(number)) for number, row in enumerate(table.rows)]
+    words = [monitor.verdict(number).word for number in range(len(table.rows))]
+    return _Checked(verdicts, words, found.steps, found.last, monitor.page(), measures)
+
+
+def _verdict(row: Row, found: Run, number: int, why: Explanation | None) -> RowVerdict:
+    """What a run found of a row."""
+    verdict = RowVerdict(why=why, events=sum(found.seen[signal] for signal in row.signals),
+                         instances=judged(row.type, row.values, found.seen))
+    if number in found.broken:
+        step = found.broken[number][1]
+        verdict.broken, verdict.by_close = (found.broken[number][0], step or found.last), step is None
+    return verdict
+
+
+def _check_scoped(table: Table, log: Log, outcome: Outcome, bar: Progress, measured: bool, violations: str | None) -> _Checked:
+    """A log that is cut, or a table with windows: each row by monitors of its own."""
+    close, scope = log.policy.close, log.policy.scope
+    judging = Judging(table, scope, close, log.at, lambda: log.time_format)
+    with bar(log):
+        verdicts = judging.run(log.steps())
+    _note_read(table, log, outcome, judging.seen)
+    measuring = ScopedMeasuring(table, scope, close, verdicts) if measured or violations is not None else None
+    with _spooled(table, log, outcome, measuring, violations):
+        if measuring is not None:
+            with bar(log):
+                deque(measuring.walk(islice(log.steps(), judging.steps)), maxlen=0)
+            measuring.finish()
+    words = []
+    for row, verdict in zip(table.rows, verdicts):
+        cut = scope.cut_begin or scope.cut_end or row.window is not None and scope.cut_windows
+        words.append("broken" if verdict.broken is not None else SO_FAR if cut else "kept" if close else "open")
+    closed = close and not scope.cut_end
+    return _Checked(verdicts, words, judging.steps + closed, judging.last, None, None if measuring is None else measuring.measures)
+
+
+@contextmanager
+def _spooled(table: Table, log: Log, outcome: Outcome, measuring: Measuring | ScopedMeasuring | None, path: str | None) -> Iterator[None]:
+    """Has the violations written to a file while rows are measured, if there is one."""
+    if path is None or measuring is None:
+        yield
+        return
+    spool = Spool(path, log.path, outcome.time_format.stamp, log.placed, log.reader.number)
+    for number, measure in enumerate(measuring.measures):
+        row = table.rows[number]
+        measure.note = spool.row(number, row.name or f"row {number}", row.type.name, measure)
+    try:
+        yield
+    finally:
+        outcome.violations = spool.close()
+
+
+def _note_read(table: Table, log: Log, outcome: Outcome, seen: Counter[int | None]) -> None:
+    """What was read of a log, and what it does not have; an error where its scope never begins."""
+    scope = log.policy.scope
+    outcome.counts, outcome.time_format = log.counts, log.time_format
+    if not log.begun and scope.begin is not None:
+        why = f"no {scope.begin.text} came" if scope.begin.kind is not None else f"the log ends before {scope.begin.text}"
+        raise LogError(log.path, "", f"{why}, so nothing was checked (--from {scope.begin.text})")
+    windows = dict.fromkeys(window_text(table, row) for row in table.rows if row.window is not None)
+    outcome.scope = scope.words(log.policy.close, windows, log.ended)
+    outcome.warnings = warnings(table, log, seen)
+
+
+def _fill(table: Table, log: Log, outcome: Outcome, found: _Checked) -> None:
+    """The rows of an outcome."""
+    outcome.steps, outcome.clock, outcome.page = found.steps, outcome.time_format.stamp(found.last.time), found.page
+    for number, (verdict, word) in enumerate(zip(found.verdicts, found.words)):
+        row = _row(table, log, number, verdict, outcome.time_format)
+        row.verdict = word if word == "broken" or verdict.instances else word + IDLE
+        if found.measures is not None:
+            measure = found.measures[number]
+            row.measured, row.violations = described(measure, outcome.time_format.stamp, log.at), measure.outside + measure.missing
+        outcome.rows.append(row)
+
+
+def _row(table: Table, log: Log, number: int, found: RowVerdict, time_format: TimeFormat) -> RowOutcome:
     row = table.rows[number]
-    outcome = RowOutcome(number, row.name or f"row {number}", row.type.name, "open", sum(found.seen[kind] for kind in row.signals),
-                         judged(row.type, row.values, found.seen))
-    if number not in found.broken:
+    outcome = RowOutcome(number, row.name or f"row {number}", row.type.name, "open", found.events, found.instances,
+                         not_yet_due=found.not_yet_due, left_out=found.left_out, stretches=None if row.window is None else found.stretches)
+    if found.broken is None or found.why is None:
         return outcome
-    outcome.step, step = found.broken[number]
-    outcome.verdict, outcome.by_close = "broken", step is None
-    step = step or found.last
+    outcome.step, step = found.broken
+    outcome.by_close = found.by_close
     outcome.place, outcome.time, outcome.where = log.reader.number(step.place), time_format.stamp(step.time), log.placed(step.place)
-    at = "at the end" if outcome.by_close else f"at {time_format.at(step.time)}"
-    outcome.reason = why[number].text if number in why else UNKNOWN
-    outcome.about = [(kind, time_format.stamp(time)) for kind, time in why[number].about] if number in why else []
+    at = f"at {time_format.at(step.time)}" if not found.by_close else "at the end" if row.window is None else "at the end of its stretch"
+    outcome.reason = found.why.text
+    outcome.about = [(signal, time_format.stamp(time)) for signal, time in found.why.about]
     outcome.message = f"{outcome.where}: {table.row_name(number)} ({row.type.name}) broken {at}: {outcome.reason}"
     return outcome
 
 
 def _refusal(table: Table, time_format: TimeFormat, refused: StepRefused) -> str:
     """What to do about a refused step."""
-    kind, number = refused.step.kind, refused.refusal.number
-    what = "the clock" if kind is None else table.event_name(kind)
+    signal, number = refused.step.signal, refused.refusal.number
+    what = "the clock" if signal is None else table.event_name(signal)
     text = f"{what} at {time_format.at(refused.step.time)} {refused.refusal}"
     if number == 10:
         return text + "; --from-zero counts the stamps from the first one"
-    if number == 12 and kind is not None:
-        rows = [f"{table.row_name(number)}" for number, row in enumerate(table.rows) if _waits(row, kind)]
+    if number == 12 and signal is not None:
+        rows = [f"{table.row_name(number)}" for number, row in enumerate(table.rows) if _waits(row, signal)]
         return text + f" (one of {', '.join(rows)}): ask for less patience there" if rows else text
     return text
 

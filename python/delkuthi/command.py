@@ -14,7 +14,7 @@ from typing import IO, Any, Iterator, Sequence
 from . import library as lib
 from .check import Outcome, check
 from .database import DatabaseError
-from .html_page import Pictured, as_html
+from .html_page import as_html, pictured
 from .library import LibraryMissing, Refused
 from .logs import Log, LogError, Policy
 from .measured import text_lines
@@ -22,11 +22,12 @@ from .monitor import report
 from .log_commands import join_logs, late_stamps, record, shrink
 from .output import as_json, as_junit, as_text, overall
 from .plot import PlotMissing, write_plot
+from .provenance import provenance
 from .options import add_databases, add_options, policy, read_table
 from .readers.standard_input import NAME, kept
 from .table import Table, is_bytes
 from .text import TextError, grammar
-from .timeline import close_up, gather, overview
+from .timeline import gather, overview
 from .trace import write_trace
 from .units import UNITS
 from .writing import NotWritten, complain, give_up_output, out, write
@@ -108,7 +109,8 @@ def _check(given: argparse.Namespace) -> int:
     if given.junit:
         write(given.junit, as_junit(table, outcomes))
     if given.html:
-        write(given.html, as_html(table, given.table, [pictured(table, how, outcome) for outcome in outcomes]))
+        made = provenance(table, given.table, [outcome.files for outcome in outcomes], given.words, given.note)
+        write(given.html, as_html(table, given.table, [pictured(table, how, outcome) for outcome in outcomes], made))
     if given.plot:
         _plot(given.plot, table, how, outcomes)
     if given.trace:
@@ -129,14 +131,6 @@ def _tell(given: argparse.Namespace, table: Table, outcome: Outcome) -> None:
         out(as_text(outcome, given.page, given.quiet))
         rows = [(table.row_name(row.number), row.measured) for row in outcome.rows if row.measured is not None]
         out("".join(f"  {line}\n" for line in text_lines(rows, table.unit)) if given.measure else "")
-
-
-def pictured(table: Table, how: Policy, outcome: Outcome) -> Pictured:
-    """An outcome, the picture of its log, and one close up for each broken row; the log is read once more."""
-    if outcome.error is not None:
-        return outcome, None, {}
-    gathered = gather(table, Log(outcome.files, table, how).steps(), outcome)
-    return outcome, overview(table, gathered, outcome), {row.number: close_up(table, gathered, outcome, row) for row in outcome.broken}
 
 
 def _files(path: str, outcomes: Sequence[Outcome]) -> Iterator[tuple[str, Outcome]]:
@@ -198,10 +192,11 @@ def _watch(given: argparse.Namespace) -> int:
 
 
 def _program() -> int:
-    """What the program does: the report on table.bin and recording.bin."""
+    """Does what the program does: prints the report on table.bin, of edition 1, and recording.bin."""
     files = [Path(name).read_bytes() if Path(name).is_file() else b"" for name in ("table.bin", "recording.bin")]
     large = len(files[0]) > lib.TABLE_LIMIT or len(files[1]) > lib.RECORDING_LIMIT
-    text = "refused 17 0\n" if large else report(files[0], files[1])
+    later = files[0][:1] > b"\x01"
+    text = "refused 17 0\n" if large else "refused 1 0\n" if later else report(files[0], files[1])
     if not files[0]:
         complain("delkuthi: there is no table.bin here; delkuthi --help says what else there is")
     out(text)
@@ -213,6 +208,14 @@ def _positive(text: str) -> int:
     if not (text.isascii() and text.isdecimal() and len(text) < 10 and int(text) > 0):
         raise argparse.ArgumentTypeError(f"expected a whole number from 1 on, found {text}")
     return int(text)
+
+
+def _note(text: str) -> tuple[str, str]:
+    """A note for the page, by its name."""
+    name, equal, value = text.partition("=")
+    if not (name.strip() and equal):
+        raise argparse.ArgumentTypeError(f"expected NAME=TEXT such as build=1234, found {text}")
+    return name.strip(), value.strip()
 
 
 def _seconds(text: str) -> float:
@@ -248,6 +251,7 @@ def _add_check(commands: Any) -> None:
     one.add_argument("--junit", metavar="FILE", help="a JUnit file for all logs")
     one.add_argument("--page", action="store_true", help="the library's printed page instead of the messages")
     one.add_argument("--html", metavar="FILE", help="a page with pictures that needs no network")
+    one.add_argument("--note", metavar="NAME=TEXT", type=_note, action="append", default=[], help="say this on the page, such as build=1234")
     one.add_argument("--plot", metavar="FILE", help="a picture: SVG, or PNG by matplotlib")
     one.add_argument("--trace", metavar="FILE", help="a trace for Perfetto or chrome://tracing")
     one.add_argument("--jobs", metavar="N", type=_positive, default=1, help="check so many logs at a time")
@@ -318,6 +322,7 @@ def _run(words: Sequence[str]) -> int:
         return _program()
     parser = _parser()
     given = parser.parse_args(words)
+    given.words = words
     if given.version:
         out(f"delkuthi {lib.VERSION}, library {lib.library_version()}\n")
         return KEPT

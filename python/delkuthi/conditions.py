@@ -8,7 +8,8 @@ import re
 from dataclasses import dataclass
 from decimal import Decimal
 from fractions import Fraction
-from typing import Callable, Union
+from itertools import chain
+from typing import Callable, Sequence, Union
 
 #: What a sample is: a number, or text where it is none.
 Sample = Union[int, float, Decimal, Fraction, str]
@@ -17,6 +18,7 @@ Sample = Union[int, float, Decimal, Fraction, str]
 WORDS = {"rises above": True, "falls below": True, "becomes": True, "changes": False}
 #: What a value of a condition looks like.
 VALUE = r"-?[0-9]{1,40}(?:\.[0-9]{1,40})?"
+_BECOMES_TRUE = re.compile(b"\\x00\\x01")
 
 
 @dataclass(frozen=True)
@@ -53,18 +55,24 @@ class Condition:
 
 
 class Edge:
-    """A condition over samples that come one after the other."""
+    """A condition over samples that come one after the other: an event is where it becomes true, or a change where each change is one.
+    The first sample is never one."""
 
     def __init__(self, condition: Condition):
         self._holds = condition.holds()
-        self._before: Sample | bool | None = None
+        self._before: Sample | None = None
 
     def take(self, sample: Sample) -> bool:
         """Is this sample an event?"""
-        before = self._before
+        return bool(self.events([sample if self._holds is None else self._holds(sample)]))
+
+    def events(self, states: Sequence[Sample]) -> list[int]:
+        """The places of events among states: whether the condition holds, sample by sample, or the samples where each change is one."""
+        first = self._before
+        if states:
+            self._before = states[-1]
         if self._holds is None:
-            self._before = sample
-            return before is not None and sample != before
-        now = self._holds(sample)
-        self._before = now
-        return now and before is False
+            befores = chain((first,), states)
+            return [place for place, (before, now) in enumerate(zip(befores, states)) if now != before and before is not None]
+        # As bytes, in which a true one behind a false one is soon found.
+        return [match.start() for match in _BECOMES_TRUE.finditer(bytes([first is not False, *states]))]  # type: ignore[list-item]

@@ -1,16 +1,20 @@
 """Signals by name: where a DBC or ARXML file says that they stand in a frame. canmatrix reads the file."""
 from __future__ import annotations
 
-import difflib
 import logging
+import math
 import struct
 import warnings
 from contextlib import contextmanager
 from dataclasses import dataclass
 from fractions import Fraction
-from typing import Any, Callable, Iterable, Iterator, Union
+from typing import Any, Callable, Iterable, Iterator, Sequence, Union
+
+from .spelling import did_you_mean
 
 Raw = Union[int, float]
+#: What reads a signal's raw values from the data of frames, one behind the other.
+Raws = Callable[[Sequence[bytes]], "list[Raw | None]"]
 
 
 class DatabaseError(Exception):
@@ -18,24 +22,21 @@ class DatabaseError(Exception):
 
 
 @dataclass(frozen=True)
-class Located:
-    """A signal in a frame: the frame's identifier, what reads its raw value from the data (``None``: it is not in this frame), how
-    that becomes its value, and the names of raw values."""
+class SignalLayout:
+    """A signal in a frame: the frame's identifier, what reads its raw values from the data of frames (``None``: one does not have it), how
+    these become its values, and which raw values each name stands for."""
 
     name: str
     identifier: int
     extended: bool
-    raw: Callable[[bytes], "Raw | None"]
+    raws: Raws
+    floating: bool
     factor: Fraction
     offset: Fraction
-    names: dict[str, int]
+    names: dict[str, tuple[int, ...]]
 
-    def value(self, data: bytes) -> Fraction | None:
-        """The signal's value in the data of a frame, exactly; ``None`` if this frame does not have it."""
-        raw = self.raw(data)
-        # Infinity and what is no number cannot be compared.
-        if raw is None or isinstance(raw, float) and (raw != raw or raw in (float("inf"), float("-inf"))):
-            return None
+    def value(self, raw: Raw) -> Fraction:
+        """The signal's value, exactly."""
         return Fraction(raw) * self.factor + self.offset
 
 
@@ -51,7 +52,7 @@ class Database:
                     for name in (f"{frame.name}.{signal.name}", signal.name):
                         self._signals.setdefault(name, []).append((frame, signal))
 
-    def located(self, name: str) -> Located:
+    def layout(self, name: str) -> SignalLayout:
         """Where a signal stands; :class:`DatabaseError` if it is unknown, or in several frames."""
         found = self._signals.get(name, [])
         places = {(frame.arbitration_id.id, frame.arbitration_id.extended) for frame, _ in found}
@@ -59,13 +60,13 @@ class Database:
             frames = sorted({frame.name for frame, _ in found})
             raise DatabaseError(f"{self.path}: the signal {name} is in several frames: {', '.join(frames)}")
         if not found:
-            near = difflib.get_close_matches(name, self._signals, 1)
-            hint = f" (did you mean {near[0]}?)" if near else ""
-            raise DatabaseError(f"{self.path}: there is no signal {name}{hint}")
+            raise DatabaseError(f"{self.path}: there is no signal {name}{did_you_mean(name, self._signals)}")
         frame, signal = found[0]
-        names = {str(text): int(raw) for raw, text in signal.values.items()}
-        return Located(name, frame.arbitration_id.id, bool(frame.arbitration_id.extended), _reader(frame, signal),
-                       Fraction(signal.factor), Fraction(signal.offset), names)
+        names: dict[str, tuple[int, ...]] = {}
+        for raw, text in signal.values.items():
+            names[str(text)] = (*names.get(str(text), ()), int(raw))
+        return SignalLayout(name, frame.arbitration_id.id, bool(frame.arbitration_id.extended), _reader(frame, signal),
+                            bool(signal.is_float), Fraction(signal.factor), Fraction(signal.offset), names)
 
 
 @contextmanager
@@ -99,17 +100,17 @@ def _matrices(path: str) -> list[Any]:
     return matrices
 
 
-def _reader(frame: Any, signal: Any) -> Callable[[bytes], "Raw | None"]:
-    """What reads a signal's raw value: only where the frame has the multiplexer's value that belongs to it."""
-    raw = _bits(signal)
+def _reader(frame: Any, signal: Any) -> Raws:
+    """What reads a signal's raw values: only where the frame has the multiplexer's value that belongs to it."""
+    raws = _bits(signal)
     muxer, wanted = _multiplexer(frame, signal)
     if muxer is None:
-        return raw
+        return raws
     selected = _reader(frame, muxer)
 
-    def read(data: bytes) -> Raw | None:
-        number = selected(data)
-        return raw(data) if number is not None and any(low <= number <= high for low, high in wanted) else None
+    def read(data: Sequence[bytes]) -> list[Raw | None]:
+        return [raw if number is not None and any(low <= number <= high for low, high in wanted) else None
+                for number, raw in zip(selected(data), raws(data))]
 
     return read
 
@@ -126,20 +127,32 @@ def _multiplexer(frame: Any, signal: Any) -> tuple[Any, list[tuple[int, int]]]:
     return next(iter(muxers), None), [(signal.mux_val, signal.mux_val)]
 
 
-def _bits(signal: Any) -> Callable[[bytes], "Raw | None"]:
-    """What takes a signal's bits out of the data of a frame. canmatrix counts the first bit of a little-endian signal from the lowest
+def _bits(signal: Any) -> Raws:
+    """What takes a signal's bits out of the data of frames. canmatrix counts the first bit of a little-endian signal from the lowest
     bit of the first byte, and that of a big-endian one from the highest."""
     start, size, little = int(signal.start_bit), int(signal.size), bool(signal.is_little_endian)
-    mask, sign = (1 << size) - 1, 1 << (size - 1) if signal.is_signed and not signal.is_float else 0
-    order, form = ("little", "big")[not little], {32: ">f", 64: ">d"}.get(size)
+    mask, half = (1 << size) - 1, 1 << (size - 1) if signal.is_signed and not signal.is_float else 0
+    order: Any = "little" if little else "big"
+    form = {32: ">f", 64: ">d"}.get(size) if signal.is_float else None
 
-    def read(data: bytes) -> Raw | None:
-        width = len(data) * 8
-        if start + size > width:
-            return None
-        number = int.from_bytes(data, order) >> (start if little else width - start - size) & mask  # type: ignore[arg-type]
-        if signal.is_float and form is not None:
-            return struct.unpack(form, number.to_bytes(size // 8, "big"))[0]  # type: ignore[no-any-return]
-        return number - (1 << size) if number & sign else number
+    def shift(length: int) -> int | None:
+        """How many bits stand behind the signal in data of a length; ``None`` if that is too short."""
+        return None if start + size > length * 8 else start if little else length * 8 - start - size
+
+    def read(data: Sequence[bytes]) -> list[Raw | None]:
+        behind = {length: shift(length) for length in set(map(len, data))}
+        if len(behind) == 1 and None not in behind.values():
+            bits = behind.popitem()[1]
+            found = [int.from_bytes(one, order) >> bits & mask for one in data]  # type: ignore[operator]
+            if half:
+                return [(number ^ half) - half for number in found]
+            return [_floating(number, form, size) for number in found] if form else found  # type: ignore[return-value]
+        return [None if behind[len(one)] is None else read([one])[0] for one in data]
 
     return read
+
+
+def _floating(number: int, form: str, size: int) -> float | None:
+    """The number that some bits are; ``None`` for infinity and what is no number, which cannot be compared."""
+    found: float = struct.unpack(form, number.to_bytes(size // 8, "big"))[0]
+    return found if math.isfinite(found) else None

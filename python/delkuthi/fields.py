@@ -21,6 +21,8 @@ import re
 from dataclasses import dataclass, field
 from typing import TYPE_CHECKING, Callable, Iterator
 
+from .beginnings import Beginning
+
 if TYPE_CHECKING:
     from .measure import RowMeasuring
     from .reasons import Case, Reason, Times, Window
@@ -62,12 +64,18 @@ class RowType:
     each: str = field(compare=False)
     #: Why a row is broken, where its events may come, and what takes its measure.
     reason: Callable[[Case], Reason | None] = field(compare=False)
+    #: Forgets the events of a row that is not broken which cannot matter any more.
+    forget: Callable[[Case], None] = field(compare=False)
     windows: Callable[[Row, Times], Iterator[Window]] = field(compare=False)
     measuring: Callable[[Row], RowMeasuring] = field(compare=False)
     #: The field of which each event is an instance to be judged, and how many events come before the first instance.
     instance: tuple[str, int | str] = field(compare=False)
     #: Whether something waits in such a row.
     waits: bool = field(default=False, compare=False)
+    #: How many instances of a row that is not broken had no partner yet, where the library does not count them.
+    pending: Callable[[Case], int] = field(default=lambda case: 0, compare=False)
+    #: How it takes a log that begins in the middle of something longer.
+    beginning: Beginning = field(default=Beginning(), compare=False)
     #: A row for the manual: its name, what follows the type, and when each event comes, in ms, of a coloured kind with the colour.
     #: The events meet the row at first and break it then. ``release/row-types.py`` makes examples/rows of it.
     example: Example = field(default=NO_EXAMPLE, compare=False)

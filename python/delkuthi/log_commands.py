@@ -6,11 +6,13 @@ from dataclasses import replace
 from itertools import islice
 from typing import Iterable, Iterator, Sequence
 
-from .check import reasons_of, run
+from .check import run
+from .explain import reasons_of
 from .library import LAST_TIME, Refused
 from .logs import Log, LogError, Step
 from .monitor import JoinRefused, Monitor, join, stamps
-from .options import policy, read_table, time_of
+from .options import policy, read_table, refuse_windows, time_of
+from .readers.recordings import RecordingReader
 from .recording import Record, recording_bytes
 from .shrink import shortest, stretch_to
 from .table import Table
@@ -28,7 +30,7 @@ def accepted(log: Log, steps: Iterable[Step]) -> Iterator[Step]:
 
 
 def _refused(log: Log, step: Step, number: int) -> LogError:
-    what = "the clock" if step.kind is None else log.table.event_name(step.kind)
+    what = "the clock" if step.signal is None else log.table.event_name(step.signal)
     return log.error(step.place, f"{what} at {log.time_format.at(step.time)} {Refused(number)}")
 
 
@@ -57,12 +59,18 @@ def join_logs(given: argparse.Namespace) -> int:
     logs = [Log(path, table, how) for path in given.log]
     steps = [list(accepted(log, log.steps())) for log in logs]
     start = min(log.time_format.stamp(log.time_format.start) for log in logs) if given.from_zero else 0
-    first, second = (recording_bytes(_recorded(log, some, start)) for log, some in zip(logs, steps))
+    first, second = (_joined_part(log, some, start) for log, some in zip(logs, steps))
     try:
         write(given.output, join(first, second))
     except JoinRefused as refusal:
         raise LogError(given.log[refusal.second], "", _common(table, refusal, second)) from None
     return 0
+
+
+def _joined_part(log: Log, steps: list[Step], start: int) -> bytes:
+    """A log as the recording that is joined; a recording keeps its version."""
+    version = log.reader.version if isinstance(log.reader, RecordingReader) else 1
+    return recording_bytes(_recorded(log, steps, start), version)
 
 
 def _common(table: Table, refusal: JoinRefused, second: bytes) -> str:
@@ -88,6 +96,7 @@ def shrink(given: argparse.Namespace) -> int:
     """``delkuthi shrink``: 0 if the log keeps the row, 1 if it breaks it."""
     table = read_table(given, True)
     row = row_number(table, given.row)
+    refuse_windows(table, given.table, [row], "shrink does not take it")
     log = Log(given.log, table, policy(given, table))
     steps = list(accepted(log, log.steps()))
     name, alone = table.row_name(row), table.alone(row)
@@ -100,7 +109,7 @@ def shrink(given: argparse.Namespace) -> int:
         out(f"{given.log}: {name} is broken by the end of the log alone: no {log.word} before it breaks the row\n")
         return 1
     end = number - 1
-    why = reasons_of(alone, steps, found, log.at, log.time_format)[0]
+    why = reasons_of(alone, steps, {0: number}, log.at, log.time_format)[0]
     start = stretch_to(table, row, steps, end, why.about)
     if start is not None:
         _tell(log, row, steps, start, end, f"{name} broke at {log.at(step.place)}: {why.text}")
@@ -114,7 +123,7 @@ def shrink(given: argparse.Namespace) -> int:
 def _tell(log: Log, row: int, steps: Sequence[Step], first: int, last: int, what: str) -> None:
     """The lines of a stretch that are events of the row, and the last one."""
     signals, stretch = log.table.rows[row].signals, steps[first : last + 1]
-    matter = [step for step in stretch[:-1] if step.kind in signals] + list(stretch[-1:])
+    matter = [step for step in stretch[:-1] if step.signal in signals] + list(stretch[-1:])
     lines = f"{log.word} {stretch[0].place} is" if len(stretch) == 1 else f"{log.word}s {stretch[0].place} to {stretch[-1].place} are"
     out(f"{log.path}: {what}\n{log.path}: {lines} enough, {len(stretch)} of {len(steps)} steps; the row's events among them, and the last:\n")
     out("".join(_lines(log, matter)))
@@ -136,13 +145,14 @@ def late_stamps(given: argparse.Namespace) -> int:
     """``delkuthi stamps``: 0 if the row is kept, 1 if it is broken or unsure."""
     table = read_table(given, True)
     row, late = row_number(table, given.row), time_of("LATE", given.late, table)
+    refuse_windows(table, given.table, [row], "stamps does not take it")
     log = Log(given.log, table, policy(given, table))
     steps = list(accepted(log, log.steps()))
     # A true time is not below 0: with room for the lateness the answer does not depend on where the stamps begin.
     room = late if not log.policy.as_stamped and steps and steps[-1].time + late <= LAST_TIME else 0
     try:
         recording = recording_bytes((kind, time + room) for kind, time, _ in steps)
-        word = stamps(table, recording, row, late) if table.whole else stamps(table.alone(row), recording, 0, late)
+        word = stamps(table.alone(row), recording, 0, late)
     except Refused as refusal:
         what = "LATE" if refusal.number == 10 else "ROW"
         raise LogError(what, "", f"{table.row_name(row)}: {Refused(refusal.number)}") from None

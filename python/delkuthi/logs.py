@@ -7,13 +7,15 @@ from __future__ import annotations
 
 from dataclasses import dataclass
 from functools import partial
-from itertools import islice
+from itertools import groupby, islice
+from operator import itemgetter
 from pathlib import Path
-from typing import Callable, Iterable, Iterator, NamedTuple, Sequence
+from typing import Callable, Generator, Iterable, Iterator, NamedTuple, Sequence
 
 from .batches import OTHER, Batch, Codes, NeedsSlowPath, ends, last_kept, level, rising
 from .time_format import TimeFormat
 from .readers import Lines, LogError, Policy, Stamped, reader
+from .scope import Edge
 from .table import Table
 
 __all__ = ["Chunk", "Counts", "Log", "LogError", "Policy", "Step"]
@@ -22,10 +24,9 @@ CHUNK = 1024
 
 
 class Step(NamedTuple):
-    """A step that a log gives: an event, whose ``kind`` is the number of its signal, or a tick if that is ``None``;
-    ``place`` is its line."""
+    """A step that a log gives: an event, by the number of its signal, or a tick if that is ``None``; ``place`` is its line."""
 
-    kind: int | None
+    signal: int | None
     time: int
     place: int
 
@@ -53,8 +54,8 @@ class Counts:
     #: Lines that say nothing, and stamps that were rounded.
     skipped: int = 0
     rounded: int = 0
-    #: Lines of a scheduler trace about something that no table can name; they move the clock.
-    passed: int = 0
+    #: Lines about something that no table can name, such as the load of a bus; they move the clock.
+    other_lines: int = 0
 
 
 class Log:
@@ -68,6 +69,8 @@ class Log:
         self.path = self.reader.path
         self.word = self.reader.word
         self.counts, self.time_format = Counts(), TimeFormat(table.unit)
+        #: Was the beginning of the scope found, and its end?
+        self.begun, self.ended = True, False
         #: Called with the number of bytes of each line, where they are known, for a progress bar.
         self.progress: Callable[[int], object] | None = None
 
@@ -93,7 +96,47 @@ class Log:
         return self.reader.buses
 
     def steps(self) -> Iterator[Step]:
-        """The steps of the log, in the order of time, each with its place."""
+        """The steps of the log, in the order of time, each with its place; of a part of it where that is asked for."""
+        return self._scoped(self._all_steps()) if self._partly else self._all_steps()
+
+    @property
+    def _partly(self) -> bool:
+        """Is a part of the log asked for?"""
+        return self.policy.scope.begin is not None or self.policy.scope.end is not None
+
+    def _scoped(self, steps: Generator[Step, None, None]) -> Iterator[Step]:
+        """The steps from the beginning of the scope to its end, both included. The clock goes on to an end that is a time, if the
+        log does."""
+        scope, events, last, end = self.policy.scope, 0, None, None
+        self.begun, self.ended = scope.begin is None, False
+        for step in steps:
+            if last is None and scope.end is not None:
+                end = scope.end.moment(self.time_format.shift, self.time_format.start)
+            self.begun = self.begun or scope.begin is not None and self._reached(scope.begin, step)
+            if not self.begun:
+                continue
+            if end is not None and step.time > end:
+                self.ended = True
+                if last is not None and last.time < end:
+                    yield Step(None, end, last.place)
+                break
+            # The event that a scope begins with is not its end, where both are of one kind.
+            self.ended = scope.end is not None and step.signal in scope.end.signals and (last is not None or scope.begin is None)
+            events, last = events + (step.signal is not None), step
+            yield step
+            if self.ended:
+                break
+        steps.close()
+        self.counts.events = events
+        self._done()
+
+    def _reached(self, edge: Edge, step: Step) -> bool:
+        """Is the step at an edge of the scope, or after it?"""
+        moment = edge.moment(self.time_format.shift, self.time_format.start)
+        return step.signal in edge.signals if moment is None else step.time >= moment
+
+    def _all_steps(self) -> Generator[Step, None, None]:
+        """The steps of the whole log."""
         ordering = self._begun()
         for found, codes in self._found():
             if isinstance(found, Batch) and codes is not None:
@@ -109,6 +152,9 @@ class Log:
 
     def chunks(self, codes: Codes) -> Iterator[Chunk]:
         """The same steps, many at a time, by the codes of their signals."""
+        if self._partly:
+            yield from _chunks(self.steps(), codes)
+            return
         ordering = self._begun()
         for found, _ in self._found(codes):
             if isinstance(found, Batch):
@@ -136,7 +182,7 @@ class Log:
     def _done(self) -> None:
         """The log is at its end."""
         counts, read = self.counts, self.reader
-        counts.skipped, counts.rounded, counts.passed = read.skipped, read.rounded, read.passed
+        counts.skipped, counts.rounded, counts.other_lines = read.skipped, read.rounded, read.other_lines
 
     def _begun(self) -> Ordering:
         """The log from its beginning."""
@@ -222,32 +268,32 @@ class Ordering:
         times = [time + add for time in batch.times] if add else batch.times
         if not rising(times, self.clock):
             raise NeedsSlowPath
-        self._passed(batch, times, batch.codes, codes)
+        self._advance(batch, times, batch.codes, codes)
         numbers = map(codes.signals.__getitem__, batch.codes)
-        return map(_STEP, zip(numbers, times, range(batch.place, batch.place + len(times))))
+        return map(_STEP, zip(numbers, times, batch.places or range(batch.place, batch.place + len(times))))
 
-    def _passed(self, batch: Batch, times: Sequence[int], events: bytes, codes: Codes) -> None:
+    def _advance(self, batch: Batch, times: Sequence[int], events: bytes, codes: Codes) -> None:
         """The state after the steps of a batch."""
         self.stamp = batch.times[-1] + (self.add or 0)
-        self.counts.lines += len(batch.codes)
+        self.counts.lines += batch.lines
         self.counts.events += len(events) - events.count(OTHER)
-        self.place = batch.place + len(batch.codes) - 1
+        self.place = batch.place + batch.lines - 1
         if times:
             self.clock = self.stamp
             self.last.update((codes.numbers[code], time) for code, time in ends(times, events))
 
     def chunk(self, batch: Batch, codes: Codes) -> Chunk:
         """The steps of a batch; :class:`NeedsSlowPath` where the policy on equal stamps may have something to say."""
-        first, events, place = batch.times[0], batch.codes, batch.place + len(batch.codes) - 1
+        first, events, place = batch.times[0], batch.codes, batch.place + batch.lines - 1
         add = self._start(first) if self.add is None else self.add
         times = [time + add for time in batch.times] if add else batch.times
         # Where each line is an event that the one monitor takes, the library itself asks whether they are in order.
-        if (OTHER in events or not self.log.table.whole) and not rising(times, self.clock):
+        if (OTHER in events or not self.log.table.single) and not rising(times, self.clock):
             if times[0] < self.stamp or times[0] < self.clock:
                 raise NeedsSlowPath
-            place = batch.place + last_kept(times, events)
+            place = batch.place_of(last_kept(times, events))
             times, events = level(times, events, self.clock, {codes.of[kind] for kind, time in self.last.items() if time == self.clock})
-        self._passed(batch, times, events, codes)
+        self._advance(batch, times, events, codes)
         return Chunk(times, events, Step(None, self.clock, place))
 
     def end(self) -> Iterator[Step]:
@@ -264,8 +310,9 @@ class Ordering:
 
 def batch_lines(batch: Batch, codes: Codes) -> Iterator[Stamped]:
     """The lines of a batch, one by one."""
-    for place, (time, code) in enumerate(zip(batch.times, batch.codes), batch.place):
-        yield Stamped(time, () if code == OTHER else (codes.numbers[code],), place)
+    entries = zip(batch.places or range(batch.place, batch.place + len(batch.codes)), batch.times, batch.codes)
+    for (place, time), found in groupby(entries, itemgetter(0, 1)):
+        yield Stamped(time, tuple(codes.numbers[code] for _, _, code in found if code != OTHER), place)
 
 
 def _chunks(steps: Iterable[Step], codes: Codes) -> Iterator[Chunk]:
@@ -278,7 +325,7 @@ def _chunks(steps: Iterable[Step], codes: Codes) -> Iterator[Chunk]:
         except LogError as error:
             wrong = error
         try:
-            events = bytes([OTHER if step.kind is None else codes.of[step.kind] for step in some])
+            events = bytes([OTHER if step.signal is None else codes.of[step.signal] for step in some])
         except KeyError:
             raise NeedsSlowPath from None
         if some:

@@ -1,7 +1,7 @@
 """What each row measures, beside what it asks: latencies, distances, widths, running times, and how near they come to a limit.
 
-The steps are read once, and what is kept of them does not grow with the log. The library alone says whether a row is kept; what
-stands here is tested against it: a row that it breaks has an instance outside its limits or a missing one, a kept row has none.
+The steps are read once, and the memory that is needed does not grow with the log. The library alone says whether a row is kept; the
+measures are tested against it: a row that it breaks has an instance outside its limits or a missing one, a kept row has none.
 Once something is missing, the count of instances begins anew behind it, so that one lost answer does not put all later ones out.
 """
 from __future__ import annotations
@@ -9,14 +9,14 @@ from __future__ import annotations
 from collections import deque
 from dataclasses import dataclass, field
 from fractions import Fraction
-from typing import TYPE_CHECKING, Any, Callable, Iterable, Iterator, TypeVar
+from typing import TYPE_CHECKING, Any, Callable, Iterable, Iterator, NamedTuple, TypeVar
 
 from .library import NO_LIMIT
 
 if TYPE_CHECKING:
     from .table import Row, Table
 
-#: How many sources or groups are kept while they wait; of more than these the oldest counts as missing.
+#: How many groups, or events of a Synchronization, wait at a time; of more than these the oldest counts as missing.
 WAITING = 4096
 #: How many bins of a histogram may have something in them.
 BINS = 64
@@ -28,29 +28,35 @@ class Histogram:
 
     width: int = 1
     counts: dict[int, int] = field(default_factory=dict)
+    #: The bins that have a value outside what is asked.
+    outside: set[int] = field(default_factory=set)
 
-    def add(self, value: int) -> None:
-        """One more value."""
+    def add(self, value: int, outside: bool = False) -> None:
+        """One more value, which may be outside what is asked."""
         place = value // self.width
         self.counts[place] = self.counts.get(place, 0) + 1
+        if outside:
+            self.outside.add(place)
         while len(self.counts) > BINS:
             self.width *= 2
             wider: dict[int, int] = {}
             for place, count in self.counts.items():
                 wider[place // 2] = wider.get(place // 2, 0) + count
-            self.counts = wider
+            self.counts, self.outside = wider, {place // 2 for place in self.outside}
 
-    def bars(self, most: int = 32) -> tuple[int, int, list[int]]:
-        """At most so many bars side by side: where the first begins, how wide each is, and their counts."""
+    def bars(self, most: int = 32) -> tuple[int, int, list[int], list[bool]]:
+        """At most so many bars side by side: where the first begins, how wide each is, their counts, and whether a value of each is
+        outside."""
         if not self.counts:
-            return 0, self.width, []
+            return 0, self.width, [], []
         first, last, factor = min(self.counts), max(self.counts), 1
         while last // factor - first // factor >= most:
             factor *= 2
         bars = [0] * (last // factor - first // factor + 1)
         for place, count in self.counts.items():
             bars[place // factor - first // factor] += count
-        return first // factor * factor * self.width, factor * self.width, bars
+        outside = {place // factor - first // factor for place in self.outside}
+        return first // factor * factor * self.width, factor * self.width, bars, [bar in outside for bar in range(len(bars))]
 
 
 @dataclass
@@ -61,6 +67,34 @@ class Instance:
     time: int
     place: int
     margin: int | None
+
+
+#: The time and the place of an event.
+Moment = tuple[int, int]
+
+
+class Finding(NamedTuple):
+    """An instance that is not as asked.
+
+    ``violation`` is ``outside`` for one with a value that is not as asked, or ``missing``, and ``what`` says in a few words what is
+    wrong. ``begin`` and ``end`` are the events that the instance begins and ends with, where there are such. ``by`` is how far the
+    value is outside; of a missing one how long it was overdue when it was given up. ``due`` is the last time at which it could come.
+    """
+
+    violation: str
+    what: str
+    value: int | None = None
+    by: int | None = None
+    begin: Moment | None = None
+    end: Moment | None = None
+    due: int | None = None
+
+    @property
+    def moment(self) -> Moment:
+        """The time and the place of the event that is blamed."""
+        found = self.end or self.begin
+        assert found is not None
+        return found
 
 
 @dataclass
@@ -83,8 +117,10 @@ class Measure:
     greatest: int | None = None
     total: int = 0
     worst: Instance | None = None
-    missed: tuple[int, int] | None = None
+    missed: Moment | None = None
     histogram: Histogram = field(default_factory=Histogram)
+    #: Called with each instance that is not as asked.
+    note: Callable[[Finding], None] | None = None
 
     @property
     def mean(self) -> Fraction | None:
@@ -96,29 +132,46 @@ class Measure:
         """The least margin of all values."""
         return None if self.worst is None else self.worst.margin
 
-    def add(self, value: int, time: int, place: int, margin: int | None) -> None:
-        """One instance with a value; it is outside where its margin is negative."""
+    def add(self, value: int, time: int, place: int, margin: int | None, begin: Moment | None = None, what: str | None = None) -> None:
+        """One instance with a value, which ends at this time and place; it is outside where its margin is negative."""
         self.judged += 1
-        self.value(value)
+        self.value(value, margin is not None and margin < 0)
+        self.compare(value, time, place, margin, begin, what)
+
+    def compare(self, value: int, time: int, place: int, margin: int | None, begin: Moment | None, what: str | None = None) -> None:
+        """Is the value of an instance outside, or the worst so far?"""
         if margin is not None and margin < 0:
             self.outside += 1
+            if self.note is not None:
+                self.note(Finding("outside", what or self._side(value), value, -margin, begin, (time, place)))
         if self.worst is None or margin is not None and (self.worst.margin is None or margin < self.worst.margin):
             self.worst = Instance(value, time, place, margin)
 
-    def value(self, value: int) -> None:
-        """A value for the statistics alone."""
+    def _side(self, value: int) -> str:
+        """On which side of its limits a value is."""
+        return f"{self.quantity} too {'short' if self.lower is not None and value < self.lower else 'long'}"
+
+    def value(self, value: int, outside: bool) -> None:
+        """A value for the statistics."""
         self.measured += 1
         self.total += value
         self.least = value if self.least is None else min(self.least, value)
         self.greatest = value if self.greatest is None else max(self.greatest, value)
-        self.histogram.add(value)
+        self.histogram.add(value, outside)
 
-    def miss(self, time: int, place: int) -> None:
-        """One instance that has no partner, or is out of order, by the event at this time and place."""
+    def miss(self, moment: Moment, what: str, due: int | None = None, now: int | None = None) -> None:
+        """One instance that has no partner, or is out of order, by the event of this moment; ``now`` is when that is certain."""
         self.judged += 1
         self.missing += 1
         if self.missed is None:
-            self.missed = (time, place)
+            self.missed = moment
+        if self.note is not None:
+            self.note(Finding("missing", what, None, _overdue(due, now), moment, None, due))
+
+
+def _overdue(due: int | None, now: int | None) -> int | None:
+    """How long something was overdue, if it was."""
+    return None if due is None or now is None or now <= due else now - due
 
 
 def margin_of(value: int, lower: int, upper: int | None) -> int | None:
@@ -138,6 +191,8 @@ class RowMeasuring:
     """A row's measure while steps come. ``takers`` has for each signal what takes an event of it, by time and place."""
 
     quantity = ""
+    #: Where the log begins, if something may have begun before it.
+    begin: int | None = None
 
     def __init__(self, row: Row):
         self.values: dict[str, Any] = dict(row.values)
@@ -164,7 +219,7 @@ class HiddenPoints(RowMeasuring):
     def __init__(self, row: Row):
         super().__init__(row)
         self.jitter: int = self.values["jitter"]
-        self.before: deque[int] = deque(maxlen=self.values.get("span", 1))
+        self.before: deque[Moment] = deque(maxlen=self.values.get("span", 1))
         self.points: deque[tuple[int, int]] = deque()
 
     def limits(self) -> tuple[int | None, int | None]:
@@ -177,17 +232,22 @@ class HiddenPoints(RowMeasuring):
     def take(self, time: int, place: int) -> None:
         whole = len(self.before) == self.before.maxlen
         margin = self.margin(time)
+        wrong = margin is not None and margin < 0
         if whole:
-            self.measure.add(time - self.before[0], time, place, margin)
-        self.before.append(time)
-        if margin is not None and margin < 0:
+            begin = self.before[0]
+            self.measure.add(time - begin[0], time, place, margin, begin, self.wrong(time) if wrong else None)
+        if wrong:
             self.points.clear()
             self.before.clear()
-            self.before.append(time)
+        self.before.append((time, place))
         self.step(time)
 
     def margin(self, time: int) -> int | None:
         """How far an event at this time is from the ends of the stretch in which it can come."""
+        raise NotImplementedError
+
+    def wrong(self, time: int) -> str:
+        """What is wrong with an event at this time."""
         raise NotImplementedError
 
     def step(self, time: int) -> None:
@@ -216,11 +276,16 @@ class Measuring:
             self.take(*step)
             yield step
 
+    @property
+    def measures(self) -> list[Measure]:
+        """What each row has measured so far."""
+        return [row.measure for row in self._rows]
+
     def end(self, clock: int, closed: bool) -> list[Measure]:
         """The end of the log: what each row has measured."""
         for row in self._rows:
             row.end(clock, closed)
-        return [row.measure for row in self._rows]
+        return self.measures
 
 
 def measure(table: Table, steps: Iterable[tuple[int | None, int, int]], closed: bool = True) -> list[Measure]:

@@ -1,8 +1,7 @@
-"""What rows have measured, written: as lines of text, as properties of a JUnit test, as cells of a page. All read what JSON has."""
+"""What rows have measured, written: as lines of text, as properties of a JUnit test. Both read what JSON has."""
 from __future__ import annotations
 
 from fractions import Fraction
-from html import escape
 from typing import Any, Callable, Sequence
 
 from .measure import Measure
@@ -15,14 +14,14 @@ Described = dict[str, Any]
 def described(found: Measure, stamp: Callable[[int], int], where: Callable[[int], str]) -> Described:
     """A measure as JSON has it. ``stamp`` gives the log's stamp of a time, ``where`` the words for a place."""
     worst, missed = found.worst, found.missed
-    begin, width, counts = found.histogram.bars()
+    begin, width, counts, outside = found.histogram.bars()
     return {
         "quantity": found.quantity, "lower": found.lower, "upper": found.upper, "judged": found.judged, "measured": found.measured,
         "outside": found.outside, "missing": found.missing, "least": found.least,
         "mean": None if found.mean is None else float(found.mean), "greatest": found.greatest, "margin": found.margin,
         "worst": None if worst is None else {"value": worst.value, "time": stamp(worst.time), "where": where(worst.place)},
         "missed": None if missed is None else {"time": stamp(missed[0]), "where": where(missed[1])},
-        "histogram": {"begin": begin, "width": width, "counts": counts},
+        "histogram": {"begin": begin, "width": width, "counts": counts, "outside": outside},
     }
 
 
@@ -79,36 +78,3 @@ def properties(found: Described, unit: str | None) -> list[tuple[str, str]]:
     """Names and values for a JUnit test."""
     named = zip(HEADINGS[1:], cells("", found, unit)[1:])
     return [(heading, value) for heading, value in named if value]
-
-
-_WIDTH, _HEIGHT = 120, 28
-
-
-def histogram_svg(found: Described, unit: str | None) -> str:
-    """A small histogram over the values and the limits: a bar for each stretch of values, red outside, and the limits as lines."""
-    begin, width, counts = (found["histogram"][name] for name in ("begin", "width", "counts"))
-    if not counts:
-        return ""
-    limits = [limit for limit in (found["lower"], found["upper"]) if limit is not None]
-    low, high = min([begin, *limits]), max([begin + width * len(counts), *limits])
-    scale, top = (_WIDTH - 4) / max(high - low, 1), max(counts)
-    title = f"{found['quantity']} from {_amount(found['least'], unit)} to {_amount(found['greatest'], unit)}"
-    out = [f'<svg class="histogram" viewBox="0 0 {_WIDTH} {_HEIGHT}" role="img"><title>{escape(title)}</title>']
-    for first, count in zip(range(begin, begin + width * len(counts), width), counts):
-        outside = found["lower"] is not None and first + width <= found["lower"] or found["upper"] is not None and first > found["upper"]
-        height = round(max(count / top * (_HEIGHT - 4), 2), 1) if count else 0
-        tip = f"{count} from {_amount(first, unit)} on"
-        out.append(f'<rect class="{"outside" if outside else "inside"}" x="{2 + (first - low) * scale:.1f}" y="{_HEIGHT - height}" '
-                   f'width="{max(width * scale, 2):.1f}" height="{height}"><title>{escape(tip)}</title></rect>' if count else "")
-    out += [f'<path class="limit" d="M{2 + (limit - low) * scale:.1f} 0 V{_HEIGHT}"/>' for limit in limits]
-    return "".join([*out, "</svg>"])
-
-
-def html_table(rows: Sequence[tuple[str, Described]], unit: str | None) -> list[str]:
-    """The table of a page, with a small histogram for each row."""
-    out = ['<div class="wide"><table class="measured"><tr>' + "".join(f"<th>{heading}</th>" for heading in (*HEADINGS, "")) + "</tr>"]
-    for name, found in rows:
-        bad = found["outside"] or found["missing"]
-        line = "".join(f"<td>{escape(cell)}</td>" for cell in cells(name, found, unit))
-        out.append(f'<tr class="{"bad" if bad else ""}">{line}<td>{histogram_svg(found, unit)}</td></tr>')
-    return [*out, "</table></div>"]

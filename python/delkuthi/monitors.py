@@ -1,10 +1,11 @@
 """As many monitors as a table needs, behind one; and steps given to a fresh one as a recording, many in one call."""
 from __future__ import annotations
 
-from itertools import compress
+from array import array
+from itertools import chain, compress
 from typing import Iterable, Sequence
 
-from .batches import OTHER, Codes, Records
+from .batches import OTHER, Codes, NeedsSlowPath, Records, rising
 from .library import Refused
 from .monitor import Monitor, Verdict
 from .signals import signal
@@ -13,6 +14,8 @@ from .table import Table
 
 #: So many bytes of records are kept before the monitor takes them; after that it takes each step by a call.
 KEPT = 32_000_000
+#: The numbers of so many steps that are none of a monitor's are kept.
+LEFT_OUT = 2_000_000
 
 
 class Monitors:
@@ -20,6 +23,7 @@ class Monitors:
     numbered as in the whole table."""
 
     def __init__(self, table: Table):
+        table.refuse_windows()
         self.table, self.steps = table, 0
         self._locals = [Local(part) for part in table.parts]
         self._monitors = [Monitor(part.data) for part in table.parts]
@@ -29,10 +33,10 @@ class Monitors:
         self._before: Monitors | None = None
 
     @staticmethod
-    def closed(table: Table, monitors: list[Monitor], steps: int) -> Monitors:
-        """Monitors that have taken so many steps, of which none has broken a row."""
+    def closed(table: Table, monitors: list[Monitor], steps: int, broken: dict[int, int]) -> Monitors:
+        """Monitors that have taken so many steps, of which some have broken rows."""
         found = Monitors(table)
-        found._monitors, found.steps = monitors, steps
+        found._monitors, found.steps, found._broken = monitors, steps, broken
         return found
 
     def event(self, event: int | str, time: int, colour: int | None = None) -> None:
@@ -101,6 +105,10 @@ class Monitors:
         """The step that broke a row, if one has."""
         return self._broken.get(row)
 
+    def broken_rows(self) -> int:
+        """A bit for each row: bit i is 1 where row i reads broken."""
+        return sum(1 << row for row in self._broken)
+
     def deadline(self) -> int | None:
         """The last time to which a tick breaks no row that is open."""
         found = [time for time in (monitor.deadline() for monitor in self._monitors) if time is not None]
@@ -134,7 +142,7 @@ class Monitors:
 
 def monitor_of(table: Table) -> Monitor | Monitors:
     """A monitor over a table; several behind one where it needs them."""
-    return Monitor(table) if table.whole else Monitors(table)
+    return Monitor(table) if table.single else Monitors(table)
 
 
 class Recorder:
@@ -145,9 +153,12 @@ class Recorder:
         self.monitor, self._part, self._most = monitor, part, KEPT // share
         self._numbers = [number if part is None else part.signal(number) for number in codes.numbers]
         self._records = Records(self._numbers)
-        self._foreign = bytes([OTHER, *(code for code, number in enumerate(self._numbers) if number is None)])
+        #: For each code 1 where this monitor has no kind for it.
+        self._known_or_not = bytes(int(code >= len(self._numbers) or self._numbers[code] is None) for code in range(256))
         self._kept = bytearray([2])
         self._clock, self._by_calls = 0, False
+        #: The numbers of the steps of the whole table that are none of this monitor's, and how many there were of that.
+        self._left_out, self._given = array("Q"), 0
         #: How many steps it was given, and the number of a refusal with the step that was refused.
         self.steps = 0
         self.refused: tuple[int, int] | None = None
@@ -171,13 +182,28 @@ class Recorder:
 
     def _moving(self, times: Sequence[int], codes: bytes) -> tuple[Sequence[int], bytes]:
         """Without what this monitor has no kind for and does not move its clock."""
-        flags = []
-        for time, code in zip(times, codes):
-            flags.append(code not in self._foreign or time > self._clock)
-            self._clock = time
-        if all(flags):
+        before, self._given = self._given, self._given + len(codes)
+        if not times or rising(times, self._clock):
+            self._clock = times[-1] if times else self._clock
             return times, codes
+        foreign = codes.translate(self._known_or_not)
+        earlier = chain((self._clock,), times)
+        flags = [not other or time > last for other, time, last in zip(foreign, times, earlier)]
+        self._clock = times[-1]
+        if len(self._left_out) < LEFT_OUT:
+            self._left_out.extend(number for number, flag in enumerate(flags, before + 1) if not flag)
         return list(compress(times, flags)), bytes(compress(codes, flags))
+
+    def number(self, step: int) -> int:
+        """The number of a step of this monitor among those of the whole table; :class:`NeedsSlowPath` where too many were left out."""
+        if len(self._left_out) >= LEFT_OUT:
+            raise NeedsSlowPath
+        # So many of those that were left out come before it: each has fewer steps of this monitor before it.
+        low, high = 0, len(self._left_out)
+        while low < high:
+            middle = (low + high) // 2
+            low, high = (middle + 1, high) if self._left_out[middle] - middle <= step else (low, middle)
+        return step + low
 
     def flush(self) -> None:
         """Gives what was kept to the monitor; what comes after is given step by step."""

@@ -7,7 +7,7 @@ from typing import Iterator
 from .library import FIRST_COLOURED, LAST_KIND
 from .signals import FURTHER, is_coloured
 from .sources import TaskSource
-from .table import Event, Executed, Row
+from .rows import Event, Executed, Row
 
 
 class TooMany(Exception):
@@ -19,13 +19,13 @@ def numbered(rows: list[Row], events: list[Event]) -> tuple[list[Row], list[Even
     An event that a Reaction names, or that has a source with a colour, gets a coloured kind; its sources without one get colour 0."""
     coloured = {event.kind for event in events if any(source.colour is not None for source in event.sources)}
     coloured |= {kind for row in rows for kind in row.kinds if any(part.role == "coloured" for part in row.type.fields)}
-    taken = {event.kind for event in events} | {kind for row in rows for kind in row.kinds}
+    taken = {event.kind for event in events} | {kind for row in rows for kind in (*row.kinds, *(row.window or ()))}
     plain, colours = _free(taken, False), _free(taken, True)
     kinds = {kind: kind for kind in taken}
     for event in events:
         if event.kind < 0:
             kinds[event.kind] = next(colours if event.kind in coloured else plain)
-    return ([replace(row, values=row.with_kinds(kinds)) for row in rows], [_renumbered(event, kinds[event.kind]) for event in events])
+    return ([replace(row, values=row.with_kinds(kinds), window=row.window and (kinds[row.window[0]], kinds[row.window[1]])) for row in rows], [_renumbered(event, kinds[event.kind]) for event in events])
 
 
 def _free(taken: set[int], coloured: bool) -> Iterator[int]:

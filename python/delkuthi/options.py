@@ -3,9 +3,13 @@ from __future__ import annotations
 
 import argparse
 import codecs
+import difflib
 import re
+from typing import Iterable
 
 from .logs import LogError, Policy
+from .readers.base import ending
+from .scope import Edge, Scope
 from .table import Table
 from .units import NUMBER, UNITS, NotWhole, in_unit
 
@@ -36,13 +40,27 @@ def add_options(parser: argparse.ArgumentParser) -> None:
                        help="give the monitor the stamps as they are, not ahead by the largest jitter of the table")
     group.add_argument("--until", metavar="TIME", help="the clock went on to this time after the last line")
     group.add_argument("--no-close", action="store_true", help="the end of the log is not the end: rows may stay open")
+    group.add_argument("--from", metavar="EDGE", dest="begin",
+                       help="begin at an event, at a stamp such as 300 ms, or with +300 ms so long after the first line")
+    group.add_argument("--to", metavar="EDGE", dest="end", help="end at an event, at a stamp, or so long after the first line")
     group.add_argument("--time-column", metavar="NAME", help="CSV: the column of the times (time, time_ms, ..)")
+    group.add_argument("--time-unit", choices=list(UNITS), help="CSV: the unit of the times, where the column's head does not say it")
     group.add_argument("--event-column", metavar="NAME", help="CSV: the column of the events (event)")
     group.add_argument("--task-column", metavar="NAME", help="CSV: the column of the tasks (task)")
     group.add_argument("--action-column", metavar="NAME", help="CSV: the column of what happens to them (action)")
     group.add_argument("--encoding", metavar="NAME", type=_encoding, default="utf-8", help="of a text log, such as cp1252 (utf-8)")
     group.add_argument("--format", metavar="ENDING", type=_format, help="what the log is, such as csv, whatever its name ends with")
     add_databases(parser)
+
+
+def add_edges(parser: argparse.ArgumentParser) -> None:
+    """The options that say what the beginning and the end of a log are."""
+    edges = parser.add_mutually_exclusive_group()
+    edges.add_argument("--cut", action="store_true",
+                       help="the log is a part of something longer: what began before it is left out, what is not yet due at its end is not "
+                            "missing; the default with --from and --to, at that end")
+    edges.add_argument("--close", action="store_true",
+                       help="the log is all there is: what has not come by its end is missing; the default without --from and --to")
 
 
 def add_databases(parser: argparse.ArgumentParser) -> None:
@@ -60,7 +78,7 @@ def _encoding(text: str) -> str:
 
 
 def _format(text: str) -> str:
-    return f".{text.lower().lstrip('.')}"
+    return ending(f"log.{text.lower().lstrip('.')}")
 
 
 def read_table(given: argparse.Namespace, recorded: bool = False) -> Table:
@@ -71,8 +89,37 @@ def read_table(given: argparse.Namespace, recorded: bool = False) -> Table:
     return table
 
 
+def refuse_windows(table: Table, file: str, rows: Iterable[int], what: str) -> None:
+    """An error where one of these rows has a window, which only ``check`` takes."""
+    for number in rows:
+        if table.rows[number].window is not None:
+            raise LogError(file, "", f"{table.row_name(number)} has a window (while): {what}, only check does")
+
+
 def policy(given: argparse.Namespace, table: Table) -> Policy:
     """The policy that the options say."""
     until = None if given.until is None else time_of("--until", given.until, table)
+    edges = next((name for name in ("cut", "close") if getattr(given, name, False)), "")
+    if given.no_close and edges:
+        raise LogError("--no-close", "", f"not with --{edges}")
+    scope = Scope(edge("--from", given.begin, table), edge("--to", given.end, table), edges)
     return Policy(given.equal, given.unsorted, given.round, given.from_zero, given.as_stamped, until, not given.no_close,
-                  given.time_column, given.event_column, given.task_column, given.action_column, given.encoding, given.format)
+                  given.time_column, given.event_column, given.task_column, given.action_column, given.encoding, given.format, scope,
+                  given.time_unit)
+
+
+def edge(what: str, text: str | None, table: Table) -> Edge | None:
+    """The edge of a scope: an event of the table, a stamp, or with a + a time after the first line."""
+    if text is None:
+        return None
+    names = [event.name for event in table.events]
+    if text in names:
+        return Edge(text, kind=table.kind(text))
+    match = re.fullmatch(r"([+-]?)(.*)", text, re.DOTALL)
+    assert match is not None
+    if not re.match(r"[0-9]", match[2]):
+        near = difflib.get_close_matches(text, names, 1)
+        hint = f"; did you mean {near[0]}?" if near else ""
+        raise LogError(what, "", f"expected a time such as 300 ms or +2 s, or an event of the table, found {text}{hint}")
+    time = time_of(what, match[2], table)
+    return Edge(text, -time if match[1] == "-" else time, match[1] == "+")

@@ -52,7 +52,7 @@ def notes(outcome: Outcome, start: bool = True) -> list[str]:
     for count, word, said in (
         (counts.dropped, "event", "left out at equal stamps"), (counts.moved, "event", "moved one unit on at equal stamps"),
         (counts.unsorted, outcome.word, "out of order and sorted"), (counts.rounded, "stamp", "rounded"),
-        (counts.skipped, outcome.word, "skipped"), (counts.passed, outcome.word, "about what no table can name"),
+        (counts.skipped, outcome.word, "skipped"), (counts.other_lines, outcome.word, "about what no table can name"),
     ):
         if count:
             read.append(f"{number_of(count, word)} {said}")

@@ -44,7 +44,7 @@ def _draw(axes: Any, picture: Scene) -> None:
         axes.vlines(times, lane - 0.3, lane + 0.3, colors="#111", linewidth=1.6 if len(times) < 150 else max(240 / len(times), 0.2))
         rings = [time for time in times if (lane, time) in picture.blamed]
         axes.plot(rings, [lane] * len(rings), "o", markersize=13, markerfacecolor="none", markeredgecolor=BROKEN, clip_on=False)
-    for place, (time, label) in enumerate(picture.marks):
+    for place, (time, _, label) in enumerate(picture.marks):
         axes.axvline(time, color=BROKEN, linestyle="--", linewidth=1.2)
         right = time > picture.begin + 0.7 * (picture.end - picture.begin)
         axes.annotate(label, (time, 1.0), xycoords=("data", "axes fraction"), xytext=(-4 if right else 4, 4 + 11 * place),
@@ -64,8 +64,7 @@ def _legend(axes: Any, picture: Scene) -> None:
     """Which colour is which row."""
     from matplotlib.patches import Patch
 
-    shown = [row for row in picture.rows if any(shade.row == row for shade in picture.shades)]
-    patches = [Patch(color=colour_of(row), alpha=0.4, label=short(picture.rows[row], 30)) for row in shown]
+    patches = [Patch(color=colour_of(row), alpha=0.4, label=short(picture.rows[row], 30)) for row in picture.shaded]
     if any(shade.broken for shade in picture.shades):
         patches.append(Patch(color=BROKEN, alpha=0.4, label="nothing came"))
     if patches:

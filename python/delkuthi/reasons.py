@@ -6,7 +6,7 @@ of the answer that came too late, if it did: it is tested, and no verdict depend
 from __future__ import annotations
 
 from dataclasses import dataclass, field
-from typing import TYPE_CHECKING, Callable, Mapping, NamedTuple, Sequence
+from typing import TYPE_CHECKING, Any, Callable, Mapping, NamedTuple, Sequence
 
 from .library import NO_LIMIT
 from .time_format import TimeFormat
@@ -17,8 +17,8 @@ if TYPE_CHECKING:
 
 
 @dataclass
-class Kind:
-    """The events of a signal so far: their times, and their places in the log."""
+class Events:
+    """Events of a signal: their times, and their places in the log."""
 
     times: list[int] = field(default_factory=list)
     places: list[int] = field(default_factory=list)
@@ -27,6 +27,10 @@ class Kind:
         """One more."""
         self.times.append(time)
         self.places.append(place)
+
+    def drop(self, number: int) -> None:
+        """Forgets so many of the first."""
+        del self.times[:number], self.places[:number]
 
     def __len__(self) -> int:
         return len(self.times)
@@ -57,19 +61,23 @@ class Reason:
 
 @dataclass
 class Case:
-    """A broken row: the table, its events up to the breaking step, the clock then, and whether that step is the close."""
+    """A row and its events up to a step: the table, the clock then, and whether that step is the close. A row that is not broken may
+    forget events that cannot matter any more; what it has to remember of them is in ``memory``. ``begin`` is set where what came
+    before that time is not known, or forgotten."""
 
     table: Table
     row: Row
-    events: dict[int, Kind]
+    events: dict[int, Events]
     clock: int
     closed: bool
     at: Callable[[int], str]
     time_format: TimeFormat
+    begin: int | None = None
+    memory: Any = None
 
-    def of(self, signal: int) -> Kind:
+    def of(self, signal: int) -> Events:
         """The events of a signal."""
-        return self.events.setdefault(signal, Kind())
+        return self.events.setdefault(signal, Events())
 
     def times(self, field_name: str) -> list[int]:
         """The times of the events of the kind that a field names."""
@@ -103,6 +111,12 @@ class Case:
     def time(self, one: Blamed) -> int:
         """The time of an event that is there."""
         return self.of(one.signal).times[one.number]
+
+
+def drop_to_last(case: Case, field_name: str, number: int) -> None:
+    """Forgets all but so many of the last events of the kind that a field names."""
+    events = case.of(case.number(field_name))
+    events.drop(max(len(events) - number, 0))
 
 
 def plain(text: str, *about: Blamed) -> Reason:

@@ -33,20 +33,18 @@ def record_bytes(number: int | None, time: int) -> bytes:
     return (len(body) + 8).to_bytes(2, "big") + body + min(time, 2**64 - 1).to_bytes(8, "big")
 
 
-def write_recording(file: IO[bytes], steps: Iterable[Record]) -> None:
-    """Writes a recording, record by record: of version 2 if a step has a colour, else of version 1."""
-    file.write(b"\x01")
-    version = 1
+def write_recording(file: IO[bytes], steps: Iterable[Record], version: int = 1) -> None:
+    """Writes a recording, record by record, of the version that is given, but of version 2 if a step has a colour."""
+    file.write(bytes([version]))
     for number, time in steps:
         file.write(record_bytes(number, time))
         version = 2 if number is not None and parts(number)[1] is not None else version
-    if version == 2:
-        file.seek(0)
-        file.write(b"\x02")
+    file.seek(0)
+    file.write(bytes([version]))
 
 
-def recording_bytes(steps: Iterable[Record]) -> bytes:
+def recording_bytes(steps: Iterable[Record], version: int = 1) -> bytes:
     """The bytes of a recording: of each step its signal, or ``None`` for a tick, and its time."""
     file = io.BytesIO()
-    write_recording(file, steps)
+    write_recording(file, steps, version)
     return file.getvalue()

@@ -25,7 +25,7 @@ def stretch_to(table: Table, row: int, steps: Sequence[Step], end: int, about: C
     matter = [steps[end][:2]]
     if _breaks(alone, matter):
         return end
-    for start in [place for place in range(end - 1, -1, -1) if steps[place].kind in signals][:TRIED]:
+    for start in [place for place in range(end - 1, -1, -1) if steps[place].signal in signals][:TRIED]:
         matter.insert(0, steps[start][:2])
         if _breaks(alone, matter):
             return start

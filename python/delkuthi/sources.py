@@ -22,13 +22,6 @@ class CanSource:
     change: bool = False
     colour: int | None = None
 
-    def matches(self, data: bytes) -> bool:
-        """Does the data begin with the digits asked for?"""
-        if self.data is None:
-            return True
-        digits = data.hex().upper()
-        return len(digits) >= len(self.data) and all(a in (".", b) for a, b in zip(self.data, digits))
-
 
 @dataclass(frozen=True)
 class CsvSource:

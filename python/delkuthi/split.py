@@ -13,7 +13,7 @@ from .rowtypes import row_bytes
 from .signals import is_coloured, parts, signal
 
 if TYPE_CHECKING:
-    from .table import Row
+    from .rows import Row
 
 Steps = Sequence[tuple["int | None", int]]
 

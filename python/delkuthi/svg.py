@@ -2,17 +2,27 @@
 from __future__ import annotations
 
 from html import escape
-from typing import Callable
+from itertools import groupby
+from typing import NamedTuple
 
-from .timeline import BROKEN, COLOURS, Scene, Shade
+from .timeline import BINS, BROKEN, COLOURS, Mark, Scene, Shade, Strip, View
 
-_WIDTH, _LANE, _LETTER = 1000, 26, 6.4
+_WIDTH, _LANE, _LETTER, _BOLD = 1000, 26, 6.4, 7.7
+#: Lanes begin so long before the first time and end so long after the last, so that rings are whole. Right of them there is so much
+#: room; an overview has the number of events there.
+_PAD, _RIGHT, _RIGHT_OF_STRIP, _STRIP_LANE = 12, 20, 80, 15
 #: The widest that names may be before they are cut in the middle, in letters.
 _NAME = 44
+#: Of so many breaks each has its row's name in the picture; of more the row's number.
+NAMED = 6
+#: Breaks have one label where they are nearer than this.
+_NEAR = 60
+#: How many shades of grey an overview has.
+_LEVELS = 4
 #: What the classes of the drawing look like on a dark screen; on a light one their attributes say it.
-STYLE = ("@media (prefers-color-scheme: dark) { .dk-back { fill: #16181d } .dk-grid { stroke: #3a3f47 } .dk-line { stroke: #6b7280 } "
-         ".dk-text { fill: #d7dbe2 } .dk-event { stroke: #f3f4f6 } .dk-broken { stroke: #ff6b7d } .dk-say { fill: #ff8a98; stroke: #16181d } "
-         ".dk-ring { stroke: #ff6b7d } }")
+STYLE = ("@media screen and (prefers-color-scheme: dark) { .dk-back { fill: #16181d } .dk-grid { stroke: #3a3f47 } .dk-line { stroke: #6b7280 } "
+         ".dk-text { fill: #d7dbe2 } .dk-event { stroke: #f3f4f6 } .dk-many { fill: #d7dbe2 } .dk-broken { stroke: #ff6b7d } "
+         ".dk-say { fill: #ff8a98; stroke: #16181d } .dk-ring { stroke: #ff6b7d } }")
 
 
 def short(name: str, most: int = _NAME) -> str:
@@ -20,50 +30,136 @@ def short(name: str, most: int = _NAME) -> str:
     return name if len(name) <= most else f"{name[: most * 2 // 3]}\u2026{name[-(most - most * 2 // 3 - 1):]}"
 
 
-class _Drawing:
-    """The measures of a picture, and its parts."""
+def colour_of(row: int) -> str:
+    """The colour of a row's stretches."""
+    return COLOURS[row % len(COLOURS)]
 
-    def __init__(self, picture: Scene):
-        self.picture = picture
-        longest = max((len(short(name)) for name, _ in picture.lanes), default=8)
+
+class _Label(NamedTuple):
+    """A label of breaks: its text, whether it is left of its line, and how many others are above it."""
+
+    marks: list[Mark]
+    text: str
+    left: bool
+    level: int
+
+
+class _Canvas:
+    """The measures of a picture: names at the left, lanes, above them the breaks and below them the axis."""
+
+    def __init__(self, view: View, names: list[str], lane: int, right: int, links: str):
+        self.view, self.names, self.lane, self.links = view, names, lane, links
+        longest = max((len(short(name)) for name in names), default=8)
         self.left = min(max(round(longest * _LETTER) + 20, 90), 330)
-        self.inner = _WIDTH - self.left - 20
-        self.legend = [row for row in picture.rows if any(shade.row == row for shade in picture.shades)]
-        self.top = 34 + 15 * len(picture.marks)
-        self.bottom = self.top + _LANE * len(picture.lanes)
-        self.height = self.bottom + 44 + 16 * self._legend_lines()
+        self.right = _WIDTH - right
+        self.inner = self.right - self.left
+        self.labels = self._placed(view.marks)
+        self.top = 34 + 15 * max((label.level + 1 for label in self.labels), default=0)
+        self.bottom = self.top + lane * len(names)
+        self.height = self.bottom + 44
 
     def x(self, time: float) -> float:
         """Where a time is, within the lanes."""
-        scale = self.inner / (self.picture.end - self.picture.begin)
-        return round(self.left + min(max((time - self.picture.begin) * scale, 0), self.inner), 1)
+        inner = self.inner - 2 * _PAD
+        scale = inner / (self.view.end - self.view.begin)
+        return round(self.left + _PAD + min(max((time - self.view.begin) * scale, 0), inner), 1)
 
     def middle(self, lane: int) -> int:
         """The height of a lane."""
-        return self.top + _LANE * lane + _LANE // 2
+        return self.top + self.lane * lane + self.lane // 2
+
+    def lanes(self) -> list[str]:
+        """The names of the lanes, and their lines."""
+        out = []
+        for lane, name in enumerate(self.names):
+            cut = f"<title>{escape(name)}</title>" if short(name) != name else ""
+            out.append(f"<text class='dk-text' x='{self.left - 10}' y='{self.middle(lane) + 4}' text-anchor='end' fill='#111'>"
+                       f"{escape(short(name))}{cut}</text>")
+            out.append(f"<path class='dk-line' d='M{self.left} {self.middle(lane)} H{self.right}' stroke='#999' stroke-width='.6'/>")
+        return out
 
     def axis(self) -> list[str]:
         """The numbers below the lanes, with lines up from them."""
-        numbers, name = self.picture.axis()
+        numbers, name = self.view.axis()
         out = []
         for time, number in numbers:
             at = self.x(time)
             out.append(f"<path class='dk-grid' d='M{at} {self.top} V{self.bottom + 4}' stroke='#ddd'/>")
             out.append(f"<text class='dk-text' x='{at}' y='{self.bottom + 17}' text-anchor='middle' fill='#444'>{number}</text>")
-        out.append(f"<text class='dk-text' x='{_WIDTH - 20}' y='{self.bottom + 32}' text-anchor='end' fill='#444'>{escape(name)}</text>")
-        if self.picture.caption:
-            out.append(f"<text class='dk-text' x='20' y='{self.bottom + 32}' font-weight='bold' fill='#444'>{escape(self.picture.caption)}</text>")
+        out.append(f"<text class='dk-text' x='{self.right}' y='{self.bottom + 32}' text-anchor='end' fill='#444'>{escape(name)}</text>")
+        if self.view.caption:
+            out.append(f"<text class='dk-text' x='20' y='{self.bottom + 32}' font-weight='bold' fill='#444'>{escape(self.view.caption)}</text>")
         return out
 
-    def lanes(self) -> list[str]:
-        """The names of the lanes, and their lines."""
-        out = []
-        for lane, (name, _) in enumerate(self.picture.lanes):
-            cut = f"<title>{escape(name)}</title>" if short(name) != name else ""
-            out.append(f"<text class='dk-text' x='{self.left - 10}' y='{self.middle(lane) + 4}' text-anchor='end' fill='#111'>"
-                       f"{escape(short(name))}{cut}</text>")
-            out.append(f"<path class='dk-line' d='M{self.left} {self.middle(lane)} H{_WIDTH - 20}' stroke='#999' stroke-width='.6'/>")
-        return out
+    def _groups(self, marks: list[Mark]) -> list[list[Mark]]:
+        """The breaks that have one label: each its own where they are few, else those that are close together."""
+        groups: list[list[Mark]] = []
+        for mark in marks:
+            if len(marks) > NAMED and groups and self.x(mark.time) - self.x(groups[-1][0].time) < _NEAR:
+                groups[-1].append(mark)
+            else:
+                groups.append([mark])
+        return groups
+
+    def _placed(self, marks: list[Mark]) -> list[_Label]:
+        """The labels of the breaks, none of which covers another."""
+        found: list[_Label] = []
+        taken: list[list[tuple[float, float]]] = []
+        for group in self._groups(marks):
+            at = self.x(group[0].time)
+            left = at > _WIDTH / 2
+            text = self._text(group, len(marks) <= NAMED, (at if left else _WIDTH - at) - 10)
+            width = len(text) * _BOLD + 10
+            begin, end = (at - width, at) if left else (at, at + width)
+            level = next((level for level, others in enumerate(taken) if all(end <= one or two <= begin for one, two in others)), len(taken))
+            taken += [[]] if level == len(taken) else []
+            taken[level].append((begin, end))
+            found.append(_Label(group, text, left, level))
+        return found
+
+    def _text(self, group: list[Mark], named: bool, room: float) -> str:
+        """What is said of the breaks of a label, in so much room."""
+        if not named:
+            return f"row {group[0].row}" if len(group) == 1 else f"{len(group)} rows"
+        time = f", {self.view.time_format.at(group[0].time)}"
+        return short(group[0].label, max(int(room / _BOLD) - len(time), 12)) + time
+
+    def marks(self) -> list[str]:
+        """The steps that broke a row: all lines, and then all labels before them."""
+        lines, labels = [], []
+        for group, text, left, level in self.labels:
+            at, y = self.x(group[0].time), 18 + 15 * level
+            lines += [self._linked(mark, f"<path class='dk-broken' d='M{self.x(mark.time)} {y - 8} V{self.bottom}' stroke='{BROKEN}' "
+                                         f"stroke-width='1.4' stroke-dasharray='4 2'>{self._tip([mark])}</path>") for mark in group]
+            place = f"x='{round(at + (-5 if left else 5), 1)}' y='{y}' text-anchor='{'end' if left else 'start'}'"
+            labels.append(self._linked(group[0], f"<text class='dk-say' {place} fill='{BROKEN}' font-weight='bold' paint-order='stroke' "
+                                                 f"stroke='white' stroke-width='4'>{escape(text)}{self._tip(group)}</text>"))
+        return lines + labels
+
+    def _tip(self, group: list[Mark]) -> str:
+        """What the pointer says on breaks."""
+        return "<title>" + escape("\n".join(f"{mark.label}, {self.view.time_format.at(mark.time)}" for mark in group)) + "</title>"
+
+    def _linked(self, mark: Mark, drawn: str) -> str:
+        return f"<a href='{escape(self.links)}{mark.row}'>{drawn}</a>" if self.links else drawn
+
+    def drawn(self, parts: list[list[str]], style: bool) -> str:
+        """The whole as one SVG element, of the title and these parts."""
+        head = (f"<svg xmlns='http://www.w3.org/2000/svg' viewBox='0 0 {_WIDTH} {self.height}' role='img' "
+                "font-family='DejaVu Sans, Verdana, sans-serif' font-size='11'>")
+        out = [head, f"<title>{escape(self.view.title)}</title>", *([f"<style>{STYLE}</style>"] if style else [])]
+        out.append(f"<rect class='dk-back' width='{_WIDTH}' height='{self.height}' fill='white'/>")
+        return "\n".join([*out, *(line for part in parts for line in part), "</svg>"]) + "\n"
+
+
+class _Drawing(_Canvas):
+    """A picture of lanes with events, and the stretches that rows ask for."""
+
+    def __init__(self, picture: Scene, links: str, legend: bool):
+        super().__init__(picture, [name for name, _ in picture.lanes], _LANE, _RIGHT, links)
+        self.picture = picture
+        self.legend = self._legend() if legend else []
+        self.height += 16 * (self.legend[-1][1] + 1 if self.legend else 0)
 
     def events(self) -> list[str]:
         """A stroke for each event; those that a reason is about have a ring."""
@@ -79,21 +175,15 @@ class _Drawing:
                 out.append(f"<path class='dk-event' d='M{at} {middle - 8} v16' stroke='#111' stroke-width='{width}'><title>{tip}</title></path>")
         return out
 
-    def marks(self) -> list[str]:
-        """The steps that broke a row: all lines, and then all labels before them."""
-        lines, labels = [], []
-        for place, (time, label) in enumerate(self.picture.marks):
-            y = 18 + 15 * place
-            anchor, dx = ("end", -5) if self.x(time) > _WIDTH * 0.6 else ("start", 5)
-            lines.append(f"<path class='dk-broken' d='M{self.x(time)} {y - 8} V{self.bottom}' stroke='{BROKEN}' stroke-width='1.4' "
-                         "stroke-dasharray='4 2'/>")
-            text = escape(f"{short(label, 70)}, {self.picture.time_format.at(time)}")
-            labels.append(f"<text class='dk-say' x='{round(self.x(time) + dx, 1)}' y='{y}' text-anchor='{anchor}' fill='{BROKEN}' "
-                          f"font-weight='bold' paint-order='stroke' stroke='white' stroke-width='4'>{text}</text>")
-        return lines + labels
+    def shades(self) -> list[str]:
+        """The stretches that rows ask for, in a group for each row."""
+        out = []
+        for row in self.picture.shaded:
+            stretches = [self._shade(shade) for shade in self.picture.shades if shade.row == row]
+            out += [f"<g class='row{row}'>", *stretches, "</g>"]
+        return out
 
-    def shade(self, shade: Shade) -> str:
-        """A stretch that a row asks for."""
+    def _shade(self, shade: Shade) -> str:
         picture, end = self.picture, self.picture.shown_end(shade)
         colour = BROKEN if shade.broken else colour_of(shade.row)
         opacity = ".35" if shade.broken else ".08" if shade.end is None else ".22"
@@ -106,50 +196,70 @@ class _Drawing:
                 f"fill='{colour}' fill-opacity='{opacity}' stroke='{colour}' stroke-opacity='.45' stroke-width='.7'{dashed}>"
                 f"<title>{tip}</title></rect>")
 
-    def _places(self) -> list[tuple[int, int, str, str]]:
+    def _legend(self) -> list[tuple[int, int, str, str]]:
         """Of the legend: column, line, name and colour of each part."""
-        parts = [(short(self.picture.rows[row], 30), colour_of(row)) for row in self.legend]
+        parts = [(short(self.picture.rows[row], 30), colour_of(row)) for row in self.picture.shaded]
         if any(shade.broken for shade in self.picture.shades):
             parts.append(("nothing came", BROKEN))
         found, x, line = [], 20, 0
         for name, colour in parts:
-            width = round(len(name) * _LETTER) + 34
+            width = round(len(name) * _BOLD) + 34
             if x + width > _WIDTH - 20 and x > 20:
                 x, line = 20, line + 1
             found.append((x, line, name, colour))
             x += width
         return found
 
-    def _legend_lines(self) -> int:
-        places = self._places()
-        return places[-1][1] + 1 if places else 0
-
     def legend_parts(self) -> list[str]:
         """Which colour is which row."""
         out = []
-        for x, line, name, colour in self._places():
+        for x, line, name, colour in self.legend:
             y = self.bottom + 50 + 16 * line
             out.append(f"<rect x='{x}' y='{y - 9}' width='14' height='10' fill='{colour}' fill-opacity='.35' stroke='{colour}'/>")
             out.append(f"<text class='dk-text' x='{x + 19}' y='{y}' fill='#444'>{escape(name)}</text>")
         return out
 
 
-def colour_of(row: int) -> str:
-    """The colour of a row's stretches."""
-    return COLOURS[row % len(COLOURS)]
+class _StripDrawing(_Canvas):
+    """A whole log: the darker, the more events."""
+
+    def __init__(self, strip: Strip, links: str):
+        super().__init__(strip, [name for name, _, _ in strip.lanes], _STRIP_LANE, _RIGHT_OF_STRIP, links)
+        self.strip = strip
+
+    def bins(self) -> list[str]:
+        """The bins of each lane, in levels of grey beside the fullest of the lane, and the number of its events."""
+        out = []
+        for lane, (name, events, counts) in enumerate(self.strip.lanes):
+            levels = [-(-_LEVELS * count // max(counts)) for count in counts]
+            tip = escape(f"{name}: {events} events")
+            for level in sorted({*levels} - {0}):
+                out.append(f"<path class='dk-many' d='{self._runs(lane, levels, level)}' fill='#111' fill-opacity='{level / _LEVELS}'>"
+                           f"<title>{tip}</title></path>")
+            out.append(f"<text class='dk-text' x='{self.right + 8}' y='{self.middle(lane) + 4}' fill='#444'>{events}</text>")
+        return out
+
+    def _runs(self, lane: int, levels: list[int], level: int) -> str:
+        """Bins of one level, those side by side as one."""
+        width, y, place, out = (self.inner - 2 * _PAD) / BINS, self.middle(lane) - 5, 0, ""
+        for one, group in groupby(levels):
+            length = len(list(group))
+            if one == level:
+                wide = f"{max(length * width, 1.2):.1f}"
+                out += f"M{self.left + _PAD + place * width:.1f} {y}h{wide}v10h-{wide}z"
+            place += length
+        return out
 
 
-def svg(picture: Scene, style: bool = True) -> str:
-    """The picture as one SVG element, which needs nothing else; ``style`` is left out where the page around it has it."""
-    drawing = _Drawing(picture)
-    head = (f"<svg xmlns='http://www.w3.org/2000/svg' viewBox='0 0 {_WIDTH} {drawing.height}' role='img' "
-            "font-family='DejaVu Sans, Verdana, sans-serif' font-size='11'>")
-    out = [head, f"<title>{escape(picture.title)}</title>"]
-    if style:
-        out.append(f"<style>{STYLE}</style>")
-    out.append(f"<rect class='dk-back' width='{_WIDTH}' height='{drawing.height}' fill='white'/>")
-    parts: list[Callable[[], list[str]]] = [drawing.axis, drawing.lanes, lambda: list(map(drawing.shade, picture.shades)),
-                                            drawing.events, drawing.marks, drawing.legend_parts]
-    for part in parts:
-        out += part()
-    return "\n".join([*out, "</svg>"]) + "\n"
+def svg(picture: Scene, style: bool = True, links: str = "", legend: bool = True) -> str:
+    """The picture as one SVG element, which needs nothing else. A page has the style and the legend itself, and ``links`` from the
+    breaks to its rows: what stands before a row's number."""
+    drawing = _Drawing(picture, links, legend)
+    parts = [drawing.axis(), drawing.lanes(), drawing.shades(), drawing.events(), drawing.marks(), drawing.legend_parts()]
+    return drawing.drawn(parts, style)
+
+
+def strip_svg(strip: Strip, links: str = "") -> str:
+    """The overview of a whole log as one SVG element of a page."""
+    drawing = _StripDrawing(strip, links)
+    return drawing.drawn([drawing.axis(), drawing.lanes(), drawing.bins(), drawing.marks()], False)

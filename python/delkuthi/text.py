@@ -6,49 +6,42 @@
     line   = "unit" UNIT                          ns, us, ms, s, min or h: first, if times have units
            | "dbc" STRING                         a file with the signals, DBC or ARXML, as seen from the table
            | "event" NAME ["=" KIND] source*      KIND is 0 to 63; 48 to 63 are coloured, and their sources too
-           | [STRING] TYPE form                   a row, with a name if it has one
+           | [STRING] TYPE form [window]          a row, with a name if it has one
 """
 from __future__ import annotations
 
 import difflib
 import re
 import unicodedata
-from pathlib import Path
-from typing import Any, Iterator, Sequence
+from dataclasses import dataclass
+from typing import Any, Iterator, Protocol, Sequence
 
 from . import library as lib
 from .fields import MOST, Field, RowType
 from .library import Refused
 from .numbering import TooMany, executed_events, numbered
+from .rows import Event, Executed, Row, one_line
 from .rowtypes import BY_NAME, TYPES, Value
 from .signals import is_coloured
 from .source_text import GRAMMAR as SOURCES
 from .source_text import quoted, read_source, source_text
 from .sources import TARGETS
+from .spelling import nearest
 from .split import split
-from .table import Event, Executed, Row, Table, ask_table, one_line
-from .units import DIGITS, NUMBER, UNITS, NotWhole, exact, in_unit
+from .table_bytes import ask_table
+from .units import DIGITS, NUMBER, UNIT_WORDS, UNITS, NotWhole, exact, in_unit, unit_of
+from .window_text import GRAMMAR as WINDOWS
+from .window_text import read_window
 
 GRAMMAR = (__doc__ or "").split(".. code-block:: text\n\n")[1]
 
-#: What people write for a unit or a row type, and what it is here.
-_UNIT_WORDS = {
-    **dict.fromkeys(("nsec", "nsecs", "nanosecond", "nanoseconds"), "ns"),
-    **dict.fromkeys(("\u00b5s", "\u03bcs", "usec", "usecs", "microsecond", "microseconds"), "us"),
-    **dict.fromkeys(("msec", "msecs", "millis", "millisecond", "milliseconds"), "ms"),
-    **dict.fromkeys(("sec", "secs", "second", "seconds"), "s"), **dict.fromkeys(("mins", "minute", "minutes"), "min"),
-    **dict.fromkeys(("hr", "hrs", "hour", "hours"), "h"),
-}
+#: What people write for a row type, and what it is here.
 _PERIODIC = "a periodic signal is a Sporadic with lower = upper, as in Sporadic EVENT, 10 ms .. 10 ms, jitter 1 ms, minimum 0 ms"
 _TYPE_WORDS = {
     "periodic": _PERIODIC, "period": _PERIODIC, "synchronization": "events in step are a StrongSynchronization",
     "age": "the age of data is a Reaction or a Delay here", "pattern": "a Pattern is several rows here",
     "deadline": "a deadline is a Delay from 0 to it",
 }
-
-
-class _Skip(Exception):
-    """A line that cannot be read because of a mistake in another one, which is said there."""
 
 
 #: So many mistakes of a text are shown at once.
@@ -114,7 +107,8 @@ def form_lines(types: Sequence[RowType]) -> Iterator[str]:
 
 def grammar() -> str:
     """The whole grammar, with a line for each row type."""
-    lines = [*(line[4:] for line in GRAMMAR.rstrip().splitlines()), *SOURCES.splitlines(), "form:", *form_lines(TYPES)]
+    lines = [*(line[4:] for line in GRAMMAR.rstrip().splitlines()), *SOURCES.splitlines(), *WINDOWS.splitlines(), "form:",
+             *form_lines(TYPES)]
     limited = [row_type.name for row_type in TYPES if row_type.has("limit")]
     lines.append("A kind is an event's name or its number; KINDS are two to four of them. A time is a number, with a unit")
     lines.append(f"behind it where the table has one. An UPPER of {', '.join(limited[:-1])} and {limited[-1]} may be the word none.")
@@ -151,8 +145,8 @@ class Line:
     def hint(self, found: str) -> str:
         """What may have been meant by a word that is not expected here."""
         before = self.text[: self.place].rstrip()
-        if before[-1:].isdigit() and found.lower() in _UNIT_WORDS:
-            return f" (the unit is written {_UNIT_WORDS[found.lower()]})"
+        if before[-1:].isdigit() and found.lower() in UNIT_WORDS:
+            return f" (the unit is written {UNIT_WORDS[found.lower()]})"
         if before[-1:].isdigit() and re.match(r",[0-9]", self.text[self.place :]):
             number = re.search(r"[0-9]+$", before)
             part = re.match(r"[0-9]+", self.text[self.place + 1 :])
@@ -186,6 +180,46 @@ class Line:
         return re.sub(r"\\(.)", r"\1", found[1:-1])
 
 
+#: A line up to its comment, and that.
+_COMMENT = re.compile(r"""(?:[^"#]|"(?:[^"\\]|\\.)*")*(#.*)?""")
+
+
+class Comments:
+    """The comments of a text: those above each statement and behind it. A statement is known by how many of each sort come up to it."""
+
+    def __init__(self) -> None:
+        self._found: dict[tuple[str, int], tuple[tuple[str, ...], str]] = {}
+        self._before: tuple[bool, int, int, int] = (False, 0, 0, 0)
+
+    def add(self, statements: tuple[bool, int, int, int] | None, above: list[str], behind: str) -> None:
+        """The comments of the last statement of so many; of the end of the text if there are none."""
+        key = ("end", 0)
+        if statements is not None:
+            sort = max(at for at, (one, other) in enumerate(zip(statements, self._before)) if one != other)
+            key, self._before = (_SORTS[sort], int(statements[sort]) - 1), statements
+        if above or behind:
+            self._found[key] = tuple(above), behind
+
+    def around(self, sort: str, number: int, line: str) -> list[str]:
+        """The line of a statement with its comments; none for the end of the text."""
+        above, behind = self._found.get((sort, number), ((), ""))
+        return [*above, *([f"{line}  {behind}".rstrip()] if line else [])]
+
+
+_SORTS = ("unit", "dbc", "event", "row")
+
+
+@dataclass(frozen=True)
+class Statements:
+    """What a text says, in the order of its lines."""
+
+    rows: Sequence[Row]
+    events: Sequence[Event]
+    unit: str | None
+    databases: Sequence[str]
+    comments: Comments
+
+
 class _Parser:
     """What has been read of a table so far."""
 
@@ -196,25 +230,45 @@ class _Parser:
         self.rows: list[Row] = []
         self.databases: list[str] = []
         self.mistakes: list[TextError] = []
-        #: Names of event lines that have a mistake: rows that use them are not read.
-        self.unsure: set[str] = set()
         self.sources: list[str] = []
+        self.comments = Comments()
+        #: The comments on lines of their own, behind the last statement.
+        self._above: list[str] = []
 
     def take(self, number: int, text: str) -> None:
         """Reads a line; what is wrong with it is noted, and the next one is read."""
         line = Line(self.file, number, text)
         self.sources.append(text)
+        before = self._statements()
         try:
             self.line(line)
-        except _Skip:
-            pass
         except TextError as mistake:
             self.mistakes.append(mistake)
-            event = re.match(r"\s*event\s+([^\W\d]\w*)", text)
-            if event:
-                self.unsure.add(event[1])
-            if re.match(r"\s*unit\b", text) and self.unit is None:
-                self.unit = "ns"
+            self._suppose(text)
+        comment = _COMMENT.fullmatch(text)
+        if before != self._statements():
+            self.comments.add(self._statements(), self._above, (comment[1] or "").rstrip() if comment else "")
+            self._above = []
+        elif comment and comment[1]:
+            self._above.append(comment[1].rstrip())
+
+    def _statements(self) -> tuple[bool, int, int, int]:
+        """How many statements of each sort there are; events that a row implies are none."""
+        return self.unit is not None, len(self.databases), sum(not event.implied for event in self.events), len(self.rows)
+
+    def _suppose(self, text: str) -> None:
+        """What a line with a mistake may have said, so that the lines below it are read too: an event without a source, or a unit."""
+        event = re.match(r"\s*event\s+([^\W\d]\w*)", text)
+        if event and all(one.name != event[1] for one in self.events):
+            self.events.append(Event(event[1], -1 - len(self.events), (), False))
+        unit = re.match(r"\s*unit\b\s*(\w*)", text)
+        if unit and self.unit is None:
+            self.unit = unit_of(unit[1]) or "ns"
+
+    def end(self) -> Comments:
+        """The comments of the whole text."""
+        self.comments.add(None, self._above, "")
+        return self.comments
 
     def line(self, line: Line) -> None:
         if line.ended():
@@ -303,7 +357,7 @@ class _Parser:
             else:
                 columns[part.name] = line.column
                 values[part.name] = self.value(line, part)
-        self.rows.append(Row(row_type, values, name, line.number, columns, executed))
+        self.rows.append(Row(row_type, values, name, line.number, columns, executed, read_window(line, self.kind)))
 
     def executed(self, line: Line) -> Executed | None:
         """The task, interrupt routine or runnable that an ExecutionTime row names in place of four events."""
@@ -345,10 +399,8 @@ class _Parser:
         for event in self.events:
             if event.name == found:
                 return event.kind
-        if found in self.unsure:
-            raise _Skip
-        near = difflib.get_close_matches(found, [event.name for event in self.events], 1)
-        hint = f"did you mean {near[0]}?" if near else "an event line has to declare it"
+        near = nearest(found, [event.name for event in self.events])
+        hint = f"did you mean {near}?" if near else "an event line has to declare it"
         raise line.error(f"expected an event for {what}; {found} is not declared ({hint})", start)
 
     def time(self, line: Line, part: Field) -> int:
@@ -378,8 +430,8 @@ def _bounds(parts: tuple[str | Field, ...]) -> int:
     return max(place for place, part in enumerate(parts) if part == ",")
 
 
-def parse(text: str, file: str = "table") -> Table:
-    """The table of a text; :class:`TextError` or :class:`TextRefused` where it has none, with all its mistakes."""
+def parse(text: str, file: str = "table") -> Statements:
+    """The statements of a text; :class:`TextError` or :class:`TextRefused` where it has none, with all its mistakes."""
     parser = _Parser(file)
     for number, line in enumerate(text.split("\n"), 1):
         parser.take(number, line.rstrip("\r"))
@@ -390,7 +442,7 @@ def parse(text: str, file: str = "table") -> Table:
     except TooMany as error:
         mistakes.append(TextError(file, len(parser.sources), 1, str(error)))
     if not mistakes:
-        return Table(rows, events, parser.unit, parser.databases, str(Path(file).parent))
+        return Statements(rows, events, parser.unit, parser.databases, parser.end())
     mistakes.sort(key=lambda mistake: (mistake.line, mistake.column))
     first, others = mistakes[0], tuple(mistakes[1:])
     if isinstance(first, TextRefused):
@@ -406,11 +458,11 @@ def _refusals(parser: _Parser, rows: list[Row]) -> Iterator[TextRefused]:
         try:
             ask_table(data)
         except Refused as refusal:
-            yield _located(parser, row, Refused(refusal.number, place))
+            yield _refused_at(parser, row, Refused(refusal.number, place))
         place += len(data) - 1
 
 
-def _located(parser: _Parser, row: Row, refusal: Refused) -> TextRefused:
+def _refused_at(parser: _Parser, row: Row, refusal: Refused) -> TextRefused:
     """The refusal with the line and the field that it is about, what was found there and what may stand there."""
     field, found = row.doubtful(refusal.number, parser.unit) or (None, None)
     about = f"{row.type.name}, {field}" if field else row.type.name
@@ -418,24 +470,41 @@ def _located(parser: _Parser, row: Row, refusal: Refused) -> TextRefused:
     return TextRefused(parser.file, row.line, row.columns.get(field or "", 1), message, refusal, parser.sources[row.line - 1])
 
 
-def printed(table: Table) -> str:
-    """The table's text in its normal form: the unit, the events, the rows, in columns."""
-    lines = [] if table.unit is None else [f"unit {table.unit}"]
-    lines += [f"dbc {quoted(name)}" for name in table.databases]
+class Written(Protocol):
+    """What can be printed as text."""
+
+    @property
+    def rows(self) -> Sequence[Row]: ...
+    @property
+    def events(self) -> Sequence[Event]: ...
+    @property
+    def databases(self) -> Sequence[str]: ...
+    @property
+    def unit(self) -> str | None: ...
+    @property
+    def comments(self) -> Comments: ...
+
+
+def printed(table: Written) -> str:
+    """The table's text in its normal form: the unit, the events, the rows, in columns, each with its comments."""
+    around = table.comments.around
+    lines = [] if table.unit is None else around("unit", 0, f"unit {table.unit}")
+    for number, name in enumerate(table.databases):
+        lines += around("dbc", number, f"dbc {quoted(name)}")
     events = [event for event in table.events if not event.implied]
     width = max((len(event.name) for event in events), default=0)
-    for event in events:
+    for number, event in enumerate(events):
         sources = "".join(f"  from {source_text(source)}" for source in event.sources)
         kind = f" = {event.kind:<2}" if event.numbered else ""
-        lines.append(f"event {event.name:{width}}{kind}{sources}".rstrip())
+        lines += around("event", number, f"event {event.name:{width}}{kind}{sources}".rstrip())
     width = max((len(_quoted(row.name)) for row in table.rows), default=0)
-    for row in table.rows:
+    for number, row in enumerate(table.rows):
         form = row_text(table, row)
-        lines.append(f"{_quoted(row.name):{width}}  {form}" if width else form)
-    return "".join(line + "\n" for line in lines)
+        lines += around("row", number, f"{_quoted(row.name):{width}}  {form}" if width else form)
+    return "".join(line + "\n" for line in [*lines, *around("end", 0, "")])
 
 
-def row_text(table: Table, row: Row) -> str:
+def row_text(table: Written, row: Row) -> str:
     """The row without its name."""
     names = {event.kind: event.name for event in table.events}
     text, parts = row.type.name, row.type.parts
@@ -445,7 +514,7 @@ def row_text(table: Table, row: Row) -> str:
     for part in parts:
         word = part if isinstance(part, str) else _value_text(row, part, names, table.unit)
         text += word if word == "," else f" {word}"
-    return text
+    return text if row.window is None else f"{text} while {' .. '.join(names.get(kind, str(kind)) for kind in row.window)}"
 
 
 def _value_text(row: Row, part: Field, names: dict[int, str], unit: str | None) -> str:

@@ -3,6 +3,15 @@ from __future__ import annotations
 
 #: How many nanoseconds each unit has, the smallest first.
 UNITS = {"ns": 1, "us": 10**3, "ms": 10**6, "s": 10**9, "min": 60 * 10**9, "h": 3600 * 10**9}
+#: What people write for a unit, in small letters, and what it is here.
+UNIT_WORDS = {
+    **dict.fromkeys(("nsec", "nsecs", "nanos", "nanosec", "nanosecs", "nanosecond", "nanoseconds"), "ns"),
+    **dict.fromkeys(("\u00b5s", "\u03bcs", "\u00b5sec", "\u03bcsec", "usec", "usecs", "micros", "microsec", "microsecs", "microsecond",
+                     "microseconds"), "us"),
+    **dict.fromkeys(("msec", "msecs", "millis", "millisec", "millisecs", "millisecond", "milliseconds"), "ms"),
+    **dict.fromkeys(("sec", "secs", "second", "seconds", "sek", "sekunde", "sekunden"), "s"),
+    **dict.fromkeys(("mins", "minute", "minutes", "minuten"), "min"), **dict.fromkeys(("hr", "hrs", "hour", "hours", "stunden"), "h"),
+}
 #: What a number looks like: not longer than any time needs.
 DIGITS = r"[0-9]{1,40}"
 NUMBER = rf"{DIGITS}(?:\.{DIGITS})?"
@@ -10,6 +19,15 @@ NUMBER = rf"{DIGITS}(?:\.{DIGITS})?"
 
 class NotWhole(ValueError):
     """A time that is no whole number of the unit it has to be in."""
+
+
+def unit_of(word: str) -> str | None:
+    """The unit that a word of a log says, in any letters if it is a long word; a short one in small letters or all in capitals, as ``Ms``
+    could be a megasecond."""
+    small = word.lower()
+    if len(word) < 3 and word not in (small, word.upper()):
+        return None
+    return small if small in UNITS else UNIT_WORDS.get(small)
 
 
 def _ratio(number: str, written: str | None, unit: str | None) -> tuple[int, int]:
@@ -57,6 +75,13 @@ def shown(time: int, unit: str | None) -> str:
         name = "us" if nanoseconds >= 10**3 or unit != "ns" else "ns"
     else:
         name = "ms" if nanoseconds < 10**10 else "s"
-    whole, part = divmod(nanoseconds, UNITS[name])
-    digits = f"{part:0{len(str(UNITS[name])) - 1}d}".rstrip("0") if part else ""
-    return f"{whole}.{digits} {name}" if digits else f"{whole} {name}"
+    return f"{decimal(nanoseconds, UNITS[name])} {name}"
+
+
+def decimal(time: int, size: int) -> str:
+    """A time in a unit of which each has ``size``, a power of ten: with all its digits, and no unit behind it."""
+    if time < 0:
+        return f"-{decimal(-time, size)}"
+    whole, part = divmod(time, size)
+    digits = f"{part:0{len(str(size)) - 1}d}".rstrip("0") if part else ""
+    return f"{whole}.{digits}" if digits else str(whole)

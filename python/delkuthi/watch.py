@@ -9,22 +9,26 @@ import argparse
 import math
 import os
 import select
+import shutil
 import signal
 import sys
 import tempfile
 import time as clock
-from collections import Counter
+from collections import Counter, deque
 from contextlib import contextmanager
 from dataclasses import dataclass
+from itertools import islice
 from typing import IO, Any, Callable, Collection, Iterator
 
-from .check import UNEXERCISED, UNKNOWN, Late, Run, reasons_of
+from .check import UNEXERCISED
+from .explain import RowHistory
 from .library import Refused
 from .logs import LogError, Step
 from .mapping import CanMapping
 from .time_format import TimeFormat
 from .monitor import Monitor
 from .monitors import Monitors, monitor_of
+from .options import refuse_windows
 from .output import number_of
 from .recording import record_bytes, records
 from .rowtypes import judged
@@ -35,6 +39,8 @@ from .writing import NotWritten, complain, out
 
 #: After so many seconds without a frame it is said that none comes; the status line is written so often.
 SILENT, SHOWN = 2.0, 0.25
+#: The rate of the status line is that of so many seconds.
+RATE_SECONDS = 3.0
 
 
 @dataclass
@@ -42,21 +48,25 @@ class _Before:
     """What is needed to go back before the last marker: the monitor right after it, and how things stood before it."""
 
     marked: Monitor | Monitors
-    place: int
     clock: int
     number: int
     last: dict[int, int]
     broken: dict[int, int]
     seen: Counter[int | None]
+    histories: list[RowHistory]
+    #: Where its record stands in the spool.
+    place: int
 
 
 class Watch:
-    """A monitor that is stepped while events come, with what it needs to say why a row broke and to withdraw a marker."""
+    """A monitor that is stepped while events come. For each row it keeps the few events that its reason may need, and since the last
+    marker the steps are in a file: so memory does not grow, however long it runs."""
 
-    def __init__(self, table: Table, say: Callable[[str], None], spool: IO[bytes]):
+    def __init__(self, table: Table, say: Callable[[str], None], spool: IO[bytes], record: bool = True):
+        """``spool`` takes the recording. Unless that is wanted for itself, it has the steps from the last marker on."""
         if table.unit is None:
             raise LogError("watch", "", "the table needs a unit line")
-        self.table, self.say, self.spool = table, say, spool
+        self.table, self.say, self.spool, self._record = table, say, spool, record
         self.monitor: Monitor | Monitors = monitor_of(table)
         self.mapping = CanMapping(table)
         # The clock is ahead of the stamps by the largest jitter, as in a log.
@@ -68,9 +78,13 @@ class Watch:
         self.broken: dict[int, int] = {}
         self.seen: Counter[int | None] = Counter()
         self._before: _Before | None = None
-        self._since: list[Step] = []
+        self._histories = [RowHistory(table, row, lambda place: f"step {place}", self.time_format) for row in range(len(table.rows))]
+        self._rows_of: dict[int | None, list[int]] = {}
+        for number, row in enumerate(table.rows):
+            for one in row.signals:
+                self._rows_of.setdefault(one, []).append(number)
         #: Broken rows whose answer may still come.
-        self._late: dict[int, Late] = {}
+        self._late: set[int] = set()
         coloured = any(source.colour is not None for event in table.events for source in event.sources)
         self.spool.write(b"\x02" if coloured else b"\x01")
 
@@ -98,39 +112,56 @@ class Watch:
         if time <= self.last.get(kind, -1):
             self.left_out += 1
             return
-        self._take(Step(kind, time, 0))
+        self._take(Step(kind, time, self.number + 1))
 
     def tick(self, time: int) -> None:
         """Moves the clock on, if the time is later."""
         if time > self.clock:
-            self._take(Step(None, time, 0))
+            self._take(Step(None, time, self.number + 1))
 
     def marker(self, kind: int, time: int) -> None:
         """Takes an event that can be withdrawn."""
-        before = (self.spool.tell(), self.clock, self.number, dict(self.last), dict(self.broken), Counter(self.seen))
         self.say(f"{self.table.event_name(kind)} at {self.time_format.at(max(time, self.clock))}")
+        place = self.spool.tell() if self._record else 1
+        before = (self.clock, self.number, dict(self.last), dict(self.broken), Counter(self.seen),
+                  [history.copy() for history in self._histories], place)
         self.event(kind, time)
-        if self.number > before[2]:
-            self._before, self._since = _Before(self.monitor.copy(), *before), []
+        if self.number == before[1]:
+            return
+        if not self._record:
+            # What came before this marker cannot be withdrawn any more.
+            self.spool.seek(place)
+            self.spool.truncate()
+            self.spool.write(record_bytes(kind, self.clock))
+        self._before = _Before(self.monitor.copy(), *before)
 
     def withdraw(self) -> bool:
         """Takes the last marker back, once, by the library's withdrawal; what came after it is taken again. Answers whether
         there was one."""
         if self._before is None:
             return False
-        before, since = self._before, self._since
-        self._before, self._since, self._late = None, [], {}
+        before, self._before, self._late = self._before, None, set()
         before.marked.withdraw()
-        self.monitor, self.clock, self.number, self.last, self.seen = (
-            before.marked, before.clock, before.number, before.last, before.seen)
-        self.spool.seek(before.place)
-        self.spool.truncate()
+        self.monitor, self.clock, self.number, self.last, self.seen, self._histories = (
+            before.marked, before.clock, before.number, before.last, before.seen, before.histories)
         again, self.broken = set(self.broken) - set(before.broken), before.broken
-        for step in since:
+        for step in self._since(before.place):
             self._take(step, again)
         for row in sorted(again - set(self.broken)):
             self.say(f"{self.table.row_name(row)} is not broken any more")
         return True
+
+    def _since(self, place: int) -> Iterator[Step]:
+        """The steps after the marker whose record stands at this place of the spool, each taken out of it before it is given."""
+        with tempfile.TemporaryFile() as rest:
+            self.spool.seek(place)
+            shutil.copyfileobj(self.spool, rest)
+            self.spool.seek(place)
+            self.spool.truncate()
+            rest.seek(0)
+            for _, number, time in islice(records(rest), 1, None):
+                assert time is not None
+                yield Step(number, time, self.number + 1)
 
     def close(self) -> None:
         """Closes the recording."""
@@ -140,57 +171,46 @@ class Watch:
 
     def _take(self, step: Step, silent: Collection[int] = ()) -> None:
         try:
-            self.monitor.take(step.kind, step.time)
+            self.monitor.take(step.signal, step.time)
         except Refused as refusal:
             self.left_out += 1
-            name = "the clock" if step.kind is None else self.table.event_name(step.kind)
+            name = "the clock" if step.signal is None else self.table.event_name(step.signal)
             self.say(f"{name} at {self.time_format.at(step.time)} {refusal}")
             return
-        if step.kind is not None:
-            self.last[step.kind] = step.time
-        self.seen[step.kind] += 1
+        if step.signal is not None:
+            self.last[step.signal] = step.time
+        self.seen[step.signal] += 1
         self.clock, self.number = step.time, self.number + 1
-        if self._before is not None:
-            self._since.append(step)
-        self.spool.write(record_bytes(step.kind, step.time))
-        self._answered(step)
+        if self._record or self._before is not None:
+            self.spool.write(record_bytes(step.signal, step.time))
+        for row in self._rows_of.get(step.signal, ()):
+            assert step.signal is not None
+            self._histories[row].add(step.signal, step.time, step.place)
+        if self._late:
+            self._say_answers()
         self._ask(step, silent)
 
-    def _answered(self, step: Step) -> None:
-        """Says each answer that comes too late, for a row that was said to be broken."""
-        for row, late in list(self._late.items()):
-            text = None if step.kind is None else late.take(step.kind, step.time, self.number)
-            if text is not None:
-                del self._late[row]
-                self.say(f"{self.table.row_name(row)}: {text}")
+    def _say_answers(self) -> None:
+        """Says each answer that has come too late, for a row that was said to be broken."""
+        for row in sorted(row for row in self._late if self._histories[row].answered):
+            self._late.remove(row)
+            self.say(f"{self.table.row_name(row)}: {self._histories[row].explanation(True).text}")
 
     def _ask(self, step: Step | None, silent: Collection[int]) -> None:
         """Says each row that is broken now and was not; those in ``silent`` have been said before."""
-        found = Run(steps=self.number)
-        for row in range(len(self.table.rows)):
-            number = None if row in self.broken else self.monitor.step(row)
-            if number is not None:
-                self.broken[row] = number
-                found.broken[row] = number, step
-        new = sorted(set(found.broken) - set(silent))
-        if not new:
+        bits = self.monitor.broken_rows()
+        if bits.bit_count() == len(self.broken):
             return
-        why = reasons_of(self.table, self.steps(), found, lambda place: f"step {place}", self.time_format, ended=step is None)
-        self.spool.seek(0, os.SEEK_END)
-        for row in new:
-            at = "at the end" if step is None else f"at {self.time_format.at(self.clock)}"
-            text = why[row].text if row in why else UNKNOWN
-            waiting = why[row].late if row in why else None
-            if waiting is not None:
-                self._late[row] = waiting
-            self.say(f"{self.table.row_name(row)} ({self.table.rows[row].type.name}) broken {at}: {text}")
-
-    def steps(self) -> Iterator[Step]:
-        """The steps so far, from the spool."""
-        self.spool.seek(1)
-        for number, (_, kind, time) in enumerate(records(self.spool), 1):
-            assert time is not None
-            yield Step(kind, time, number)
+        at = "at the end" if step is None else f"at {self.time_format.at(self.clock)}"
+        for row in [row for row in range(len(self.table.rows)) if bits >> row & 1 and row not in self.broken]:
+            self.broken[row] = self.monitor.step(row) or self.number
+            history = self._histories[row]
+            history.break_at(self.clock, step is None)
+            if row not in silent:
+                why = history.explanation(step is None)
+                self.say(f"{self.table.row_name(row)} ({self.table.rows[row].type.name}) broken {at}: {why.text}")
+            if not history.answered:
+                self._late.add(row)
 
     @property
     def unexercised(self) -> list[int]:
@@ -198,13 +218,28 @@ class Watch:
         return [number for number, row in enumerate(self.table.rows)
                 if number not in self.broken and not judged(row.type, row.values, self.seen)]
 
-    def status(self, seconds: float) -> str:
-        """What there was so far, in a line: frames, events, rate, rows, and how long it is to the next deadline."""
+    def status(self, seconds: float, rate: float) -> str:
+        """What there was so far, in a line: frames, their rate a second, events, rows, and how long it is to the next deadline."""
         events, rows = sum(self.seen.values()) - self.seen[None], len(self.table.rows)
-        text = (f"{seconds:.0f} s: {number_of(self.frames, 'frame')} ({self.frames / max(seconds, 1):.0f}/s), "
+        text = (f"{seconds:.0f} s: {number_of(self.frames, 'frame')} ({rate:.0f}/s), "
                 f"{number_of(events, 'event')}, {number_of(rows - len(self.broken), 'row')} open, {len(self.broken)} broken")
         deadline = self.monitor.deadline()
         return text if deadline is None else f"{text}, next deadline in {max(self.seconds(deadline) - seconds, 0):.3f} s"
+
+
+class Rate:
+    """How many frames came a second, over the last few seconds."""
+
+    def __init__(self) -> None:
+        self._counts: deque[tuple[float, int]] = deque([(0.0, 0)])
+
+    def over(self, now: float, frames: int) -> float:
+        """The rate by how many frames there were so far."""
+        self._counts.append((now, frames))
+        while len(self._counts) > 2 and self._counts[1][0] <= now - RATE_SECONDS:
+            self._counts.popleft()
+        since, before = self._counts[0]
+        return (frames - before) / max(now - since, SHOWN)
 
 
 class Clock:
@@ -236,7 +271,7 @@ class Screen:
         self.watch = watch
         self.live = sys.stderr is not None and sys.stderr.isatty()
         self.shown = self.came = 0.0
-        self.silent = False
+        self.silent, self.rate = False, Rate()
 
     def frame(self, now: float) -> None:
         """A frame has come."""
@@ -251,7 +286,7 @@ class Screen:
             self.line(f"no frame for {now - self.came:.0f} s" if self.watch.frames else f"no frame has come yet, after {now:.0f} s")
         if self.live and now - self.shown >= SHOWN:
             self.shown = now
-            sys.stderr.write(f"\r\x1b[K{self.watch.status(now)}")
+            sys.stderr.write(f"\r\x1b[K{self.watch.status(now, self.rate.over(now, self.watch.frames))}")
             sys.stderr.flush()
 
     def clear(self) -> None:
@@ -387,9 +422,10 @@ def _spool(path: str | None) -> IO[bytes]:
 
 def watch_command(given: argparse.Namespace, table: Table) -> int:
     """``delkuthi watch``: 0 if every row is kept in the end, 1 if one is broken, 2 if no frame ever came or the bus failed."""
+    refuse_windows(table, given.table, range(len(table.rows)), "watch does not take it")
     bus = _bus(given)
     with bus, _spool(given.record) as spool, _keyboard() as pressed, _signals(pressed) as (keys, stopped):
-        watch = Watch(table, lambda text: screen.say(text), spool)
+        watch = Watch(table, lambda text: screen.say(text), spool, given.record is not None)
         screen = Screen(watch)
         if watch.keys and sys.stdin is not None and sys.stdin.isatty():
             names = ", ".join(f"{key} {table.event_name(kind)}" for key, kind in watch.keys.items())

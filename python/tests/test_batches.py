@@ -1,8 +1,10 @@
 """Many lines at a time give what one line after the other gives: steps, counts, verdicts, reasons, errors."""
+import io
 import random
 from contextlib import contextmanager
 from dataclasses import replace
 
+import can
 import pytest
 
 from delkuthi import Row, Table, batches, monitors
@@ -101,13 +103,130 @@ def as_asc(rng, lines):
     return text
 
 
-FORMATS = {"csv": as_csv, "log": as_candump, "asc": as_asc}
+def as_trc(rng, lines):
+    """TRC of several versions; now and then a line that is no data frame."""
+    version = rng.choice(["1.1", "1.3", "2.1"])
+    text, number = f";$FILEVERSION={version}\n;$STARTTIME=0\n", 0
+    for time, kind, bus, data in lines:
+        number += 1
+        stamp, identifier, octets = f"{time // 1000}.{time % 1000:03d}", f"{0x100 + kind:04X}", data.hex(" ").upper()
+        if rng.random() < 0.01:
+            octets = rng.choice(["RTR", octets + " RTR", octets[:-1]])
+        text += {"1.1": f"{number:6})  {stamp}  Rx  {identifier}  {len(data)}  {octets}\n",
+                 "1.3": f"{number:6})  {stamp}  {int(bus[-1]) + 1}  Rx  {identifier} -  {len(data)}  {octets}\n",
+                 "2.1": f"{number:6}  {stamp}  DT  {int(bus[-1]) + 1}  {identifier}  Rx  -  {len(data)}  {octets}\n"}[version]
+        if rng.random() < 0.005:
+            text += rng.choice(["\n", "; a note\n", "7) x Rx 0100 1 00\n", "7 5.0 ST 1 0100 Rx - 4 00 00 00 08\n"])
+    return text
+
+
+def as_blf(rng, lines):
+    """What python-can writes, the containers small; of classic frames, or with some of CAN FD and errors among them."""
+    file, mixed = io.BytesIO(), rng.random() < 0.5
+    writer = can.BLFWriter(file, max_container_size=rng.choice([200, 1000, 100_000]))
+    for time, kind, bus, data in lines:
+        message = can.Message(timestamp=time / 10**6, arbitration_id=0x100 + kind, is_extended_id=False, data=data, channel=int(bus[-1]))
+        if mixed and rng.random() < 0.2:
+            message.is_fd, message.is_error_frame = rng.choice([(True, False), (False, True)])
+        writer(message)
+    close, file.close = file.close, lambda: None
+    writer.stop()
+    found = file.getvalue()
+    close()
+    return found if rng.random() < 0.95 else found[: rng.randint(0, len(found))]
+
+
+def as_samples(rng, lines):
+    """Four columns of samples; sometimes with other spellings, empty cells, or something that is no number."""
+    comma = rng.random() < 0.3
+    mark, faults = ";" if comma else ",", rng.random() < 0.1
+    text = mark.join(["time_us", "speed", "gear", "level", "remark"]) + "\n"
+    for time, kind, _, data in lines:
+        cells = [rng.choice(["5", "5.0", "4.9", "5.000000000000000000001", "6", "-1", "+5", "", "NaN", " 5.1"]),
+                 rng.choice(["P", "R", "D", "1", "1.0", ""]), rng.choice(["0", "0.1", "0.10", ".1", "1", ""]), ""]
+        if faults and rng.random() < 0.02:
+            cells[0] = rng.choice(["soft", "1e2", "0x5", "--1"])
+        text += mark.join([str(time), *(cell.replace(".", ",") if comma else cell for cell in cells)]) + "\n"
+    return text
+
+
+def as_btf(rng, lines):
+    waits, other = rng.random() < 0.3, rng.random() < 0.1
+    text = f"#version 2.1.5\n#timeScale{rng.choice([' ', '='])}us\n"
+    for time, kind, bus, data in lines:
+        action = rng.choice(["start", "terminate", "preempt", "resume", "activate", *(["wait", "resume"] if waits else [])])
+        what = rng.choice(["T,T10", "T,T20", "I,Timer", "R,Filter", "t,T10"]) if rng.random() < 0.98 else rng.choice(["SIG,Speed", "T, T10"])
+        note = ",note" if other and rng.random() < 0.05 else ""
+        text += f"{time},Core_1,0,{what},{rng.randint(0, 1)},{action}{note}\n"
+        if other and rng.random() < 0.01:
+            text += rng.choice(["# a comment\n", "\n", "1,2,3\n", f"{time}.5,C,0,T,T10,0,start\n"])
+    return text
+
+
+FORMATS = {"csv": as_csv, "log": as_candump, "asc": as_asc, "trc": as_trc, "blf": as_blf}
+SAMPLES = """unit us
+event fast from column speed rises above 5
+event slow from column speed falls below 5
+event five from column speed becomes 5
+event gear from column gear changes
+event reverse from column gear becomes "R"
+event level from column level changes
+event tenth from column level becomes 0.1
+Order fast -> slow
+Repeat gear span 1, 1 us .. 40 us
+Delay five -> level, 0 .. 20 us
+Delay reverse -> tenth, 0 .. 20 us
+"""
+TASKS = """unit us
+event activated from task "T10" activate
+event timer from isr "Timer" start
+event filtered from runnable "Filter" terminate
+ExecutionTime task "T10", 1 us .. 40 us
+ExecutionTime task "T10" without waiting, 1 us .. 40 us
+Delay activated -> filtered, 0 .. 50 us
+Repeat timer span 1, 1 us .. 90 us
+"""
+DBC = """VERSION ""
+
+BU_: A
+
+BO_ 256 Brake: 8 A
+ SG_ Pedal : 0|8@1+ (0.5,-1) [0|100] "%" A
+ SG_ Lamp : 8|2@1+ (1,0) [0|3] "" A
+ SG_ Turn : 23|8@0- (-0.1,0) [0|0] "" A
+
+BO_ 257 Mux: 8 A
+ SG_ Sel M : 0|1@1+ (1,0) [0|1] "" A
+ SG_ One m1 : 8|8@1+ (1,0) [0|0] "" A
+
+VAL_ 256 Lamp 0 "off" 1 "on" 2 "on" 3 "fault" ;
+"""
+SIGNALS = """unit us
+dbc "a.dbc"
+event pressed from signal Pedal rises above 4.5
+event released from signal Pedal falls below 4.5
+event on from signal Lamp becomes "on"
+event off from signal Lamp bus can0 becomes "off" from signal Lamp bus 1 becomes "off"
+event turn from signal Turn rises above -0.2
+event one from signal One changes
+event eight from can 0x100 data 12 on change
+event all from can 0x102
+Delay pressed -> on, 0 .. 30 us
+Order pressed -> released
+Repeat turn span 1, 1 us .. 50 us
+Delay one -> eight, 0 .. 99 us
+Repeat all span 1, 1 us .. 99 us
+Order off -> on
+"""
+#: Tables that do not go by frames alone, and the logs for them.
+OTHERS = {"samples.csv": (SAMPLES, as_samples), "tasks.btf": (TASKS, as_btf), "signals.log": (SIGNALS, as_candump),
+          "signals.blf": (SIGNALS, as_blf), "signals.asc": (SIGNALS, as_asc)}
 
 
 def outcome_of(table, path, policy):
     """All that a check says; of an error the text alone."""
     found = check(table, str(path), policy, measured=True)
-    return found.error or replace(found)
+    return found.error or replace(found, started="", seconds=0.0)
 
 
 def steps_of(table, path, policy):
@@ -119,13 +238,16 @@ def steps_of(table, path, policy):
         return str(error)
 
 
-@pytest.mark.parametrize("ending", FORMATS)
+@pytest.mark.parametrize("ending", [*FORMATS, *OTHERS])
 def test_random_logs(tmp_path, ending):
     rng = random.Random(9)
     path, broken, errors = tmp_path / f"a.{ending}", 0, 0
-    for number in range(250):
-        table = random_table(rng)
-        path.write_bytes(FORMATS[ending](rng, random_lines(rng)).encode())
+    (tmp_path / "a.dbc").write_text(DBC)
+    for number in range(250 if ending in FORMATS else 150):
+        text, writer = OTHERS.get(ending, ("", FORMATS.get(ending)))
+        table = Table.from_text(text, str(tmp_path / "table.txt")) if text else random_table(rng)
+        written = writer(rng, random_lines(rng))
+        path.write_bytes(written if isinstance(written, bytes) else written.encode())
         policy = Policy(equal=rng.choice(["refuse", "drop", "later", "later"]), round=rng.random() < 0.2, from_zero=rng.random() < 0.3,
                         close=rng.random() < 0.8, until=rng.choice([None, None, 10**10]), unsorted=rng.choice(["refuse"] * 4 + ["sort"]))
         with set_to(batches, "BLOCK", rng.choice([150, 700, 1 << 16])), set_to(monitors, "KEPT", rng.choice([100, 10**6])):
@@ -135,7 +257,7 @@ def test_random_logs(tmp_path, ending):
                 assert steps == steps_of(table, path, policy)
         broken += not isinstance(found, str) and bool(found.broken)
         errors += isinstance(found, str)
-    assert broken > 40 and errors > 10, (broken, errors)
+    assert broken > 25 and errors > 5, (broken, errors)
 
 
 def test_more_rows_than_a_monitor_has(tmp_path):

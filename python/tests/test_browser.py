@@ -1,4 +1,5 @@
-"""The pages in a real browser, without a window: nothing is cut off, on a wide screen or a phone, and nothing goes wrong."""
+"""The pages in a real browser, without a window: nothing is cut off, on a wide screen, a phone or paper; sorting and filtering work; and
+the page does without scripts."""
 import json
 import re
 import shutil
@@ -8,64 +9,131 @@ from html import unescape
 import pytest
 
 from delkuthi import Table
-from delkuthi.check import check
-from delkuthi.command import pictured
-from delkuthi.html_page import as_html
-from delkuthi.logs import Policy
 
 from conftest import EXAMPLES
+from test_page import many_rows, page_of
 
 BROWSER = next((name for name in ("chromium", "chromium-browser", "google-chrome") if shutil.which(name)), None)
 pytestmark = pytest.mark.skipif(BROWSER is None, reason="no browser (Debian: chromium)")
 
-#: Measures the page, and writes what it found at its end.
-_MEASURE = """<script>addEventListener("load", () => {
-  const wide = document.documentElement.clientWidth, found = {wide, scroll: document.documentElement.scrollWidth, cut: [], verdicts: 0};
-  for (const cell of document.querySelectorAll("td.verdict")) {
-    const box = cell.getBoundingClientRect();
-    found.verdicts += 1;
-    if (box.left < 0 || box.right > wide || !box.height) found.cut.push(cell.textContent);
+#: Measures the page, and writes what it found at its end. What a box of its own scrolls is not cut off.
+_MEASURE = """
+  const wide = document.documentElement.clientWidth, cut = [];
+  const scrolls = one => one.closest(".picture, details.violations");
+  for (const one of document.querySelectorAll("body *")) {
+    const box = one.getBoundingClientRect();
+    if (box.width && !scrolls(one) && (box.left < -1 || box.right > wide + 1)) cut.push(one.outerHTML.slice(0, 90));
+    const style = getComputedStyle(one);
+    if (!scrolls(one) && /^(TD|TH|P|H1|H2|DD)$/.test(one.tagName) && one.scrollWidth > one.clientWidth + 1) cut.push("in " + one.outerHTML.slice(0, 90));
   }
-  for (const text of document.querySelectorAll("svg text")) {
+  for (const text of document.querySelectorAll(".picture svg text")) {
     const box = text.getBBox(), all = text.ownerSVGElement.viewBox.baseVal;
-    if (box.x < -1 || box.x + box.width > all.width + 1) found.cut.push(text.textContent);
+    if (box.x < -1 || box.x + box.width > all.width + 1 || box.y < 0 || box.y + box.height > all.height) cut.push("text " + text.textContent);
   }
-  found.links = [...document.querySelectorAll("a")].every(a => document.querySelector(a.getAttribute("href")));
-  found.dark = matchMedia("(prefers-color-scheme: dark)").matches;
-  found.back = getComputedStyle(document.body).backgroundColor;
-  const out = document.createElement("pre"); out.id = "measured"; out.textContent = JSON.stringify(found);
-  document.body.append(out);
-});</script></body>"""
+  const limits = [...document.querySelectorAll("svg.histogram .limit")].filter(line => {
+    const box = line.getBoundingClientRect(), all = line.ownerSVGElement.getBoundingClientRect();
+    return box.left < all.left + 1 || box.right > all.right - 1 || !all.width;
+  }).length;
+  const visible = [...document.querySelectorAll("td.verdict")].filter(one => one.getBoundingClientRect().height).length;
+  const links = [...document.querySelectorAll("a")].every(a => document.querySelector(a.getAttribute("href")));
+  return {wide, scroll: document.documentElement.scrollWidth, cut, limits, visible, links,
+          bars: document.querySelectorAll("svg.histogram").length,
+          dark: matchMedia("(prefers-color-scheme: dark)").matches, back: getComputedStyle(document.body).backgroundColor};
+"""
 
-LONG = Table.from_text("""\
+LONG_NAME = "indicator_mirror_on_the_left_hand_side_of_the_vehicle_body_work_module"
+LONG = Table.from_text(f"""\
 unit us
-event indicator_mirror_on_the_left_hand_side_of_the_vehicle_body_work_module = 0
+event {LONG_NAME} = 0
 event b = 1
-"REQ-4711 Innenbeleuchtung nach dem \u00d6ffnen der Fahrert\u00fcr, <b>ungedrosselt</b>"  Delay 0 -> b, 0 ms .. 50 ms
+"REQ-4711 Innenbeleuchtung nach dem \u00d6ffnen der Fahrert\u00fcr, <b>ungedrosselt</b>"  Delay 0 -> b, 0 ms .. 7 ms
+"REQ_BODY_CONTROL_MODULE_INTERIOR_LIGHTING_AFTER_DOOR_OPENING_WITHOUT_ANY_SPACE_IN_ITS_NAME_0815" Repeat 0 span 1, 7000 us .. 7002 us
 "never"  Order 4 -> 5
 """)
 
 
-def pages(tmp_path):
-    table = Table.read(EXAMPLES / "drive.txt")
-    yield "drive", as_html(table, "drive.txt", [pictured(table, Policy(), check(table, str(EXAMPLES / "drive.csv"), measured=True))])
-    path = tmp_path / "a.csv"
-    name = LONG.events[0].name
-    path.write_text("time_s,event\n" + "".join(f"1600000000.{number:06d},{name if number % 3 else 'b'}\n" for number in range(0, 500000, 7001)))
-    outcomes = [check(LONG, str(path), measured=True), check(LONG, "nowhere.csv")]
-    yield "long", as_html(LONG, "long.txt", [pictured(LONG, Policy(), outcome) for outcome in outcomes])
+def run(tmp_path, page, width, script, dark=False):
+    """What a script gives that is run in the page once it is there."""
+    path = tmp_path / "page.html"
+    page = re.sub(r'<meta http-equiv="Content-Security-Policy"[^>]*>', "", page)  # it would not let the test's own script run
+    added = ('<script>addEventListener("load", () => { const found = (() => {' + script + "})();\n"
+             'const out = document.createElement("pre"); out.id = "measured"; out.textContent = JSON.stringify(found);\n'
+             "document.body.append(out); });</script></body>")
+    path.write_text(page.replace("</body>", added), encoding="utf-8")
+    words = [BROWSER, "--headless", "--no-sandbox", "--disable-gpu", "--hide-scrollbars", f"--window-size={width},900",
+             f"--user-data-dir={tmp_path}/profile", f"--blink-settings=preferredColorScheme={0 if dark else 1}", "--dump-dom", path.as_uri()]
+    done = subprocess.run(words, capture_output=True, text=True, timeout=90)
+    return json.loads(unescape(re.search(r'<pre id="measured">(.*?)</pre>', done.stdout)[1]))
 
 
-@pytest.mark.parametrize("width", [1400, 390])
-@pytest.mark.parametrize("dark", [False, True])
-def test_the_pages(tmp_path, width, dark):
-    for name, page in pages(tmp_path):
-        path = tmp_path / f"{name}.html"
-        path.write_text(page.replace("</body>", _MEASURE), encoding="utf-8")
-        words = [BROWSER, "--headless", "--no-sandbox", "--disable-gpu", f"--window-size={width},900", f"--user-data-dir={tmp_path}/profile",
-                 f"--blink-settings=preferredColorScheme={0 if dark else 1}", "--dump-dom", path.as_uri()]
-        done = subprocess.run(words, capture_output=True, text=True, timeout=90)
-        found = json.loads(unescape(re.search(r'<pre id="measured">(.*?)</pre>', done.stdout)[1]))
-        assert found["cut"] == [] and found["links"] and found["verdicts"] > 1
-        assert found["scroll"] <= found["wide"], "nothing is wider than the screen"
-        assert (found["dark"], found["back"]) == (dark, "rgb(16, 18, 22)" if dark else "rgb(255, 255, 255)")
+@pytest.fixture(scope="module")
+def pages(tmp_path_factory):
+    """Pages that are hard to lay out: the drive; long names, long stamps and a log that is missing; many rows that are broken."""
+    folder = tmp_path_factory.mktemp("pages")
+    (folder / "a.csv").write_text("time_s,event\n" + "".join(
+        f"1600000000.{number:06d},{LONG_NAME if number % 3 else 'b'}\n" for number in range(0, 500000, 7001)))
+    (folder / "b.csv").write_text("time,event\n" + "".join(f"{10 * number},a{number}\n" for number in range(40)))
+    (folder / "c.csv").write_text("time,event\n" + "".join(f"{10 * number},{'ab'[number % 2]}{number % 60 // 2}\n" for number in range(6000)))
+    return {"drive": page_of(Table.read(EXAMPLES / "drive.txt"), EXAMPLES / "drive.csv"),
+            "long": page_of(LONG, folder / "a.csv", folder / "nowhere.csv"),
+            "broken": page_of(many_rows(40), folder / "b.csv"), "large": page_of(many_rows(30), folder / "c.csv")}
+
+
+def right(found, dark):
+    assert found["cut"] == [] and found["limits"] == 0 and found["links"] and found["visible"]
+    assert found["scroll"] <= found["wide"], "nothing is wider than the screen"
+    assert (found["dark"], found["back"]) == (dark, "rgb(16, 18, 22)" if dark else "rgb(255, 255, 255)")
+
+
+@pytest.mark.parametrize("name", ["drive", "long", "broken", "large"])
+@pytest.mark.parametrize("width, dark", [(1400, False), (1400, True), (1920, False), (390, True), (800, False)])
+def test_nothing_is_cut_off(tmp_path, pages, name, width, dark):
+    right(run(tmp_path, pages[name], width, _MEASURE, dark), dark)
+
+
+@pytest.mark.parametrize("name", ["drive", "long", "broken", "large"])
+def test_on_paper(tmp_path, pages, name):
+    """A4 without its margins is 186 mm wide, 703 px; what is for print is measured as if it were for all."""
+    page = pages[name].replace("@media screen and", "@media speech and").replace("@media print", "@media all")
+    right(run(tmp_path, page, 703, _MEASURE), False)
+
+
+def test_sorting_and_filtering(tmp_path, pages):
+    found = run(tmp_path, pages["drive"], 1400, """
+      const rows = () => [...document.querySelectorAll("tbody.row")].filter(row => !row.hidden).map(row => row.id.split("row")[1]).join(" ");
+      const press = text => [...document.querySelectorAll("th [role=button]")].find(one => one.textContent.startsWith(text)).click();
+      const tools = document.querySelector("form.tools"), found = {tools: !tools.hidden, first: rows()};
+      const enter = (name, value) => { tools.elements[name].value = value; tools.dispatchEvent(new Event("input")); };
+      press("no."); found.number = rows();
+      press("judged"); press("judged"); found.judged = rows().split(" ")[0];
+      press("margin"); found.margin = rows().split(" ").slice(0, 2).join(" ");
+      press("verdict"); found.verdict = rows();
+      enter("state", "broken"); found.broken = rows();
+      enter("text", "TYRE"); found.tyre = rows();
+      found.said = tools.querySelector(".found").textContent;
+      location.hash = "#log1-row1";
+      dispatchEvent(new Event("hashchange")); found.link = rows();
+      return found;""")
+    first = "1 9 7 0 2 3 4 5 6 8 10 11 12"
+    assert found == {"tools": True, "first": first, "number": " ".join(map(str, range(13))), "judged": "2", "margin": "1 0",
+                     "verdict": first, "broken": "1 9 7", "tyre": "9", "said": "1 of 13 rows", "link": first}
+
+
+def test_one_rows_stretches(tmp_path, pages):
+    """The reader chooses a row, without a script of the page."""
+    found = run(tmp_path, re.sub(r"<script>.*?</script>", "", pages["drive"], flags=re.S), 1400, """
+      const shown = () => [...document.querySelectorAll(".timeline g")].filter(one => getComputedStyle(one).display != "none").map(
+        one => one.getAttribute("class")).join(" ");
+      const found = {tools: document.querySelector("form.tools").getBoundingClientRect().height, first: shown()};
+      document.querySelector(".choice [value='4']").click(); found.other = shown();
+      document.querySelector(".choice [value='all']").click(); found.all = shown().split(" ").length;
+      return found;""")
+    assert found == {"tools": 0, "first": "row1", "other": "row4", "all": 13}
+
+
+def test_the_policy_of_the_page_lets_its_own_script_run_and_no_other(tmp_path, pages):
+    path = tmp_path / "page.html"
+    path.write_text(pages["drive"].replace("</body>", "<script>document.body.id = 'other'</script></body>"), encoding="utf-8")
+    words = [BROWSER, "--headless", "--no-sandbox", "--disable-gpu", f"--user-data-dir={tmp_path}/profile", "--dump-dom", path.as_uri()]
+    found = subprocess.run(words, capture_output=True, text=True, timeout=90).stdout
+    assert 'role="button"' in found and 'id="other"' not in found and '<form class="tools">' in found

@@ -2,7 +2,6 @@
 import json
 import re
 import xml.etree.ElementTree as xml
-from html.parser import HTMLParser
 
 import pytest
 from hypothesis import given
@@ -11,8 +10,6 @@ from hypothesis import strategies as st
 from delkuthi import Table, report
 from delkuthi import check as check_module
 from delkuthi.check import check
-from delkuthi.command import pictured
-from delkuthi.html_page import as_html
 from delkuthi.logs import Policy
 from delkuthi.output import as_json, as_junit
 from delkuthi.recording import recording_bytes
@@ -141,41 +138,3 @@ def test_junit():
     assert [suite.get("failures") for suite in tree] == [f"{BROKEN}", f"{BROKEN}", "0"]
     failure = tree[0][1].find("failure")
     assert failure.get("type") == "StrongDelay" and MESSAGES[0].split(": ", 1)[1] in failure.get("message")
-
-
-class Seen(HTMLParser):
-    """The tags of a page that are open, and whatever it would load."""
-
-    def __init__(self):
-        super().__init__()
-        self.open, self.loads, self.text = [], [], ""
-
-    def handle_starttag(self, tag, attributes):
-        self.loads += [value for name, value in attributes if name in ("src", "href", "srcset", "data")]
-        if tag not in ("meta", "br", "path", "rect", "circle"):
-            self.open.append(tag)
-        elif tag in ("path", "rect") and not self.get_starttag_text().endswith("/>"):
-            self.open.append(tag)
-
-    def handle_startendtag(self, tag, attributes):
-        pass
-
-    def handle_endtag(self, tag):
-        assert self.open.pop() == tag
-
-    def handle_data(self, data):
-        self.text += data
-
-
-def test_the_page():
-    table = Table.read(EXAMPLES / "drive.txt")
-    outcome, policy = drive(), Policy()
-    page = as_html(table, "<drive>.txt", [pictured(table, policy, outcome), (check(table, "no.csv"), None, {})])
-    seen = Seen()
-    seen.feed(page)
-    assert seen.open == []
-    assert all(load.startswith("#") and f'id="{load[1:]}"' in page for load in seen.loads) and len(seen.loads) == BROKEN + 2
-    assert "http" not in page.replace("http://www.w3.org/2000/svg", "")
-    assert "@import" not in page and "url(" not in page and "<script" not in page
-    assert "<drive>.txt" in seen.text and all(message in seen.text for message in outcome.messages)
-    assert page.count("<svg") == 1 + BROKEN and "broken at line 39" in seen.text and "2 logs, 0 kept, 1 broken, 1 refused" in seen.text

@@ -347,6 +347,8 @@ def test_without_arguments_it_is_the_program(command, tmp_path):
     (tmp_path / "table.bin").write_bytes(b"\x01")
     (tmp_path / "recording.bin").write_bytes(b"\x01")
     assert command()[:2] == (0, "closed 1\n")
+    (tmp_path / "table.bin").write_bytes(b"\x02")
+    assert command()[:2] == (2, "refused 1 0\n"), "a table of edition 2, as the program refuses it"
     (tmp_path / "recording.bin").write_bytes(b"\x01" * 61_441)
     assert command()[:2] == (2, "refused 17 0\n")
 

@@ -33,6 +33,12 @@ def random_frame(rng, number, extended):
     return frame
 
 
+def value(layout, data):
+    """The value of a signal in the data of a frame; ``None`` if that does not have it."""
+    raw = layout.raws([data])[0]
+    return None if raw is None else layout.value(raw)
+
+
 def random_raw(rng, signal):
     low = -(1 << (signal.size - 1)) if signal.is_signed else 0
     high = (1 << (signal.size - 1)) - 1 if signal.is_signed else (1 << signal.size) - 1
@@ -62,12 +68,12 @@ def test_every_signal_is_read_as_canmatrix_packed_it(tmp_path, ending):
                 raw["Selector"] = chosen
             data = bytes(frame.encode(raw))
             for signal in frame.signals:
-                found = database.located(f"{names[frame.arbitration_id.id]}.{signal.name}")
+                found = database.layout(f"{names[frame.arbitration_id.id]}.{signal.name}")
                 assert (found.identifier, found.extended) == (frame.arbitration_id.id, frame.arbitration_id.extended)
                 expected = Fraction(signal.factor) * raw[signal.name] + Fraction(signal.offset) if signal.name in raw else None
-                assert found.value(data) == expected, (frame.name, signal, data.hex())
+                assert value(found, data) == expected, (frame.name, signal, data.hex())
                 read += expected is not None
-                assert found.value(data[:0]) is None
+                assert value(found, data[:0]) is None
     assert read > 1000
 
 
@@ -96,14 +102,14 @@ SG_MUL_VAL_ 256 Deep Sub 3-4, 9-9;
 def test_multiplexers_of_multiplexers_ranges_and_floating_point(tmp_path):
     (tmp_path / "a.dbc").write_text(EXTENDED)
     database = Database(str(tmp_path / "a.dbc"))
-    plain, deep = database.located("Plain"), database.located("Deep")
+    plain, deep = database.layout("Plain"), database.layout("Deep")
     for selected in range(16):
-        assert plain.value(bytes([selected, 77])) == (77 if selected in (1, 5, 6, 7) else None)
-        assert deep.value(bytes([2 | selected << 4, 0xF0])) == (-9 if selected in (3, 4, 9) else None)
-        assert deep.value(bytes([1 | selected << 4, 0xF0])) is None
+        assert value(plain, bytes([selected, 77])) == (77 if selected in (1, 5, 6, 7) else None)
+        assert value(deep, bytes([2 | selected << 4, 0xF0])) == (-9 if selected in (3, 4, 9) else None)
+        assert value(deep, bytes([1 | selected << 4, 0xF0])) is None
     data = struct.pack("<f", 1.5) + struct.pack(">f", -2.25)
-    assert (database.located("Little").value(data), database.located("Big").value(data)) == (Fraction(3, 2), Fraction(-9, 4))
-    assert database.located("Little").value(struct.pack("<f", float("nan")) + bytes(4)) is None
+    assert (value(database.layout("Little"), data), value(database.layout("Big"), data)) == (Fraction(3, 2), Fraction(-9, 4))
+    assert value(database.layout("Little"), struct.pack("<f", float("nan")) + bytes(4)) is None
 
 
 def test_what_a_database_does_not_have(tmp_path):
@@ -116,11 +122,11 @@ def test_what_a_database_does_not_have(tmp_path):
     path = tmp_path / "drive.dbc"
     canmatrix.formats.dumpp({"": matrix}, str(path))
     database = Database(str(path))
-    assert database.located("Pedal").name == "Pedal"
+    assert database.layout("Pedal").name == "Pedal"
     with pytest.raises(DatabaseError, match=r"there is no signal Brake.Pedall \(did you mean Brake.Pedal\?\)"):
-        database.located("Brake.Pedall")
+        database.layout("Brake.Pedall")
     with pytest.raises(DatabaseError, match="the signal State is in several frames: Brake, Door"):
-        database.located("State")
+        database.layout("State")
     (tmp_path / "none.dbc").write_text("no database\n")
     with pytest.raises(DatabaseError, match="none.dbc: canmatrix"):
         Database(str(tmp_path / "none.dbc"))

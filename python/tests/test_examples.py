@@ -56,18 +56,22 @@ def test_the_drive_as_csv_and_candump():
                                 for number, (signal, time) in enumerate(recorded)))
 
 
+#: The date that a stored page has.
+WHEN = {**os.environ, "SOURCE_DATE_EPOCH": "1794873600"}
+
+
 def without_version(text):
-    return re.sub(r"Delkuthi \d+\.\d+\.\d+", "Delkuthi", text)
+    return re.sub(r"(Delkuthi|library|Python|canmatrix|python-can|openpyxl) \d+\.[\w.]+", r"\1", text)
 
 
 @pytest.mark.parametrize("name", STORED)
 def test_stored(command, tmp_path, name):
     out = tmp_path / name
-    status, printed, error = command(*(str(out) if word == "OUT" else word for word in STORED[name]), cwd=EXAMPLES)
+    status, printed, error = command(*(str(out) if word == "OUT" else word for word in STORED[name]), cwd=EXAMPLES, env=WHEN)
     assert status == 1 and set(error.splitlines()) <= {"drive.csv: the log has no cabin_light",
                                                        "drive.log: the log has no cabin_light: no frame 0x3B1 came"}
     text = out.read_text(encoding="utf-8") if "OUT" in STORED[name] else printed
-    stored(name, text)
+    stored(name, text.replace(str(out), name))
 
 
 def test_the_row_types():
@@ -79,7 +83,7 @@ def test_the_row_types():
     gathered = gather(table, Log(ROWS / "rows.csv", table).steps(), outcome)
     manual = (ROOT / "python/README.md").read_text(encoding="utf-8")
     for row in outcome.broken:
-        stored(PICTURES / f"{row.type}.svg", svg(close_up(table, gathered, outcome, row)))
+        stored(PICTURES / f"{row.type}.svg", svg(close_up(table, gathered, outcome, row, 100)))
         assert f"**{row.type}** " in manual and f"](pictures/{row.type}.svg)" in manual
 
 

@@ -85,7 +85,7 @@ def test_any_drive(tmp_path, drawn, start):
 def test_a_bus_is_what_the_log_says(tmp_path):
     """The number of a channel as ASC, BLF and TRC write it, from 1; the name of an interface in candump."""
     table = Table.from_text("unit us\nevent a = 0 from can 0x100 bus 1 from can 0x100 bus can0\nevent b = 1 from can 0x101 bus 2\n"
-                            "event c = 2 from can 0x102 bus vcan0.1-x\nOrder a -> b\n")
+                            "event c = 2 from can 0x102 bus vcan0.1-x\nOrder a -> b\nOrder a -> c\n")
     assert Table.from_text(table.text()).events == table.events
     for path in write_formats(tmp_path, table, [(1000, "100", b""), (2000, "101", b"")]):
         if path.suffix in (".csv", ".bin"):
@@ -100,14 +100,14 @@ def test_a_bus_is_what_the_log_says(tmp_path):
 def test_why_an_event_never_came(tmp_path):
     """Another identifier, other data, another bus; in a sheet another spelling."""
     table = Table.from_text("unit us\nevent a = 0 from can 0x100\nevent b = 1 from can 0x101 data 01..\nevent c = 2 from can 0x102 bus can3\n"
-                            "event d = 3 from can 0x00000103\nOrder a -> b\n")
+                            "event d = 3 from can 0x00000103\nevent idle = 4 from can 0x104\nOrder a -> b\nOrder c -> d\n")
     path = tmp_path / "a.log"
     path.write_text("(1.0) can0 101#0203\n(1.1) can1 102#\n(1.2) can0 103#\n(1.3) can0 101#01\n")
     assert [line.replace(f"{path}: ", "") for line in check(table, str(path)).warnings] == [
         "the log has no a: no frame 0x100 came", "the log has no b: 0x101 came, but never with data 01..",
         "the log has no c: 0x102 came, but on no bus can3; the log has can0, can1",
         "the log has no d: no frame 0x00000103 came, only standard ones of that number"]
-    table = Table.from_text('unit us\nevent tyre_pressure = 0\nevent door = 1 from csv "Door open"\nevent x = 2\nOrder 0 -> 1\n')
+    table = Table.from_text('unit us\nevent tyre_pressure = 0\nevent door = 1 from csv "Door open"\nevent x = 2\nOrder 0 -> 1\nOrder 0 -> x\n')
     path = tmp_path / "a.csv"
     for text in ("time,event\n1,Tyre_Presure\n2,door open\n3,nothing alike\n", 'time,event\n1,"Tyre_Presure"\n2,door open\n3,\n'):
         path.write_text(text)
@@ -139,7 +139,7 @@ def test_trc_of_every_version(tmp_path, version):
     steps = list(log.steps())
     first = len(head) + 2
     part = "000" if version == "1.0" else "900"
-    assert steps[0] == (0, int(f"1059{part}"), first) and [(step.kind, step.place) for step in steps[1:]] == [(1, first + 1), (None, first + 2)]
+    assert steps[0] == (0, int(f"1059{part}"), first) and [(step.signal, step.place) for step in steps[1:]] == [(1, first + 1), (None, first + 2)]
     assert (log.counts.lines, log.counts.events, log.counts.skipped) == (3, 2, 1)
     assert log.buses == ({"1", "2"} if version in ("1.3", "2.1") else {"1"})
 

@@ -75,7 +75,7 @@ def test_csv_errors(tmp_path):
     assert error(path, "time,event\n- 1,pedal\n") == "a.csv:2: expected a time, found - 1"
     assert error(path, "time,event\n0.5,pedal\n").startswith("a.csv:2: the stamp 0.5 us is no whole number of us: take a finer unit")
     path.write_bytes(b"time,event\n1,\xff\n")
-    with pytest.raises(LogError, match="not a text file"):
+    with pytest.raises(LogError, match="a.csv:2: byte 3 of the line, 0xFF, is not text in utf-8"):
         steps(path)
     assert error(path, "\r0").startswith("a.csv: not a CSV file: ")
     packed = tmp_path / "a.csv.gz"
@@ -106,9 +106,10 @@ def test_candump(tmp_path):
 
 
 def test_an_event_on_change(tmp_path):
+    """What was before the first frame is not known, as before the first sample of a signal."""
     lines = ["01", "01", "00", "01", "01"]
     text = "".join(f"({number}.000000) can0 400#{data}\n" for number, data in enumerate(lines, 1))
-    assert [kind for kind, _, _ in steps(tmp_path / "a.log", text)] == [3, None, None, 3, None]
+    assert [kind for kind, _, _ in steps(tmp_path / "a.log", text)] == [None, None, None, 3, None]
 
 
 frames = st.lists(st.tuples(st.integers(0, 3000), st.sampled_from([0x1A0, 0x2B4, 0x18FF0001, 0x300, 0x555]),
@@ -148,9 +149,8 @@ def test_what_python_can_writes(tmp_path, ending):
     assert all(abs(one - other) <= 100 for (_, one), (_, other) in zip(found, expected))
 
 
-@pytest.mark.parametrize("ending", ["blf", "xyz"])
-def test_what_python_can_cannot_read(tmp_path, ending):
-    path = tmp_path / f"a.{ending}"
+def test_what_python_can_cannot_read(tmp_path):
+    path = tmp_path / "a.xyz"
     path.write_bytes(b"\xff\xfe" * 100)
     with pytest.raises(LogError, match="python-can cannot read it"):
         list(Log(path, TABLE).steps())
@@ -226,12 +226,12 @@ def test_colours(tmp_path):
     path.write_text("time,event\n1,request/1\n1,request/2\n2,Req\n3,request\n")
     assert check(table, str(path)).refused == 19
     path.write_text("time,event\n1,request/1\n1,request/2\n2,Req\n4,reply/1\n")
-    assert [(step.kind, step.time) for step in Log(str(path), table).steps()] == expected
+    assert [(step.signal, step.time) for step in Log(str(path), table).steps()] == expected
     assert "request/2 at 1 ms (line 3) had no reply/2" in check(table, str(path)).messages[0]
     (tmp_path / "a.bin").write_bytes(recording_bytes(expected))
     assert (tmp_path / "a.bin").read_bytes()[:1] == b"\x02"
-    assert [(step.kind, step.time) for step in Log(str(tmp_path / "a.bin"), table).steps()] == expected
+    assert [(step.signal, step.time) for step in Log(str(tmp_path / "a.bin"), table).steps()] == expected
     (tmp_path / "a.bin").write_bytes(b"\x01" + recording_bytes(expected[1:])[1:])
     assert check(table, str(tmp_path / "a.bin")).refused == 19
     (tmp_path / "a.log").write_text("(0.001000) can0 300#01\n(0.001000) can0 300#02FF\n")
-    assert [(step.kind, step.time) for step in Log(str(tmp_path / "a.log"), table).steps()] == expected[:2]
+    assert [(step.signal, step.time) for step in Log(str(tmp_path / "a.log"), table).steps()] == expected[:2]

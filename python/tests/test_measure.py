@@ -241,6 +241,6 @@ def test_a_histogram_has_the_finest_bins_that_do():
         for value in values:
             found.add(value)
         assert found.width == min(2**k for k in range(40) if len({value // 2**k for value in values}) <= BINS)
-        begin, width, bars = found.bars()
+        begin, width, bars, _ = found.bars()
         assert sum(bars) == len(values) and len(bars) <= 32 and begin <= min(values) < begin + width
         assert bars == [sum(begin + width * at <= value < begin + width * (at + 1) for value in values) for at in range(len(bars))]

@@ -11,7 +11,7 @@ from delkuthi.plot import PlotMissing, write_plot
 from delkuthi.recording import recording_bytes
 from delkuthi.signals import signal
 from delkuthi.svg import svg
-from delkuthi.timeline import close_up, gather, overview, ticks
+from delkuthi.timeline import BINS, close_up, gather, overview, strip, ticks
 
 from conftest import EXAMPLES
 from strategies import played
@@ -34,9 +34,9 @@ def test_what_the_drives_picture_shows():
     signals = sorted(signal(event.kind, source.colour) for event in table.events for source in event.sources)
     assert [name for name, _ in picture.lanes] == [table.event_name(number) for number in signals]
     assert sum(len(times) for _, times in picture.lanes) == outcome.counts.events
-    marks = [(row.time, f"{row.name} broken") for row in sorted(outcome.broken, key=lambda row: row.step)]
+    marks = [(row.time, row.number, f"{row.name} broken") for row in sorted(outcome.broken, key=lambda row: row.step)]
     ahead = table.jitter
-    assert picture.marks == [(time + ahead, text) for time, text in marks] and (118300, "steering reply broken") in marks
+    assert picture.marks == [(time + ahead, row, text) for time, row, text in marks] and (118300, 1, "steering reply broken") in marks
     red = [(shade.row, shade.begin - ahead, shade.end - ahead) for shade in picture.shades if shade.broken]
     assert {(1, 96100, 115100), (7, 70100, 220100)} <= set(red) and {row for row, _, _ in red} == {row.number for row in outcome.broken}
 
@@ -75,8 +75,8 @@ def test_a_long_log_is_shown_around_the_first_break(tmp_path):
     picture, outcome = pictured(table, path)
     assert outcome.broken[0].time == 40005
     assert (picture.begin, picture.end) == (times[3700], times[4100])
-    assert picture.marks == [(40005, "row 0 broken")]
-    assert picture.caption == "An excerpt: steps 3,701 to 4,101 of 9,000, around the first that broke a row"
+    assert picture.marks == [(40005, 0, "row 0 broken")]
+    assert picture.caption == "An excerpt: steps 3701 to 4101 of 9000, around the first that broke a row"
     assert picture.caption in svg(picture)
     assert picture.axis()[0][0] == (37000, "37000") and picture.axis()[1] == "ms"
 
@@ -107,6 +107,50 @@ def test_the_close_up_shows_what_is_blamed():
     for picture in pictures.values():
         assert svg(picture).count("<circle") == len(picture.blamed)
         assert all(picture.begin <= time <= picture.end for _, time in picture.blamed)
+
+
+def only_close_up(tmp_path, text, lines):
+    """The close-up of a log with one broken row, and its length beside that of what the reason is about."""
+    table = Table.from_text(text)
+    (tmp_path / "a.csv").write_text("time,event\n" + "".join(f"{time},{name}\n" for time, name in sorted(lines)))
+    [picture] = close_ups(table, tmp_path / "a.csv").values()
+    assert all(picture.begin <= time <= picture.end for _, time in picture.blamed)
+    return picture
+
+
+def test_a_close_up_fits_the_events_of_its_reason(tmp_path):
+    """A burst of 9 ms, with earlier events seconds before it."""
+    times = [0, 1000, 2000, 3000, 7000, 7003, 7006, 7009]
+    picture = only_close_up(tmp_path, "unit ms\nevent a\nBurst a maximum 3, length 50 ms, minimum 2 ms\n", [(time, "a") for time in times])
+    assert picture.lanes[0][1] == times[4:] and picture.end - picture.begin <= 12 and picture.marks[0].time == 7009
+
+
+def test_a_close_up_without_the_break(tmp_path):
+    """Where the next step comes long after what is missing was due, the picture ends before it and says so."""
+    picture = only_close_up(tmp_path, "unit ms\nevent a\nevent b\nDelay a -> b, 0 .. 5\n", [(1000, "a"), (1002, "b"), (1010, "a"), (9000, "c")])
+    assert (picture.begin, picture.end) == (1000, 1016) and picture.marks == [] and [shade.broken for shade in picture.shades] == [False, True]
+    assert picture.caption == "Broken by the next step, at 9000 ms, right of this picture"
+    picture = only_close_up(tmp_path, "unit ms\nevent a\nevent b\nOrder a -> b\n", [(1000, "a"), (1002, "b"), (1010, "a"), (99000, "c")])
+    assert picture.end < 1100 and picture.caption == "Broken by the end of the log, at 99 s, right of this picture"
+
+
+def test_a_close_up_shows_what_was_asked_for(tmp_path):
+    """A reply that came before the stretch that it was asked for: the stretch begins in the picture."""
+    picture = only_close_up(tmp_path, "unit ms\nevent a\nevent b\nStrongDelay a -> b, 5 .. 20\n",
+                            [(10, "a"), (20, "b"), (500, "a"), (503, "b"), (900, "a"), (910, "b")])
+    assert [shade.begin for shade in picture.shades] == [505] and picture.end - picture.begin < 20
+
+
+def test_an_overview_counts_every_event(tmp_path):
+    table = Table.from_text("unit ms\nevent a\nevent b\nRepeat a span 1, 9 .. 11\nOrder a -> b\n")
+    times = [10 * number + (number % 7 == 0) for number in range(3000)]
+    (tmp_path / "a.csv").write_text("time,event\n" + "".join(f"{time},a\n" for time in times) + "29999,b\n")
+    outcome = check(table, str(tmp_path / "a.csv"))
+    found = strip(table, gather(table, Log(tmp_path / "a.csv", table).steps(), outcome), outcome)
+    assert [(name, count, sum(bins), len(bins)) for name, count, bins in found.lanes] == [("a", 3000, 3000, BINS), ("b", 1, 1, BINS)]
+    bin_of = [min((time - found.begin) * BINS // (found.end - found.begin), BINS - 1) for time in times]
+    assert found.lanes[0][2] == [bin_of.count(number) for number in range(BINS)] and found.lanes[1][2][-1] == 1
+    assert len(found.marks) == len(outcome.broken)
 
 
 def test_a_run_that_was_preempted_is_not_red(tmp_path):

@@ -1,17 +1,22 @@
 """The reason that is given for each broken row."""
+import random
+
 import pytest
 from hypothesis import given, settings
 from hypothesis import strategies as st
 
-from delkuthi import Table
-from delkuthi.check import UNKNOWN, reasons_of, run
+from delkuthi import Table, explain
+from delkuthi.check import run
+from delkuthi.explain import UNKNOWN, reasons_of
 from delkuthi.logs import Step
 from delkuthi.time_format import TimeFormat
 from delkuthi.monitor import Monitor
-from delkuthi.reasons import Case, Kind
+from delkuthi.reasons import Case, Events
+from delkuthi.rowtypes import TYPES
 from delkuthi.signals import signal
 
 from strategies import played
+from test_measure import random_row, random_steps
 
 EVENTS = "unit ms\nevent a = 0\nevent b = 1\nevent c = 2\nevent d = 3\nevent s = 48\nevent r = 49\n"
 #: The signals by their letters; S and R are of colour 3, s and r of colour 1.
@@ -26,7 +31,7 @@ def reason(row, steps, close=False, ended=True):
     taken = [Step(SIGNALS[step[0]], int(step[1:]), number) for number, step in enumerate((before + later).split(), 1)]
     found = run(Monitor(table), taken, close)
     assert found.broken[0][0] == len(before.split()) + close
-    return reasons_of(table, taken, found, lambda place: f"line {place}", TimeFormat("ms"), ended)[0].text
+    return reasons_of(table, taken, found.breaks, lambda place: f"line {place}", TimeFormat("ms"), ended)[0].text
 
 
 RUN = "ExecutionTime a -> b, preempt c, resume d, 2 .. 5"
@@ -184,11 +189,11 @@ def test_each_broken_row_has_a_reason(case):
     table, pairs = case
     steps = [Step(kind, time, number) for number, (kind, time) in enumerate(pairs, 1)]
     found = run(Monitor(table), steps, True)
-    said = reasons_of(table, steps, found, str, TimeFormat())
+    said = reasons_of(table, steps, found.breaks, str, TimeFormat())
     assert set(said) == set(found.broken)
     for row, (number, step) in found.broken.items():
         assert said[row].text != UNKNOWN
-        events = {kind: Kind() for kind in table.rows[row].signals}
+        events = {kind: Events() for kind in table.rows[row].signals}
         for kind, time, place in steps[: number - 1]:
             if kind in events:
                 events[kind].add(time, place)
@@ -226,7 +231,7 @@ def test_the_moments_that_are_named_are_the_first_and_the_last(case):
         if monitor.step(0) is None:
             continue
         steps = [Step(0, one, place) for place, one in enumerate(times[: number + 1])]
-        text = reasons_of(table, steps, run(Monitor(table), steps, False), str, TimeFormat())[0].text
+        text = reasons_of(table, steps, run(Monitor(table), steps, False).breaks, str, TimeFormat())[0].text
         moment = int(text.split()[-1]) if text.split()[-1].isdigit() else int(text.split()[-2]) if text.endswith(" on") else None
         assert text != UNKNOWN
         if moment is not None and ("too early" in text or "too late" in text):
@@ -238,3 +243,23 @@ def test_the_moments_that_are_named_are_the_first_and_the_last(case):
                 outside.event(0, beside)
                 assert outside.step(0) is not None
         return
+
+
+@pytest.mark.parametrize("row_type", TYPES, ids=lambda row_type: row_type.name)
+def test_what_is_forgotten_changes_no_reason(row_type, monkeypatch):
+    """The reason is the same whether a row has kept all its events, or forgotten early what cannot matter any more."""
+    rng, forgotten = random.Random(row_type.number), 0
+    for _ in range(150):
+        table = Table([random_row(rng, row_type)])
+        steps = [Step(*step) for step in random_steps(rng, table, 60)[0]]
+        for _ in range(12):
+            one, later = rng.choice([None, *table.rows[0].signals]), rng.choice([1, 1, 2, 50])
+            steps.append(Step(one, (steps[-1].time if steps else 0) + later, len(steps) + 1))
+        found = run(Monitor(table), steps, True)
+        said = []
+        for after in (1, 10**9):
+            monkeypatch.setattr(explain, "FORGET_AFTER", after)
+            said.append(reasons_of(table, steps, found.breaks, str, TimeFormat()))
+        assert said[0] == said[1], (table.rows[0].values, steps)
+        forgotten += sum(number > 8 for number in found.breaks.values())
+    assert forgotten > 20

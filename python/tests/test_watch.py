@@ -4,16 +4,19 @@ import os
 import signal
 import subprocess
 import sys
+import tempfile
 import time
+from unittest import mock
 
 import pytest
 from hypothesis import given, settings
 from hypothesis import strategies as st
 
-from delkuthi import Monitor, Refused, Table
-from delkuthi.logs import LogError
+from delkuthi import Monitor, Refused, Table, explain
+from delkuthi.explain import reasons_of
+from delkuthi.logs import LogError, Step
 from delkuthi.recording import records
-from delkuthi.watch import Clock, Screen, Watch, watch_bus
+from delkuthi.watch import Clock, Rate, Screen, Watch, watch_bus
 
 can = pytest.importorskip("can", reason="python-can is missing (Debian: python3-can)")
 
@@ -165,6 +168,8 @@ def test_the_status_line(monkeypatch):
     monkeypatch.setattr("sys.stderr", screen_text)
     watch = Watch(TABLE, lambda text: None, io.BytesIO())
     screen = Screen(watch)
+    assert [screen.rate.over(*one) for one in ((1.0, 100), (2.0, 200), (8.0, 200), (9.0, 260), (10.0, 320))] == [100, 100, 0, 60 / 7, 15]
+    screen.rate = Rate()
     screen.look(0.5)
     assert "0 s: 0 frames (0/s), 0 events, 2 rows open, 0 broken" in screen_text.getvalue()
     screen.look(2.5)
@@ -237,12 +242,12 @@ def test_a_table_without_a_unit():
 calls = st.lists(st.tuples(st.sampled_from("etmw"), st.integers(0, 1), st.integers(0, 30_000)), max_size=40)
 
 
-@given(calls)
-@settings(max_examples=100)
-def test_withdrawn_markers_are_struck_out(drawn):
+@given(calls, st.booleans())
+@settings(max_examples=150)
+def test_withdrawn_markers_are_struck_out(drawn, record):
     """After any list of events, ticks, markers and withdrawals the monitor is that of the list without what was withdrawn."""
     spool = io.BytesIO()
-    watch = Watch(TABLE, lambda text: None, spool)
+    watch = Watch(TABLE, lambda text: None, spool, record)
     taken, last, clock = [], None, 0
     for what, kind, later in drawn:
         if what == "w":
@@ -276,7 +281,73 @@ def test_withdrawn_markers_are_struck_out(drawn):
             one.tick(watch.clock + 10**6)
             one.close()
         assert watch.monitor.page() == fresh.page()
-    assert [(kind, moment) for _, kind, moment in records(io.BytesIO(spool.getvalue()[1:]))] == taken
+    if record:
+        assert [(kind, moment) for _, kind, moment in records(io.BytesIO(spool.getvalue()[1:]))] == taken
+
+
+@given(calls)
+def test_what_is_said_is_said_of_the_whole_watch(drawn):
+    """Each break is said with the reason that all steps so far give, though most of them are forgotten."""
+    said, taken = [], []
+    with mock.patch.object(explain, "FORGET_AFTER", 2):
+        watch = Watch(TABLE, said.append, io.BytesIO(), False)
+        for what, kind, later in drawn:
+            number, before = watch.number, len(said)
+            watch.tick(watch.clock + later) if what == "t" else watch.event(kind, watch.clock + later)
+            taken += [Step(kind if what != "t" else None, watch.clock, watch.number)] * (watch.number > number)
+            for text in [text for text in said[before:] if " broken at " in text]:
+                row = next(row for row in range(len(TABLE.rows)) if text.startswith(TABLE.row_name(row)))
+                with mock.patch.object(explain, "FORGET_AFTER", 10**9):
+                    why = reasons_of(TABLE, taken, {row: watch.number}, lambda place: f"step {place}", watch.time_format, False)[row]
+                assert text.endswith(f": {why.text}")
+
+
+def resident():
+    """How many bytes of memory this process has."""
+    with open("/proc/self/statm", encoding="ascii") as file:
+        return int(file.read().split()[1]) * os.sysconf("SC_PAGE_SIZE")
+
+
+#: How many steps the long watch takes: WATCH_STEPS=1000000 is the whole of it.
+STEPS = int(os.environ.get("WATCH_STEPS", "100000"))
+
+
+def test_a_long_watch_stays_small_and_says_a_break_at_once():
+    """Memory does not grow with the steps, also behind a marker, and a break is said by the step that makes it."""
+    table = Table.from_text("""\
+unit us
+event a = 0  from can 0x1A0
+event b = 1  from can 0x2B4
+event m = 2  from key m
+"answer"  Delay a -> b, 0 ms .. 60 ms
+"pairs"   StrongDelay a -> b, 0 ms .. 60 ms
+"order"   Order a -> b
+"gap"     Repeat a span 1, 1 ms .. 60 ms
+"rhythm"  Sporadic b, 10 ms .. 10 ms, jitter 5 ms, minimum 1 ms
+"burst"   Burst a maximum 3, length 5 ms, minimum 1 ms
+"both"    StrongSynchronization a b, tolerance 30 ms
+"near"    Synchronization a b, tolerance 30 ms
+"beat"    Repetition a span 2, 20 ms .. 20 ms, jitter 5 ms
+""")
+    said, spool = [], tempfile.TemporaryFile()
+    watch = Watch(table, said.append, spool, False)
+    for number in range(STEPS // 2):
+        watch.event(0, 10_000 * number)
+        watch.event(1, 10_000 * number + 4000)
+        if number == 1000:
+            watch.marker(2, watch.clock)
+            early = resident()
+    assert said == ["m at 9999 ms"] and resident() - early < 2_000_000, (early, resident())
+    begun = time.perf_counter()
+    watch.tick(watch.clock + 100_000)
+    assert time.perf_counter() - begun < 0.1
+    assert sorted(text.split('"')[1] for text in said[1:]) == ["gap", "rhythm"]
+    watch.event(1, watch.clock)
+    watch.tick(watch.clock + 1)
+    assert time.perf_counter() - begun < 0.2 and any(text.startswith('"pairs" (StrongDelay) broken') for text in said)
+    spool.seek(0, os.SEEK_END)
+    assert spool.tell() > 5 * STEPS, "the steps after the marker are in the file"
+    spool.close()
 
 
 def test_a_marker_taken_back_by_a_signal(tmp_path):

@@ -2,6 +2,7 @@
 import os
 import subprocess
 import sys
+import tarfile
 import zipfile
 
 from delkuthi import __version__
@@ -27,12 +28,36 @@ def test_a_wheel_is_all_that_is_needed(tmp_path):
     assert f"delkuthi-{__version__}-py3-none-linux_" in wheel
     with zipfile.ZipFile(ROOT / wheel) as found:
         assert any(name.startswith("delkuthi/libdelkuthi.so.") for name in found.namelist())
+        assert {f"delkuthi/page/page.{ending}" for ending in ("html", "css", "js")} <= set(found.namelist())
         assert "delkuthi/readers/btf.py" in found.namelist() and not any("__pycache__" in name for name in found.namelist())
+        assert found.read(f"delkuthi-{__version__}.dist-info/LICENSE") == (ROOT / "LICENSE").read_bytes()
+        assert b"License-File: LICENSE\n" in found.read(f"delkuthi-{__version__}.dist-info/METADATA")
     subprocess.run([sys.executable, "-m", "venv", tmp_path / "home"], check=True)
     bin_folder = tmp_path / "home/bin"
     subprocess.run([bin_folder / "pip", "install", "--quiet", ROOT / wheel], check=True, env=clean)
     done = subprocess.run([bin_folder / "delkuthi", "check", "drive.txt", "drive.csv"], cwd=EXAMPLES, env=clean, capture_output=True, text=True)
     assert (done.returncode, done.stdout) == (1, (EXAMPLES / "messages.txt").read_text(encoding="utf-8"))
+    shared = tmp_path / "home/share/delkuthi/examples"
+    done = subprocess.run([bin_folder / "delkuthi", "check", "bench/samples.txt", "bench/samples.csv"], cwd=shared, env=clean, capture_output=True, text=True)
+    assert done.returncode == 1 and "broken" in done.stdout, done.stderr
+    page = tmp_path / "drive.html"
+    done = subprocess.run([bin_folder / "delkuthi", "check", "drive.txt", "drive.csv", "--html", page], cwd=EXAMPLES, env=clean, capture_output=True)
+    assert done.returncode == 1 and "3 of 13 rows broken" in page.read_text(encoding="utf-8")
     where = "from delkuthi import library as l; print(l.library()._name)"
     done = subprocess.run([bin_folder / "python", "-c", where], env=clean, capture_output=True, text=True)
     assert done.stdout.startswith(str(tmp_path / "home")), done.stdout
+
+
+def test_the_sources_are_enough_for_a_wheel(tmp_path):
+    """A wheel of the archive of the sources has the files of one of the checkout."""
+    backend = [sys.executable, "-c", "import sys, backend; print(getattr(backend, sys.argv[1])(sys.argv[2]))"]
+    archive = subprocess.run([*backend, "build_sdist", tmp_path], cwd=ROOT / "python", capture_output=True, text=True, check=True).stdout.strip()
+    with tarfile.open(tmp_path / archive) as found:
+        found.extractall(tmp_path)
+    names = []
+    for number, folder in enumerate((ROOT / "python", tmp_path / archive.removesuffix(".tar.gz"))):
+        (tmp_path / str(number)).mkdir()
+        wheel = subprocess.run([*backend, "build_wheel", tmp_path / str(number)], cwd=folder, capture_output=True, text=True, check=True).stdout.strip()
+        with zipfile.ZipFile(tmp_path / str(number) / wheel) as file:
+            names.append(file.namelist())
+    assert names[0] == names[1] and any(name.endswith("share/delkuthi/examples/bench/tasks.btf") for name in names[0])

@@ -1,20 +1,25 @@
 -- What the second edition leaves as it was: a table of the first is read as before by a call that takes both, and its rows are accepted in the
 -- second too, since that has all types of the first.
 use Rattle.constraint.proofs.Names.{AcceptedIn, Constraint, Judged, List, ReadsTable, ReadsTableUpTo, TableRead, Taken, VersionUpTo, [], _+_}
-use Rattle.constraint.proofs.Names.{_<_, _↔_, _∷_, _≡_, _≤_, arith, at, lastType, rowLimit, rowQuestions, rowsQuestions, typeOf}
-use Rattle.constraint.proofs.Names.{version-refused, version-taken, ℕ}
+use Rattle.constraint.proofs.Names.{_<_, _↔_, _∷_, _≡_, _≤_, arith, at, lastType, rowLimit, rowQuestions, rowsQuestions, suc, typeOf}
+use Rattle.constraint.proofs.Names.{version-refused, version-taken, zero, ℕ}
 use Rattle.constraint.proofs.{Accepted.rows-taken, Judged.judged-all, Judged.judged-parts, Judged.judged-yes}
+
+-- an edition that has types is not 0
+pub edition-above : (edition : ℕ) → 0 < lastType edition → 0 < edition
+edition-above zero some = absurd (omega (arith, some))
+edition-above (suc n) some = omega arith
 
 -- ---- bytes
 
 -- calls that both take the edition of a table read it alike
 module _ (one other : ℕ) (bytes : List ℕ) (known : at bytes 0 ≤ one) (known′ : at bytes 0 ≤ other) where
   version-same : VersionUpTo other bytes → VersionUpTo one bytes
-  version-same version = (version .0, version .1, known)
+  version-same version = (version .0, version .1, known, version .3)
 
   pub reads-same : {read : TableRead} → ReadsTableUpTo one bytes read → ReadsTableUpTo other bytes read
   reads-same (version-refused refused) = version-refused (λ version. refused (version-same version))
-  reads-same (version-taken version rows) = version-taken (version .0, version .1, known′) rows
+  reads-same (version-taken version rows) = version-taken (version .0, version .1, known′, version .3) rows
 
 -- §16.6: bytes whose first byte is 1 are read by the calls that take both editions as by those that take the first alone
 pub reads-as-before : (bytes : List ℕ) → at bytes 0 ≡ 1 → (read : TableRead) → ReadsTableUpTo 2 bytes read ↔ ReadsTable bytes read

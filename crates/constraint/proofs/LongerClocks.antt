@@ -1,17 +1,19 @@
 -- What longer clocks leave as they found it. The rows' fields have a wider range, so a table that was accepted is. With `nextFree` of a stream
 -- one more than its last time, each event raises the sum of all 176 by one at least, each tick raises the clock, and the close comes once: so up
--- to the earlier last time the count fits by itself, and calls none of which was answered 10 have the answers that they had, over the same steps.
+-- to the earlier last time the count fits by itself, and calls and withdrawals none of which was answered 10 have the answers that they had.
 use Rattle.constraint.proofs.Names.{Accepted, Answer, Bool, Call, Constraint, EventInOrder, Field, FieldsInRange, InRange, Judged, KindsFit}
-use Rattle.constraint.proofs.Names.{KindsSuit, Left, List, LowerFirst, Question, Refused, Room, Run, Step, Taken, [], _*_, _++_, _+_, _-_, _<_}
-use Rattle.constraint.proofs.Names.{_^_, _∙_, _∷_, _≡_, _≤_, _⊎_, ap, ap₂, arith, asks, by-cases, byte, clock, clockFrom, close, closed}
-use Rattle.constraint.proofs.Names.{coloured, cond, count, done, event, false, fieldsOf, firstColoured, inl, inr, kind, kinds, lastColour}
-use Rattle.constraint.proofs.Names.{lastCount, lastKind, lastTime, lastType, leftBy, length, length-append, lower, map, noLimit, noneLeft}
-use Rattle.constraint.proofs.Names.{plain, questions, refl, request, rowLimit, rowsQuestions, span, stepFor, stream, subst, suc, tick, time}
-use Rattle.constraint.proofs.Names.{times, true, typeOf, upper, upper-or-none, zero, ℕ, ℕ-discrete, ⊎-elim}
+use Rattle.constraint.proofs.Names.{KindsSuit, Left, List, LowerFirst, Question, Refused, Request, Room, Run, Step, Taken, [], _*_, _++_, _+_}
+use Rattle.constraint.proofs.Names.{_-_, _<_, _^_, _∙_, _∷_, _≡_, _≤_, _⊎_, ap, ap₂, arith, asks, by-cases, byte, clock, clockFrom, close}
+use Rattle.constraint.proofs.Names.{closed, coloured, cond, count, done, event, false, fieldsOf, firstColoured, inl, inr, kind, kinds}
+use Rattle.constraint.proofs.Names.{lastColour, lastCount, lastKind, lastTime, lastType, leftBy, length, length-append, lower, noLimit}
+use Rattle.constraint.proofs.Names.{noneLeft, plain, questions, refl, request, requestQuestions, rowLimit, rowsQuestions, span, stepFor}
+use Rattle.constraint.proofs.Names.{stream, subst, suc, tick, time, times, true, typeOf, upper, upper-or-none, withdraws, zero, ℕ, ℕ-discrete}
+use Rattle.constraint.proofs.Names.{⊎-elim}
 use Rattle.constraint.proofs.History.{Accepts, Past, Valid, clock-close, clock-event, clock-tick, closed-close, closed-event, closed-tick}
 use Rattle.constraint.proofs.History.{past-of, times-close, times-other, times-own, times-tick, valid-more, valid-none}
 use Rattle.constraint.proofs.Judged.{judged-all, judged-yes, put-in, widened}
-use Rattle.constraint.proofs.{Counting.next-least, Counting.next-snoc, Counting.nextFree, Lists.Each, Runs.accepts-taken}
+use Rattle.constraint.proofs.{Counting.next-least, Counting.next-snoc, Counting.nextFree, Lists.Each, Runs.accepts-taken, Runs.valid-less}
+use Rattle.constraint.proofs.{Withdrawals.but-last, Withdrawals.butLast}
 
 -- the last time before clocks were longer
 abbrev pub lastTimeBefore : ℕ
@@ -149,12 +151,17 @@ questionsBefore rows steps (Call.Tick t) =
     (8, closed steps ≡ false) ∷ (10, t ≤ lastTimeBefore) ∷ (11, clock steps < t) ∷ (12, Room rows (steps ++ (tick t ∷ []))) ∷ []
 questionsBefore rows steps Call.Close = (8, closed steps ≡ false) ∷ []
 
--- the calls one after the other then
-pub data RunBefore (rows : List Constraint) : Left → List Call → List Answer → Left → Type 0 where
+-- and those of a request: a withdrawal was asked what it is asked now
+abbrev pub requestQuestionsBefore : List Constraint → Left → Request → List Question
+requestQuestionsBefore rows left (asks call) = questionsBefore rows (left .steps) call
+requestQuestionsBefore rows left withdraws = requestQuestions rows left withdraws
+
+-- the requests one after the other then
+pub data RunBefore (rows : List Constraint) : Left → List Request → List Answer → Left → Type 0 where
   done-before : {left : Left} → RunBefore rows left [] [] left
-  call-before : {left end : Left} {calls : List Call} {answers : List Answer} (c : Call) (a : Answer)
-      → Judged (questionsBefore rows (left .steps) c) a → RunBefore rows (leftBy left (asks c) a) calls answers end
-      → RunBefore rows left (c ∷ calls) (a ∷ answers) end
+  request-before : {left end : Left} {requests : List Request} {answers : List Answer} (r : Request) (a : Answer)
+      → Judged (requestQuestionsBefore rows left r) a → RunBefore rows (leftBy left r a) requests answers end
+      → RunBefore rows left (r ∷ requests) (a ∷ answers) end
 
 -- none of the answers is 10
 abbrev pub NoneTooLate : List Answer → Type 0
@@ -191,20 +198,35 @@ module _ (rows : List Constraint) (steps : List Step) where
   clock-small (Call.Tick t) judged h = rw (clock-tick t steps) (judged-all 10 _ _ (judged-all 8 _ _ judged .1) .0)
   clock-small Call.Close judged h = rw (clock-close steps) h
 
--- calls none of which was answered 10 have the answers that they had, and leave the same steps, over which a row reads what it read (§2.4 to §2.6)
-run-from : {rows : List Constraint} {left end : Left} {calls : List Call} {answers : List Answer} → RunBefore rows left calls answers end
-    → NoneTooLate answers → Valid (left .steps) → clock (left .steps) ≤ lastTimeBefore → Run rows left (map asks calls) answers end
+-- without its last step a list is no further than it was
+clock-less : {steps : List Step} → Valid steps → clock (butLast steps) ≤ clock steps
+unfolding clockFrom
+clock-less valid-none = omega arith
+clock-less (valid-more {steps = steps} s v a) = rw (but-last steps s) (last-later s steps a)
+  where
+    last-later : (s : Step) (steps : List Step) → Accepts steps s → clock steps ≤ clock (steps ++ (s ∷ []))
+    last-later (event k t) steps a = omega (arith, clock-event k t steps, a .in-order .0)
+    last-later (tick t) steps a = omega (arith, clock-tick t steps, a .later)
+    last-later close steps a = omega (arith, clock-close steps)
+
+-- requests none of which was answered 10 have the answers that they had, and leave the same steps, over which a row reads what it read (§2.4 to §2.6)
+run-from : {rows : List Constraint} {left end : Left} {requests : List Request} {answers : List Answer} → RunBefore rows left requests answers end
+    → NoneTooLate answers → Valid (left .steps) → clock (left .steps) ≤ lastTimeBefore → Run rows left requests answers end
 run-from done-before none v small = done
-run-from {rows = rows} (call-before {left = left} s Taken judged rest) none v small =
+run-from {rows = rows} (request-before {left = left} (asks s) Taken judged rest) none v small =
     let now-taken = same-answer rows (left .steps) Taken (none .0) (count-before v small) s judged in
     request (asks s) Taken now-taken
     (run-from rest (none .1) (valid-more (stepFor s) v (accepts-taken rows (left .steps) s now-taken))
     (clock-small rows (left .steps) s judged small))
-run-from {rows = rows} (call-before {left = left} s (Refused n) judged rest) none v small =
+run-from {rows = rows} (request-before {left = left} (asks s) (Refused n) judged rest) none v small =
     request (asks s) (Refused n) (same-answer rows (left .steps) (Refused n) (none .0) (count-before v small) s judged)
     (run-from rest (none .1) v small)
+run-from (request-before withdraws Taken judged rest) none v small =
+    request withdraws Taken judged (run-from rest (none .1) (valid-less v) (omega (arith, clock-less v, small)))
+run-from (request-before withdraws (Refused n) judged rest) none v small = request withdraws (Refused n) judged (run-from rest (none .1) v small)
 
-pub run-still : {rows : List Constraint} {end : Left} {calls : List Call} {answers : List Answer} → RunBefore rows noneLeft calls answers end
-    → NoneTooLate answers → Run rows noneLeft (map asks calls) answers end
+-- §1.11: a list of calls and withdrawals none of which was refused with 10 has the answers that it had, and leaves the same steps
+pub run-still : {rows : List Constraint} {end : Left} {requests : List Request} {answers : List Answer} → RunBefore rows noneLeft requests answers end
+    → NoneTooLate answers → Run rows noneLeft requests answers end
 unfolding clockFrom
 run-still before none = run-from before none valid-none (omega arith)

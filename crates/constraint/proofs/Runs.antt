@@ -40,7 +40,7 @@ accepts-taken rows steps Call.Close judged =
     let eight = judged-all 8 _ _ judged in record { not-closed = eight .0; counted = judged-all 24 _ _ (eight .1) .0 }
 
 -- without their last step they are in order too
-valid-less : {steps : List Step} → Valid steps → Valid (butLast steps)
+pub valid-less : {steps : List Step} → Valid steps → Valid (butLast steps)
 valid-less valid-none = valid-none
 valid-less (valid-more {steps = steps} s v a) = subst Valid (sym (but-last steps s)) v
 

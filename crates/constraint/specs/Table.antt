@@ -121,9 +121,9 @@ pub data ReadsRows (edition : ℕ) (bytes : List ℕ) : ℕ → ℕ → TableRea
       → Judged (placeQuestions edition bytes i place c) Taken → ReadsRows edition bytes (i + 1) (place + 2 + lengthAt bytes place) later
       → ReadsRows edition bytes i place (rowThen c later)
 
--- §8.1, §16.3; 01, questions: the first byte is there, and is an edition up to the newest that the call takes
+-- §8.1, §16.3; 01, questions: the first byte is there, and is an edition up to the newest that the call takes: one that has types
 abbrev pub VersionUpTo : ℕ → List ℕ → Type 0
-VersionUpTo newest bytes = (0 < length bytes) × (1 ≤ at bytes 0) × (at bytes 0 ≤ newest)
+VersionUpTo newest bytes = (0 < length bytes) × (1 ≤ at bytes 0) × (at bytes 0 ≤ newest) × (0 < lastType (at bytes 0))
 
 -- §9.3; 01, questions: 1, then row by row in the edition that the first byte says
 pub data ReadsTableUpTo (newest : ℕ) (bytes : List ℕ) : TableRead → Type 0 where

@@ -19,7 +19,7 @@ ghost use mathlib.Core.List.{[]};
 ghost use Rattle.constraint.specs.Questions.{Judged};
 ghost use Rattle.constraint.specs.Accepted.{rowQuestions, rowQuestionsIn, rowsQuestions};
 ghost use Rattle.constraint.specs.Types.{strongSynchronizationRead, synchronizationRead, rowRead, lengthOf, lastType, takesCount};
-ghost use Rattle.constraint.specs.Records.{rowsOf, tableOf, Adds, HoldsRow};
+ghost use Rattle.constraint.specs.Records.{rowsOf, Adds, HoldsRow};
 
 // The largest kind of event.
 pub const LAST_KIND: u8 = 63;
@@ -667,7 +667,7 @@ impl Constraint {
 impl Table {
     // The table with no row.
     pub fn new() -> Self
-        ensures { λ r. ⌜ r ≡ tableOf [] ⌝ }
+        ensures { λ r. ⌜ rowsOf r ≡ [] ⌝ }
     {
         let entry = Entry {
             constraint: Constraint::Order {

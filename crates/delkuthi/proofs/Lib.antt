@@ -1,16 +1,17 @@
 -- The laws of taking a recording and of telling its report.
 mod Names
+mod Lying
+pub mod Hosts
 pub mod Taking
 pub mod Progress
 pub mod Summaries
 pub mod Reports
-mod Lying
 mod Numbers
 pub mod Printing
 pub mod RecordNumbers
 pub mod Refusals
 pub mod JoinNumbers
 pub mod StampWords
-pub mod LentExact
+pub mod Decoded
 pub mod Editions
 pub mod RoundTrip

@@ -2,9 +2,10 @@
 pub use Rattle.constraint.proofs.Judged.{failed, judged-all, judged-no, judged-none, judged-once, judged-parts, judged-yes, never, passed}
 pub use Rattle.constraint.proofs.Library.{Bool, List, List·getD-map, Option, [], _%_, _&&_, _*_, _++_, _+_, _-_, _/_, _<_, _↔_, _∙_, _∷_, _≡_, _≤_}
 pub use Rattle.constraint.proofs.Library.{add-one, ap, append-nil, append-snoc, ap₂, arith, by-cases, cond, decLt, drop, drop-cons, drop-of-length-le}
-pub use Rattle.constraint.proofs.Library.{eq-eqb, eqb, false, getD, getD-take, inl, inr, le-ltb, length, length-append, length-map, length-take}
-pub use Rattle.constraint.proofs.Library.{length-take-le, lt-ltb, lt-of-le-of-lt, ltb, ltb-false, ltb-true, map, min, ne-eqb, needs, none, now, refl}
-pub use Rattle.constraint.proofs.Library.{replicate, set, set-at, some, subst, suc, sym, take, take-all, take-suc, true, zero, ℕ, ⊎-elim}
+pub use Rattle.constraint.proofs.Library.{eq-eqb, eqb, eqb-true, false, getD, getD-take, inl, inr, le-ltb, length, length-append, length-map}
+pub use Rattle.constraint.proofs.Library.{length-take, length-take-le, lt-ltb, lt-of-le-of-lt, ltb, ltb-false, ltb-true, map, min, ne-eqb, needs}
+pub use Rattle.constraint.proofs.Library.{none, now, refl, replicate, set, set-at, some, subst, suc, sym, take, take-all, take-suc, true, zero, ℕ}
+pub use Rattle.constraint.proofs.Library.{⊎-elim}
 pub use Rattle.constraint.proofs.{Accepted.rows-room, Accepted.rows-then, Editions.reads-same, History.Valid, History.closed-close, History.count-of}
 pub use Rattle.constraint.proofs.{History.valid-none, Lists.both, Lists.getD-within, Lists.split, Runs.run-valid, Sanity.run-once}
 pub use Rattle.constraint.specs.Continuation.{Reads, reads-broken, reads-kept, reads-open}
@@ -14,24 +15,24 @@ pub use Rattle.constraint.specs.Recording.{ReadsInOrder, ReadsRecording, ReadsR
 pub use Rattle.constraint.specs.Recording.{record-refused, record-taken, recording-of, recording-refused, version-refused, version-taken}
 pub use Rattle.constraint.specs.Report.{EachReads, ReportOfUpTo, Reports, ReportsUpTo, all-taken, closedText, no-recording, no-table, refusedText}
 pub use Rattle.constraint.specs.Report.{row-reads}
-pub use Rattle.constraint.specs.Run.{Left, Request, Run, asks, done, noneLeft, stepFor}
+pub use Rattle.constraint.specs.Run.{Left, Request, asks, done, stepFor}
 pub use Rattle.constraint.specs.Stamps.{AnswersStampsUpTo, RepeatRow, not-asked, stampsQuestions}
-pub use Rattle.constraint.specs.Table.{ReadsTableUpTo, TableRead, bodyAt, rowBytes, table-of, table-refused, writerQuestions}
+pub use Rattle.constraint.specs.Table.{ReadsRows, ReadsTableUpTo, TableRead, bodyAt, rowBytes, rowThen, table-of, table-refused, writerQuestions}
 pub use Rattle.constraint.specs.{Accepted.Accepted, Bytes.Bytes, Limits.lastCount, Limits.rowLimit, Promise.ReadsRow, Promise.no-row, Promise.row}
-pub use Rattle.constraint.specs.{Questions.Question, Steps.Step, Steps.at, Steps.close, Types.typeOf, declared.Answer.Answer}
+pub use Rattle.constraint.specs.{Questions.Question, Steps.Step, Steps.at, Steps.close, Types.lastType, Types.typeOf, declared.Answer.Answer}
 pub use Rattle.constraint.specs.{declared.Answer.the-variants.Refused, declared.Answer.the-variants.Taken, declared.Call.Call}
 pub use Rattle.constraint.specs.{declared.Constraint.Constraint, declared.Constraint.the-variants.Repeat, declared.JoinAnswer.JoinAnswer}
 pub use Rattle.constraint.specs.{declared.StampedAnswer.StampedAnswer, declared.Verdict.Verdict}
+pub use Rattle.delkuthi.specs.Decoded.{Decodes, joinRest, joinSecond, numberIn, readRefusal, readRest, restIn, secondIn, stampedRefusal}
+pub use Rattle.delkuthi.specs.Decoded.{stampedRest, tableRest, toldOf}
 pub use Rattle.delkuthi.specs.Lent.{KnownWord, NumberOfRows, NumberOfVerdict, StepOfVerdict, WordOfVerdict, wordOf}
-pub use Rattle.delkuthi.specs.LentExact.{Host, LentExact, LentExactUpTo, Memory, ReadsAs, ReadsRecorded, Reported, Untouched, asked, cut, over}
-pub use Rattle.delkuthi.specs.LentExact.{whole}
+pub use Rattle.delkuthi.specs.Host.{Host, Memory, Untouched, asked, noneRefused, over}
 pub use Rattle.delkuthi.specs.Printed.{WritesPage, brokenIn, printed, printedRows, typeIn}
 pub use Rattle.delkuthi.specs.Reporting.{LeftBy, ReportsOf, ReportsOn, ReportsOnUpTo, ReportsSteps, reported, unclosed, unused, used}
-pub use Rattle.delkuthi.specs.Taking.{RecordingTakenAs, StepsBefore, TakesRecording, TakesRecords, Took, at-first, at-version, behind}
+pub use Rattle.delkuthi.specs.Taking.{RecordingLeaves, RecordingTakenAs, StepsBefore, TakesRecords, at-first, at-version, behind}
 pub use Rattle.delkuthi.specs.{Joining.NumbersJoin, Joining.joinNumber, Joining.joinQuestions, Joining.joinRefusal, Program.fits}
 pub use Rattle.delkuthi.specs.{Program.too-large, Stamps.NumbersStamps, Stamps.NumbersStampsUpTo, Stamps.stampedNumber, Summary.refusalOf}
 pub use Rattle.delkuthi.specs.{Summary.reportText, Summary.summaryOf, Summary.verdictsIn, Tables.MakesTableIn, Tables.tableNumber}
-pub use Rattle.fresh.proofs.Refusals.{refused-small}
 pub use Rattle.fresh.specs.Fresh.{Begins, BeginsUpTo, begun, freshLent, refused}
 pub use Rattle.lent.proofs.{Blocks.row-lies, Laws.takes-of, Parts.number-at}
 pub use Rattle.lent.specs.Layout.{Lent, Shaped, Words, heldRows, keptAt, rowAt, wordsOf}
@@ -39,9 +40,9 @@ pub use Rattle.lent.specs.{Contract.Holds, Contract.ReadOff, Contract.Takes, Co
 pub use Rattle.machine.proofs.FieldNumbers.{form-is}
 pub use Rattle.monitor.proofs.Withdrawing.{after-call, after-follows, remains-follows, takes-more}
 pub use Rattle.monitor.proofs.{Demand.has-row, FittingRows.FitRows, FittingRows.fit-reads, Following.Follows, RowVerdicts.place-small}
-pub use Rattle.monitor.proofs.{RowVerdicts.verdict-kept, Theorem.monitor-is-exact}
+pub use Rattle.monitor.proofs.{RowVerdicts.verdict-kept}
 pub use Rattle.monitor.specs.Contract.{Reading, Remains, Steps, resultOf, step, stepIn, verdictIn}
-pub use Rattle.monitor.specs.{Beside.allTaken, Machine.monitorOf, Machine.noRow, Machine.stepOf as machineStep, Parts.placeOf, Parts.verdictBy}
+pub use Rattle.monitor.specs.{Beside.TakesAll, Beside.allTaken, Machine.noRow, Parts.placeOf, Parts.verdictBy}
 pub use Rattle.monitor.specs.{declared.Monitor.Monitor, declared.RowVerdict.RowVerdict, declared.Stepped.Stepped}
 pub use Rattle.page.proofs.{Pages.same-rows, ReadBack.StepFits, ReadBack.equal-pages, ReadBack.page-reads-back}
 pub use Rattle.page.specs.{ReadBack.lineRead, Sheet.textOf, Sheet.verdictFor, Sheet.verdictsOf, declared.Summary.Summary}
@@ -59,7 +60,7 @@ pub use Rattle.text.proofs.Texts.{extended-append, holds-all}
 pub use Rattle.text.specs.{Content.Copied, Content.Holds as Contains, Content.emptyText, Lines.closedLine, Lines.rowLine, declared.Text.Text}
 pub use lib.Bits.{and-le-r, and-mask}
 unfoldable pub use Rattle.constraint.specs.{Accepted.rowsQuestions, Promise.play, Questions.Judged, Recording.recordQuestions, Report.rowLines}
-unfoldable pub use Rattle.constraint.specs.{Run.questions, Steps.closed, Table.rowsBytes, Table.tableBytesIn}
+unfoldable pub use Rattle.constraint.specs.{Run.questions, Steps.closed, Table.placeQuestions, Table.rowsBytes, Table.tableBytesIn}
 unfoldable pub use Rattle.machine.specs.Words.{numberWords, rowWords}
 unfoldable pub use Rattle.monitor.specs.{Contract.after, Machine.verdictOf}
 unfoldable pub use Rattle.row.specs.Machine.{rowVerdict}

@@ -1,9 +1,11 @@
 -- Each question of a table, of a record and of its step has a number from 1 to 127, as a test over the list computes, and so has each refusal.
-use Rattle.delkuthi.proofs.Names.{AnswersStampsUpTo, Bool, Call, Constraint, Judged, List, Question, ReadsInOrder, ReadsRecords, Refused}
-use Rattle.delkuthi.proofs.Names.{StampedAnswer, Step, [], _&&_, _+_, _<_, _∷_, _≡_, arith, callAt, false, inl, inr, ltb, ltb-true, never}
-use Rattle.delkuthi.proofs.Names.{not-asked, questions, record-refused, record-taken, recordQuestions, recording-refused, refl, refused-small}
-use Rattle.delkuthi.proofs.Names.{rowsQuestions, stampsQuestions, true, version-refused, version-taken, ℕ}
+use Rattle.delkuthi.proofs.Names.{AnswersStampsUpTo, Bool, Call, Constraint, Judged, List, Question, ReadsInOrder, ReadsRecords, ReadsRows}
+use Rattle.delkuthi.proofs.Names.{ReadsTableUpTo, Refused, StampedAnswer, Step, TableRead, [], _&&_, _+_, _<_, _∷_, _≡_, arith, callAt, false}
+use Rattle.delkuthi.proofs.Names.{inl, inr, ltb, ltb-true, never, not-asked, placeQuestions, questions, record-refused, record-taken}
+use Rattle.delkuthi.proofs.Names.{recordQuestions, recording-refused, refl, rowThen, rowsQuestions, stampsQuestions, table-of, table-refused}
+use Rattle.delkuthi.proofs.Names.{true, version-refused, version-taken, ℕ}
 use Rattle.constraint.specs.Stamps.{no-recording, no-table}
+use Rattle.constraint.specs.Table as Table
 
 -- a number that leaves room for one bit more in its byte
 abbrev pub Short : ℕ → Type 0
@@ -53,11 +55,35 @@ pub refusal-short : (bytes : List ℕ) (n place : ℕ) → ReadsInOrder bytes (r
 refusal-short bytes n place (version-refused one) = (omega arith, omega arith)
 refusal-short bytes n place (version-taken one records) = records-short bytes records
 
+-- ---- of a table
+
+place-short : (edition : ℕ) (bytes : List ℕ) (i place n : ℕ) (c : Constraint) → Judged (placeQuestions edition bytes i place c) (Refused n) → Short n
+unfolding placeQuestions short?
+place-short edition bytes i place n c judged = number-short (placeQuestions edition bytes i place c) n refl judged
+
+-- what is read from a place on
+abbrev ShortRead : TableRead → Type 0
+ShortRead (table-of rows) = Unit {0}
+ShortRead (table-refused n place) = Short n
+
+then-short : (c : Constraint) (later : TableRead) → ShortRead later → ShortRead (rowThen c later)
+then-short c (table-of rows) short = tt
+then-short c (table-refused n place) short = short
+
+read-short : {edition : ℕ} (bytes : List ℕ) {i start : ℕ} {read : TableRead} → ReadsRows edition bytes i start read → ShortRead read
+read-short bytes (Table.no-more end) = tt
+read-short {edition} bytes (Table.row-refused {i} {place} n c there at-c judged) = place-short edition bytes i place n c judged
+read-short bytes (Table.row-taken {later = later} c there at-c judged reads) = then-short c later (read-short bytes reads)
+
+pub table-short : {newest : ℕ} (bytes : List ℕ) (n place : ℕ) → ReadsTableUpTo newest bytes (table-refused n place) → Short n
+table-short bytes n place (Table.version-refused one) = (omega arith, omega arith)
+table-short bytes n place (Table.version-taken one reads) = read-short bytes reads
+
 -- ---- of late stamps
 
-pub stamped-above : {newest : ℕ} (table recording : List ℕ) (i e n place : ℕ)
-    → AnswersStampsUpTo newest table recording i e (StampedAnswer.Refused n place) → 0 < n
+pub stamped-short : {newest : ℕ} (table recording : List ℕ) (i e n place : ℕ)
+    → AnswersStampsUpTo newest table recording i e (StampedAnswer.Refused n place) → Short n
 unfolding short?
-stamped-above table recording i e n place (no-table m at read) = refused-small table m at read .0
-stamped-above table recording i e n place (no-recording rows m at read refused) = refusal-short recording m at refused .0
-stamped-above table recording i e n place (not-asked rows steps m read taken judged) = number-short (stampsQuestions rows i e) m refl judged .0
+stamped-short table recording i e n place (no-table m at read) = table-short table m at read
+stamped-short table recording i e n place (no-recording rows m at read refused) = refusal-short recording m at refused
+stamped-short table recording i e n place (not-asked rows steps m read taken judged) = number-short (stampsQuestions rows i e) m refl judged

@@ -1,25 +1,25 @@
--- A refusal of the table writer has a number above 0, as each of its questions has; and a table that is written is short.
+-- A refusal of the table writer has a number from 1 to 127, as each of its questions has; and a table that is written is short.
 use Rattle.delkuthi.proofs.Names.{Constraint, FirstRefused, Judged, List, MakesTableIn, Question, Refused, Taken, WriteAnswer, Writes}
 use Rattle.delkuthi.proofs.Names.{WritesRaw, [], _*_, _+_, _<_, _∷_, _≡_, _≤_, all-read, answerIn, arith, body-short, judged-parts, length}
 use Rattle.delkuthi.proofs.Names.{length-append, never, refl, row-length, rowBytes, rows-room, rows-then, rowsBytes, rowsQuestions, stopped-at}
 use Rattle.delkuthi.proofs.Names.{subst, tableBytesIn, tableNumber, writerQuestions, ℕ}
-use Rattle.delkuthi.proofs.RecordNumbers.{number-short, rows-short, short?}
+use Rattle.delkuthi.proofs.RecordNumbers.{Short, number-short, rows-short, short?}
 
 writer-number : {edition : ℕ} (rows : List Constraint) (before after : List ℕ) (r : WriteAnswer) (n : ℕ) → r ≡ WriteAnswer.Refused n
     → Writes edition rows before r after
-    → 0 < n
+    → Short n
 unfolding short?
 writer-number {edition} rows before after r n e writes =
     number-short (writerQuestions edition rows before) n (rows-short edition 0 rows _ refl)
-    (subst (λ (w : WriteAnswer). Judged (writerQuestions edition rows before) (answerIn w)) e (writes .judged)) .0
+    (subst (λ (w : WriteAnswer). Judged (writerQuestions edition rows before) (answerIn w)) e (writes .judged))
 
-raw-number : {edition : ℕ} (bytes before after : List ℕ) (r : WriteAnswer) (n : ℕ) → r ≡ WriteAnswer.Refused n
-    → WritesRaw edition bytes before r after → 0 < n
+pub raw-number : {edition : ℕ} (bytes before after : List ℕ) (r : WriteAnswer) (n : ℕ) → r ≡ WriteAnswer.Refused n
+    → WritesRaw edition bytes before r after → Short n
 unfolding short?
 raw-number bytes before after r n e (all-read rows raw past writes) = writer-number rows before _ _ n e writes
 raw-number {edition} bytes before after r n e (stopped-at rows m raw more judged) =
     let same : m ≡ n = cc in
-    omega (arith, same, number-short _ m (rows-short edition 0 rows _ refl) judged .0)
+    subst Short same (number-short _ m (rows-short edition 0 rows _ refl) judged)
 
 rows-length : (rows : List Constraint) → length (rowsBytes rows) ≤ 40 * length rows
 unfolding rowsBytes
@@ -68,5 +68,5 @@ makes-refused {edition} bytes before after r n row number small e writes first i
       row = row;
       of-row = λ m refused. first;
       equals = is;
-      small = λ m refused. let same : n ≡ m = cc in (omega (arith, same, raw-number bytes before after r n e writes), omega (arith, same, small));
+      small = λ m refused. let same : n ≡ m = cc in (omega (arith, same, raw-number bytes before after r n e writes .0), omega (arith, same, small));
     }

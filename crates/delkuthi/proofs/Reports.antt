@@ -1,15 +1,16 @@
 -- The report's text goes by what reading the table and the recording gave, and there is room for all of it.
-use Rattle.delkuthi.proofs.Names.{BeginsUpTo, Constraint, Contains, Copied, EachReads, Holds, LeftBy, List, Monitor, ReadAnswer}
-use Rattle.delkuthi.proofs.Names.{ReadsRecording, ReadsTableUpTo, ReportOfUpTo, ReportsOf, ReportsOnUpTo, ReportsSteps, ReportsUpTo, Step}
-use Rattle.delkuthi.proofs.Names.{Summary, TakesRecords, Text, Verdict, Words, [], _%_, _*_, _++_, _+_, _/_, _<_, _∙_, _∷_, _≡_, _≤_, add-one}
-use Rattle.delkuthi.proofs.Names.{after, all-taken, ap, ap₂, arith, at, begun, close, closed, closed-append, closed-close, closed-length}
-use Rattle.delkuthi.proofs.Names.{closedLine, closedText, copied-reports, done, drop, drop-cons, emptyText, extended, extended-append, false}
-use Rattle.delkuthi.proofs.Names.{freshLent, holds-all, le-ltb, length, lt-ltb, map, never, no-recording, no-table, read-accepted}
-use Rattle.delkuthi.proofs.Names.{recording-of, refl, refusalOf, refused, refused-length, refusedText, reportLimit, reportText, reported}
-use Rattle.delkuthi.proofs.Names.{row-reads, rowLine, rowLines, rows-more, rows-room, subst, suc, summaryOf, sym, table-of, unclosed, unused}
-use Rattle.delkuthi.proofs.Names.{used, verdictsIn, ℕ}
+use Rattle.delkuthi.proofs.Names.{BeginsUpTo, Call, Constraint, Contains, Copied, EachReads, Holds, LeftBy, List, Monitor, ReadAnswer}
+use Rattle.delkuthi.proofs.Names.{ReadsRecording, ReadsTableUpTo, RecordingTakenAs, ReportOfUpTo, ReportsOf, ReportsOnUpTo, ReportsSteps}
+use Rattle.delkuthi.proofs.Names.{ReportsUpTo, Step, Summary, TakesRecords, Text, Verdict, Words, [], _%_, _*_, _++_, _+_, _/_, _<_, _∙_, _∷_}
+use Rattle.delkuthi.proofs.Names.{_≡_, _≤_, add-one, after, all-taken, ap, ap₂, arith, asks, at, begun, close, closed-append, closed-close}
+use Rattle.delkuthi.proofs.Names.{closed-length, closedLine, closedText, copied-reports, drop, drop-cons, emptyText, extended, extended-append}
+use Rattle.delkuthi.proofs.Names.{freshLent, holds-all, le-ltb, length, lt-ltb, map, never, no-recording, no-table, over, read-accepted}
+use Rattle.delkuthi.proofs.Names.{reads-once, recording-of, refl, refusalOf, refused, refused-length, refusedText, reportLimit, reportText}
+use Rattle.delkuthi.proofs.Names.{reported, row-reads, rowLine, rowLines, rows-more, rows-room, subst, suc, summaryOf, sym, table-of, unclosed}
+use Rattle.delkuthi.proofs.Names.{unused, used, verdictsIn, wordsOf, ℕ}
 use Rattle.constraint.specs.Report.{no-row}
-use Rattle.delkuthi.proofs.{Summaries.each-summarized, Summaries.made-follows, Summaries.verdicts-few, Taking.took-follows}
+use Rattle.delkuthi.proofs.{Hosts.follows-fresh, Taking.took-follows}
+use Rattle.delkuthi.proofs.Summaries.{each-summarized, made-follows, verdicts-few}
 use Rattle.table.specs.declared.ReadAnswer.the-variants.{Accepted, Refused}
 
 -- ---- the text
@@ -45,20 +46,22 @@ module _ {newest : ℕ} (table : List ℕ) (before : Words) where
       (rows, read, record { lent = freshLent rows; words-are = refl; indexes = indexes; monitor-is = refl })
   begun-over number words (refused n place read above below) e = absurd (omega (arith, e, above))
 
+  -- over the rows that the table holds
+  pub begun-with : (rows : List Constraint) (words : Words) → ReadsTableUpTo newest table (table-of rows) → BeginsUpTo newest table before 0 words
+      → Holds words (after rows [])
+  begun-with rows words read begins =
+      let over = begun-over 0 words begins refl in
+      let both = reads-once table (over .1) read in
+      let same : over .0 ≡ rows = cc in
+      subst (λ (r : List Constraint). Holds words (after r [])) same (over .2)
+
   module _ (recording : List ℕ) where
     pub left-used : (number : ℕ) (words : Words) → BeginsUpTo newest table before number words → number ≡ 0 → (answer : ReadAnswer) (last : Words)
         → TakesRecords words recording answer last → LeftBy newest before table recording answer last
-    left-used number words begins e answer last takes =
-        let over = begun-over number words begins e in
-        let taken = takes (after (over .0) []) (over .2) in
-        used (over .0) answer last (taken .0) (over .1)
-        (taken .1 .means (over .0) (record {
-          accepted = (_, read-accepted table (over .0) (over .1));
-          calls = [];
-          all-taken = (false, done);
-          made = refl;
-        }))
-        (taken .2)
+    left-used number words (begun rows read accepted indexes) e answer last takes =
+        let fresh = begun rows read accepted indexes in
+        used rows answer last read fresh (takes rows accepted (begun-with rows (wordsOf (freshLent rows)) read fresh))
+    left-used number words (refused n place read above below) e answer last takes = absurd (omega (arith, e, above))
 
     -- another number is the refusal's
     pub left-unused : (number : ℕ) (words : Words) → BeginsUpTo newest table before number words → (number ≡ 0 → ⊥)
@@ -71,15 +74,23 @@ module _ {newest : ℕ} (table : List ℕ) (before : Words) where
 
 -- ---- the report
 
--- what is said of the summary is the report
+-- what is said of the summary is the report: by the answer to the recording
+said-of : {newest : ℕ} (table recording : List ℕ) (rows : List Constraint) (answer : ReadAnswer) (calls : List Call)
+    → ReadsTableUpTo newest table (table-of rows) → RecordingTakenAs rows recording answer calls
+    → ReportOfUpTo newest table recording (reportText answer (summaryOf (after rows (map asks calls))))
+said-of table recording rows Accepted calls read (steps, reads, taken) =
+    let m = after rows (map asks calls) in
+    let f = took-follows rows (steps ++ (close ∷ [])) calls (_, read-accepted table rows read) taken in
+    rw (f .count-is) (all-taken rows steps (verdictsIn (summaryOf m)) read reads (each-summarized rows (steps ++ (close ∷ [])) m f))
+said-of table recording rows (Refused n place) calls read (steps, reads, before, taken) = no-recording rows n place read reads
+
 pub summary-report : {newest : ℕ} {before after : Words} {table recording : List ℕ} {answer : ReadAnswer} (summary : Summary)
     → LeftBy newest before table recording answer after → ((m : Monitor) → Holds after m → summary ≡ summaryOf m)
     → ReportOfUpTo newest table recording (reportText answer summary)
 summary-report summary (unused n place read) is = no-table n place read
-summary-report summary (used rows Accepted after m read (steps, reads, took) holds) is =
-    let f = took-follows rows (steps ++ (close ∷ [])) m took in
-    rw (is m holds, f .count-is) (all-taken rows steps (verdictsIn (summaryOf m)) read reads (each-summarized rows (steps ++ (close ∷ [])) m f))
-summary-report summary (used rows (Refused n place) after m read (steps, before, took, reads) holds) is = no-recording rows n place read reads
+summary-report {before = before} {table = table} {recording = recording} summary (used rows answer end read begins left) is =
+    rw (is _ (follows-fresh rows (begun-with table before rows _ read begins) (left .host)))
+    (said-of table recording rows answer (left .calls) read (left .taken))
 
 -- and what is written of it, on a lent monitor
 pub reports-on : {newest : ℕ} {before after : Words} {table recording : List ℕ} {answer : ReadAnswer} (summary : Summary)
@@ -89,10 +100,15 @@ pub reports-on : {newest : ℕ} {before after : Words} {table recording : List �
 reports-on summary {buffer} {number} {written} left is copied =
     record { reports = copied-reports _ _ _ buffer number written (summary-report summary left is) copied; answer = _; left-by = left }
 
+-- a text without bytes is copied by writing nothing
+pub copied-none : (before : List ℕ) → Copied [] before 0 before
+copied-none before = record { fits = λ fits. (refl, refl); too-short = λ short. absurd (omega arith) }
+
 -- of a monitor that was stepped call by call: before the close nothing is written
 pub reports-unclosed : (m : Monitor) (before : List ℕ) → m .closed ≤ 0 → ReportsOf m before 0 before
 reports-unclosed m before not-yet =
     record {
+      equals = rw (le-ltb 0 (m .closed) not-yet) (copied-none before);
       means = λ rows requests accepted made.
           let a = made-follows rows requests accepted made in (a .0, a .1, unclosed (sym (a .2 .closed-is) ∙ le-ltb _ _ not-yet));
     }
@@ -101,6 +117,7 @@ pub reports-closed : (m : Monitor) (before : List ℕ) (answer : ℕ) (written :
     → Copied (reportText Accepted (summaryOf m)) before answer written → ReportsOf m before answer written
 reports-closed m before answer written shut copied =
     record {
+      equals = rw (lt-ltb 0 (m .closed) shut) copied;
       means = λ rows requests accepted made.
           let a = made-follows rows requests accepted made in
           let f = a .2 in (

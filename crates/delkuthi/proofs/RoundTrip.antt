@@ -1,8 +1,8 @@
 -- §4.9 and §4.10 of the exported writer: a number that is a length answers a table that was written, and reading it gives the rows that the raw
 -- bytes stand for; and raw bytes that stand for the rows of an accepted table are written as that table.
 use Rattle.delkuthi.proofs.Names.{Bytes, Constraint, List, MakesTableIn, RawRows, ReadsTableUpTo, WriteAnswer, WritesRaw, _*_, _++_, _+_, _<_}
-use Rattle.delkuthi.proofs.Names.{_∙_, _≡_, _≤_, ap, arith, at, cond, drop, eqb, length, raw-read, raw-write, rawSize, refl, split, subst, sym}
-use Rattle.delkuthi.proofs.Names.{table-of, tableNumber, take, ℕ}
+use Rattle.delkuthi.proofs.Names.{_∙_, _≡_, _≤_, ap, arith, at, cond, drop, eqb, lastType, length, raw-read, raw-write, rawSize, refl, split}
+use Rattle.delkuthi.proofs.Names.{subst, sym, table-of, tableNumber, take, ℕ}
 
 -- the number of a refusal is no length
 no-length : (k row n : ℕ) → 0 < k → k < 256 → n * 256 ≡ tableNumber (WriteAnswer.Refused k) row → ⊥
@@ -13,7 +13,7 @@ abbrev ReadsBack : ℕ → List ℕ → List ℕ → Type 0
 ReadsBack newest bytes table =
     (rows : List Constraint) × RawRows bytes rows × (length bytes < (length rows + 1) * rawSize) × ReadsTableUpTo newest table (table-of rows)
 
-pub table-reads-back : (newest edition : ℕ) → 1 ≤ edition → edition ≤ newest → (bytes before after : List ℕ) (number n : ℕ)
+pub table-reads-back : (newest edition : ℕ) → 0 < lastType edition → edition ≤ newest → (bytes before after : List ℕ) (number n : ℕ)
     → MakesTableIn edition bytes before number after → number ≡ n * 256 → ReadsBack newest bytes (take n after)
 table-reads-back newest edition some known bytes before after number n makes e =
     go (makes .answer) (makes .writes) (sym e ∙ makes .equals) (makes .small)

@@ -29,6 +29,11 @@ brokenIn m i = getD (m .rows) i noRow .now .broken
 abbrev pub printed : Monitor → List ℕ
 printed m = pageText (typeIn m) (λ i. verdictFor (m .closed) (brokenIn m i)) (printedRows m)
 
+-- §11.4: whatever was lent, a text of the answered length lies at the front of the buffer and the rest is as it was, or nothing is written and 0
+-- is answered
+abbrev pub WritesText : List ℕ → ℕ → List ℕ → Type 0
+WritesText before answer written = (text : List ℕ) × Copied text before answer written
+
 -- §7.14, §7.19: the page, or 0 in a buffer that is too short: of a monitor that requests have made, what each row reads after the
 -- steps that they have left
 pub record WritesPage (m : Monitor) (before : List ℕ) (answer : ℕ) (written : List ℕ) : Type 0 where

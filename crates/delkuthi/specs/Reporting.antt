@@ -1,9 +1,10 @@
 -- What the report on a lent monitor promises: the bytes of the report, and the monitor that has taken the recording.
 use Prim.Native.Nat.{ℕ}
 use mathlib.Core.Path.{_≡_}
-use mathlib.Core.Bool.{true, false}
-use mathlib.Core.List.{List}
+use mathlib.Core.Bool.{true, false, cond}
+use mathlib.Core.List.{List, []}
 use lib.ListN.{length}
+use lib.Dec.{ltb}
 use Rattle.constraint.specs.Steps.{Step, closed}
 use Rattle.constraint.specs.Accepted.{Accepted}
 use Rattle.constraint.specs.Run.{Request, Left}
@@ -14,18 +15,20 @@ use Rattle.constraint.specs.declared.Verdict.{Verdict}
 use Rattle.text.specs.Content.{Copied}
 use Rattle.monitor.specs.Contract.{after, Remains}
 use Rattle.monitor.specs.declared.Monitor.{Monitor}
-use Rattle.lent.specs.Layout.{Words}
-use Rattle.lent.specs.Contract.{Holds}
+use Rattle.lent.specs.Layout.{Words, wordsOf}
+use Rattle.fresh.specs.Fresh.{BeginsUpTo, freshLent}
 use Rattle.table.specs.declared.ReadAnswer.{ReadAnswer}
-use Rattle.delkuthi.specs.Taking.{RecordingTakenAs}
+use Rattle.delkuthi.specs.Summary.{summaryOf, reportText}
+use Rattle.delkuthi.specs.Taking.{RecordingLeaves}
 
--- the answer to a table and a recording, and what lies in the lent monitor then: the table's refusal, and all as it was; or the recording's
--- answer, and the monitor over the table's rows after the steps that were taken, and the close where all were
+-- §7.22: the answer to a table and a recording, and every word of the lent monitor then: the table's refusal, and all as it was; or the recording's
+-- answer, and what its calls leave of the monitor that is fresh over the table, as `delkuthi_fresh` makes it
 pub data LeftBy (newest : ℕ) (before : Words) (table recording : List ℕ) : ReadAnswer → Words → Type 0 where
   unused : (n place : ℕ) → ReadsTableUpTo newest table (table-refused n place)
       → LeftBy newest before table recording (ReadAnswer.Refused n place) before
-  used : (rows : List Constraint) (answer : ReadAnswer) (after : Words) (m : Monitor) → ReadsTableUpTo newest table (table-of rows)
-      → RecordingTakenAs rows recording answer m → Holds after m → LeftBy newest before table recording answer after
+  used : (rows : List Constraint) (answer : ReadAnswer) (after : Words) → ReadsTableUpTo newest table (table-of rows)
+      → BeginsUpTo newest table before 0 (wordsOf (freshLent rows)) → RecordingLeaves rows recording answer (wordsOf (freshLent rows)) after
+      → LeftBy newest before table recording answer after
 
 -- §7.22: the number and the buffer are the report's, whatever lay in the monitor; and the monitor has been used, however short the buffer is
 pub record ReportsOnUpTo (newest : ℕ) (before : Words) (table recording buffer : List ℕ) (number : ℕ) (written : List ℕ) (after : Words)
@@ -47,7 +50,12 @@ pub data ReportsSteps (rows : List Constraint) (steps : List Step) (before : Lis
   reported : {answer : ℕ} {written : List ℕ} (verdicts : List Verdict) → closed steps ≡ true → EachReads steps rows verdicts
       → Copied (closedText (length steps) verdicts) before answer written → ReportsSteps rows steps before answer written
 
--- the report of a monitor that requests have made: that of the steps that they have left
+-- §7.4: the bytes of the report of any monitor: none before its close
+abbrev pub reportedOf : Monitor → List ℕ
+reportedOf m = cond (ltb 0 (m .closed)) (reportText ReadAnswer.Accepted (summaryOf m)) []
+
+-- §7.4, §7.8: the report of a monitor: of one that requests have made, that of the steps that they have left
 pub record ReportsOf (m : Monitor) (before : List ℕ) (answer : ℕ) (written : List ℕ) : Type 0 where
+  pub equals : Copied (reportedOf m) before answer written
   pub means : (rows : List Constraint) (requests : List Request) → Accepted rows → m ≡ after rows requests
       → (left : Left) × Remains rows requests left × ReportsSteps rows (left .steps) before answer written

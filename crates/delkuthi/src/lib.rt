@@ -12,6 +12,7 @@ use table::ReadAnswer;
 use text::Text;
 ghost use Rattle.constraint.specs.Report.{ReportsUpTo, Reports};
 ghost use Rattle.lent.specs.Contract.{ReadOff};
+ghost use Rattle.delkuthi.specs.Printed.{WritesText};
 ghost use Rattle.delkuthi.specs.Program.{Prints};
 ghost use Rattle.delkuthi.specs.Summary.{Tells};
 ghost use Rattle.delkuthi.specs.Reporting.{ReportsOnUpTo, ReportsOn, ReportsOf};
@@ -80,10 +81,11 @@ pub extern "C" fn delkuthi_report_on_2(
 }
 
 // Writes the report of a monitor that was stepped call by call to a lent buffer: the number of bytes written, or 0 where the buffer is too short or
-// the monitor is not closed, and then the buffer stays as it was.
+// the monitor is not closed, and then the buffer stays as it was. Whatever was lent, nothing else is written but the bytes answered for.
 #[no_mangle]
 pub extern "C" fn delkuthi_report_of(m: &Words, buffer: &mut [u8]) -> usize
-    ensures { λ r. ⌜ ReadOff (now (m .entry)) (λ n answer. ReportsOf n (now (buffer .entry)) answer (now (buffer .exit))) r ⌝ }
+    ensures { λ r. ⌜ (WritesText (now (buffer .entry)) r (now (buffer .exit))
+        × ReadOff (now (m .entry)) (λ n answer. ReportsOf n (now (buffer .entry)) answer (now (buffer .exit))) r) ⌝ }
 {
     let summary = report::summary_of(m);
     if summary.closed == 0 {

@@ -1,4 +1,4 @@
--- A tick of the first is later than all that stands before it, and so never falls away; one of the second falls away just where a record of the
+-- A tick of the first is later than all that stands before it, and so is never dropped; one of the second is dropped just where a record of the
 -- first stands at its time.
 use Rattle.join.proofs.Names.{Bool, Interleaves, List, Step, [], _<_, _||_, _∷_, _≡_, _≤_, _⊎_, among, arith, both, close, cond, eq-eqb, eqb}
 use Rattle.join.proofs.Names.{eqb-true, event, false, inl, inr, joined, leb, leb-false, leb-true, lt-leb, merged, no-record, of-first}
@@ -67,7 +67,7 @@ module _ (moments : List ℕ) where
   not-among : (t : ℕ) → (among t moments ≡ true → ⊥) → among t moments ≡ false
   not-among t h = split (among t moments) (λ x. among t moments ≡ x → x ≡ false) (λ e f. absurd (h f)) (λ e f. refl) refl
 
-  -- a tick of the second: it falls away at the clock, and is kept after it
+  -- a tick of the second: it is dropped at the clock, and is kept after it
   module _ (now t : ℕ) (first second : List Step) (later : List Step) where
     one-tick : now ≤ t → Seen now (tick t ∷ second) → (now < t → among t moments ≡ true → ⊥)
         → (now ≡ t → among now moments ≡ true → Interleaves first (without moments second) (undropped now later))

@@ -139,7 +139,7 @@ module _ (one two : List ℕ) (place other : ℕ) (a b : CallRead) (heads : Read
 
 -- ---- what is left of a record
 
--- a step, or nothing where it falls away
+-- a step, or nothing where it is dropped
 abbrev leftOf : ℕ → Step → List Step
 leftOf now s = cond (isDropped now s) [] (s ∷ [])
 

@@ -62,7 +62,7 @@ fn time_of(call: Call) -> u64
 }
 
 // Whether a record is dropped: a tick that is not later than the clock.
-fn falls_away(clock: u64, call: Call) -> bool
+fn is_dropped(clock: u64, call: Call) -> bool
     ensures { λ r. ⌜ r ≡ isDropped clock (stepFor call) ⌝ }
 {
     match call {
@@ -89,7 +89,7 @@ fn size_of(call: Call) -> usize
 fn left_size(clock: u64, call: Call) -> usize
     ensures { λ r. ⌜ r ≡ length (leftBytes clock call) ⌝ }
 {
-    if falls_away(clock, call) {
+    if is_dropped(clock, call) {
         return 0;
     }
     size_of(call)
@@ -99,7 +99,7 @@ fn left_size(clock: u64, call: Call) -> usize
 fn left_clock(clock: u64, call: Call) -> u64
     ensures { λ r. ⌜ r ≡ leftClock clock call ⌝ }
 {
-    if falls_away(clock, call) {
+    if is_dropped(clock, call) {
         return clock;
     }
     time_of(call)
@@ -132,7 +132,7 @@ fn put_left(buffer: &mut [u8], place: usize, clock: u64, call: Call)
     requires { ⌜ place + length (leftBytes clock call) ≤ 18446744073709551615 ⌝ }
     ensures { λ _. ⌜ now (buffer .exit) ≡ sets (now (buffer .entry)) place (leftBytes clock call) ⌝ }
 {
-    if falls_away(clock, call) {
+    if is_dropped(clock, call) {
         return;
     }
     put_call(buffer, place, call);

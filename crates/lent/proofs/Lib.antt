@@ -2,6 +2,7 @@
 mod Names
 pub mod Blocks
 pub mod Parts
+pub mod Lists
 pub mod Asked
 pub mod Following
 pub mod Concerned

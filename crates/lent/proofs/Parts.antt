@@ -255,7 +255,7 @@ same-rows x h e (suc kind) = (
 
 module _ (h : Lent) (o : Occurrence) where
   -- what holds of each outcome holds of what begins
-  by-outcome : (P : Lent → Type 0) → P (withSoonest (ended h (heldRows (h .monitor)) o (h .monitor .count)) 0) → P (withSoonest h (soonestAll h))
+  pub by-outcome : (P : Lent → Type 0) → P (withSoonest (ended h (heldRows (h .monitor)) o (h .monitor .count)) 0) → P (withSoonest h (soonestAll h))
       → P h → P (begun h o)
   by-outcome P late same none =
       split (ltb (h .soonest) (o .time)) (λ b. P (cond b (passed h o) h))

@@ -22,8 +22,8 @@ use crate::rows;
 use constraint::FIRST_COLOURED;
 use constraint::LAST_COLOUR;
 use constraint::LAST_KIND;
-use constraint::LAST_TIME;
 use machine::parts::smaller;
+use monitor::Monitor;
 use questions::NO_EVENT;
 use questions::NO_STREAM;
 use questions::place_in;
@@ -38,6 +38,9 @@ ghost use Rattle.row.specs.Machine.{tickAt};
 ghost use Rattle.lent.specs.Layout.{Lent, wordsOf, Shaped};
 ghost use Rattle.constraint.specs.Streams.{stream};
 ghost use Rattle.lent.specs.Steps.{Turns, Gives, ColourKnown, roomFound, passed, begun, Asks, OnStream, refusalOf, Stores};
+
+// How many wait in a row at most, as a word.
+const WAITING_LIMIT: u64 = Monitor::WAITING_LIMIT as u64;
 
 // The rows to which the clock goes, where one may be overdue: they see nothing else of the step yet.
 fn pass(m: &mut Words, time: u64)
@@ -74,7 +77,7 @@ fn room_found(m: &Words) -> u64
     ensures { λ r. ⌜ ((h : Lent) → now (m .entry) ≡ wordsOf h → Shaped h → r ≡ roomFound h) ⌝ }
 {
     if m[NUMBERS][0][COUNT] % 32 == 0 {
-        return smaller(1, minus(64, rows::fullest(m, held(m))));
+        return smaller(1, minus(WAITING_LIMIT, rows::fullest(m, held(m))));
     }
     0
 }
@@ -185,7 +188,7 @@ fn tick_refusal(m: &Words, time: u64) -> u8
     if 0 < first {
         return first;
     }
-    if LAST_TIME < time {
+    if Monitor::LAST_TIME < time {
         return 10;
     }
     if time <= m[NUMBERS][0][CLOCK] {

@@ -14,8 +14,8 @@ use crate::ROOM;
 use crate::SOONEST;
 use crate::THEN;
 use crate::Words;
-use constraint::LAST_COUNT;
 use machine::parts::plus;
+use monitor::Monitor;
 use queue::minus;
 ghost use Prim.Native.Nat.{_<_};
 ghost use mathlib.Core.Path.{_≡_};
@@ -56,7 +56,7 @@ pub(crate) fn first_refusal(m: &Words) -> u8
     if m[NUMBERS][0][OPEN] == 0 {
         return 8;
     }
-    if LAST_COUNT <= m[NUMBERS][0][COUNT] {
+    if Monitor::LAST_COUNT <= m[NUMBERS][0][COUNT] {
         return 24;
     }
     0

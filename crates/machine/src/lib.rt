@@ -8,7 +8,7 @@ pub mod words;
 // The constraint's fields as numbers. A field that a type does not have is 0; a kind that it does not have is 64.
 #[repr(C)]
 pub struct Rule {
-    // the type, 1 to 10
+    // the number of its type
     pub form: u64,
     // source, event, start, stimulus or first kind
     pub first: u64,

@@ -3,21 +3,19 @@ use Prim.Native.Nat.{ℕ, _-_, _≤_, _<_, min, max}
 use mathlib.Core.Path.{_≡_}
 use mathlib.Core.Bool.{Bool, true, false, cond, _&&_}
 use mathlib.Core.List.{List}
-use lib.ListN.{length}
 use lib.Dec.{leb, eqb}
 use Rattle.constraint.specs.Limits.{firstColoured, lastTime, noLimit}
 use Rattle.constraint.specs.Steps.{Step, times, clock}
 use Rattle.constraint.specs.Questions.{Judged}
 use Rattle.constraint.specs.Recording.{ReadsInOrder, recording-of, recording-refused}
-use Rattle.constraint.specs.Records.{tableOf}
 use Rattle.constraint.specs.Stamps.{ReadsStamps, RepeatRow, stampsQuestions}
 use Rattle.constraint.specs.declared.Answer.the-variants.{Refused}
 use Rattle.constraint.specs.declared.Call.{Call}
 use Rattle.constraint.specs.declared.Constraint.{Constraint}
 use Rattle.constraint.specs.declared.StampedVerdict.{StampedVerdict}
-use Rattle.constraint.specs.declared.Table.{Table}
 use Rattle.machine.specs.Parts.{plus}
 use Rattle.points.specs.Sporadic.{stride}
+use Rattle.table.specs.Scan.{RowIs}
 use Rattle.stamps.specs.declared.Asked.{Asked}
 use Rattle.stamps.specs.declared.Passed.{Passed}
 use Rattle.stamps.specs.declared.RowAsked.{RowAsked}
@@ -85,8 +83,6 @@ pub record PassesStamps (bytes : List ℕ) (a : Asked) (r : Passed) : Type 0 whe
       (r .verdict))
 
 -- a row that is asked for: 15 and 25, else its fields
-pub record Finds (table : Table) (i : ℕ) (r : RowAsked) : Type 0 where
-  pub refused : 0 < r .number → (rows : List Constraint) → table ≡ tableOf rows → length rows ≤ 32
-      → (e : ℕ) → Judged (stampsQuestions rows i e) (Refused (r .number))
-  pub found : r .number ≡ 0 → (rows : List Constraint) → table ≡ tableOf rows → length rows ≤ 32
-      → RepeatRow rows i (r .event) (r .lower) (r .upper)
+pub record Finds (count i : ℕ) (c : Constraint) (r : RowAsked) : Type 0 where
+  pub refused : 0 < r .number → (rows : List Constraint) → RowIs count i c rows → (e : ℕ) → Judged (stampsQuestions rows i e) (Refused (r .number))
+  pub found : r .number ≡ 0 → (rows : List Constraint) → RowIs count i c rows → RepeatRow rows i (r .event) (r .lower) (r .upper)

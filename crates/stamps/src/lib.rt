@@ -1,16 +1,17 @@
 // Stamps known within a range: whether a Repeat row of span 1 is kept for each choice of true times, for none, or for some.
 use clock::Clock;
 use constraint::Call;
-use constraint::LAST_TIME;
+use constraint::Constraint;
 use constraint::NO_LIMIT;
 use constraint::StampedAnswer;
 use constraint::StampedVerdict;
-use constraint::Table;
 use machine::parts::larger;
 use machine::parts::plus;
 use machine::parts::smaller;
+use monitor::Monitor;
 use queue::minus;
 use table::ReadAnswer;
+use table::scan;
 ghost use mathlib.Core.Path.{_≡_};
 ghost use mathlib.Core.Bool.{_&&_};
 ghost use lib.Dec.{leb};
@@ -285,19 +286,13 @@ fn no_row(number: u8) -> RowAsked
     }
 }
 
-// A row of a table: questions 15 and 25.
-fn row_of(table: Table, row: u64) -> RowAsked
-    ensures { λ r. ⌜ Finds table row r ⌝ }
+// The row of a number in a table of so many rows: questions 15 and 25.
+fn row_of(count: usize, row: u64, constraint: Constraint) -> RowAsked
+    ensures { λ r. ⌜ Finds count row constraint r ⌝ }
 {
-    if 32 <= row {
+    if count as u64 <= row {
         return no_row(15);
     }
-    if table.count as u64 <= row {
-        return no_row(15);
-    }
-    let i = row as usize;
-    let entry = table.rows[i];
-    let constraint = entry.constraint;
     let fields = constraint.fields();
     let line = fields.line;
     let bytes = fields.bytes;
@@ -320,12 +315,14 @@ fn row_of(table: Table, row: u64) -> RowAsked
 pub fn read(newest: u8, table: &[u8], recording: &[u8], row: u64, late: u64) -> StampedAnswer
     ensures { λ r. ⌜ AnswersStampsUpTo newest (now (table .entry)) (now (recording .entry)) row late r ⌝ }
 {
-    let reading = table::read(newest, table);
-    let answer = reading.answer;
+    let numbered = scan::row_numbered(newest, table, row);
+    let scanned = numbered.scan;
+    let answer = scanned.answer;
     if let ReadAnswer::Refused { number, place } = answer {
         return StampedAnswer::Refused { number, place };
     }
-    let found = row_of(reading.table, row);
+    let constraint = numbered.row;
+    let found = row_of(scanned.rows, row, constraint);
     let asked = Asked {
         event: found.event,
         lower: found.lower,
@@ -345,7 +342,7 @@ pub fn read(newest: u8, table: &[u8], recording: &[u8], row: u64, late: u64) -> 
             place: 0,
         };
     }
-    if LAST_TIME < late {
+    if Monitor::LAST_TIME < late {
         return StampedAnswer::Refused {
             number: 10,
             place: 0,

@@ -97,7 +97,8 @@ module _ {c : Constraint} {steps : List Step} where
       absurd (omega (arith, each′ (e + 1) (omega arith) (omega arith) .0 (each (e + 1) (omega arith) (omega arith))))
   while-open-once d e (endless each) (endless each′) = refl
 
-  deadline-once : (d e : ℕ) → Deadline c steps d → Deadline c steps e → d ≡ e
+  -- §15.7: a row has one deadline
+  pub deadline-once : (d e : ℕ) → Deadline c steps d → Deadline c steps e → d ≡ e
   deadline-once d e (running o is w) (running o′ is′ w′) = while-open-once d e w w′
   deadline-once d e (running o is w) (over (inl shut)) = both (sym shut ∙ o)
   deadline-once d e (running o is w) (over (inr broken)) = absurd (broken is)

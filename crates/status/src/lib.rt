@@ -1,8 +1,8 @@
 // What a host asks of a monitor while it runs, by the numbers that the monitor keeps.
 pub mod host;
 
-use constraint::LAST_TIME;
 use constraint::NO_LIMIT;
+use monitor::Monitor;
 ghost use mathlib.Core.Path.{_≡_};
 ghost use Rattle.machine.specs.Rule.{waitsIn};
 ghost use Rattle.status.specs.Numbers.{deadlineBy, waitingBy};
@@ -17,7 +17,7 @@ pub fn deadline_by(closed: u64, broken: u64, due: u64) -> u64
     if 0 < broken {
         return NO_LIMIT;
     }
-    if due < LAST_TIME {
+    if due < Monitor::LAST_TIME {
         return due;
     }
     NO_LIMIT

@@ -7,14 +7,14 @@ use lib.ListN.{length, take, drop, getD, set}
 use lib.Dec.{eqb, leb}
 use Rattle.constraint.specs.Limits.{streamCount}
 use Rattle.constraint.specs.Steps.{Step, event, tick, close, at}
-use Rattle.constraint.specs.Records.{Decides, tableOf}
+use Rattle.constraint.specs.Records.{Decides}
 use Rattle.constraint.specs.Accepted.{Accepted}
 use Rattle.constraint.specs.Recording.{ReadsInOrder, recording-of, recording-refused}
 use Rattle.constraint.specs.declared.Constraint.{Constraint}
-use Rattle.constraint.specs.declared.Table.{Table}
 use Rattle.row.specs.Machine.{eventAt, tickAt}
 use Rattle.row.specs.declared.Occurrence.{Occurrence}
 use Rattle.constraint.specs.Stretches.{TakesEach, Breaks, stretchOf, stretches, Some, FirstAt, Breaking, Stretch, recordLimit, AnswersRow}
+use Rattle.table.specs.Scan.{RowIs}
 use Rattle.stretch.specs.declared.Gathered.{Gathered}
 use Rattle.stretch.specs.declared.Found.{Found}
 use Rattle.constraint.specs.declared.StretchAnswer.{StretchAnswer}
@@ -75,8 +75,8 @@ Tries c steps (StretchAnswer.Refused n place) = (n ≡ 23) × (place ≡ 0) × (
 abbrev pub TriesAll : Constraint → List ℕ → List ℕ → ℕ → StretchAnswer → Type 0
 TriesAll c streams times count answer = (steps : List Step) → RunOf steps streams times count → Accepted (c ∷ []) → Tries c steps answer
 
--- and in a row of a table record
-abbrev pub Asks : Table → ℕ → List ℕ → List ℕ → ℕ → StretchAnswer → Type 0
-Asks table i streams times count answer =
-    (rows : List Constraint) (steps : List Step) → table ≡ tableOf rows → Accepted rows → RunOf steps streams times count
+-- and in the row of number i of a table
+abbrev pub Asks : ℕ → ℕ → Constraint → List ℕ → List ℕ → ℕ → StretchAnswer → Type 0
+Asks rowCount i c streams times count answer =
+    (rows : List Constraint) (steps : List Step) → RowIs rowCount i c rows → Accepted rows → RunOf steps streams times count
     → AnswersRow rows steps i answer

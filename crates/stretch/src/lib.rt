@@ -3,7 +3,6 @@
 use clock::Clock;
 use constraint::Constraint;
 use constraint::StretchAnswer;
-use constraint::Table;
 use machine::parts::kind_of;
 use machine::words::BROKEN;
 use questions::NO_EVENT;
@@ -12,6 +11,7 @@ use queue::SIZE;
 use row::Occurrence;
 use row::stored;
 use table::ReadAnswer;
+use table::scan;
 ghost use mathlib.Core.Path.{_≡_};
 ghost use Prim.Native.Nat.{ℕ, _≤_, _<_};
 ghost use lib.ListN.{length, getD};
@@ -209,32 +209,24 @@ fn try_row(
     }
 }
 
-// The answer of a row of a table: question 15 first.
+// The answer of the row of a number in a table of so many rows: question 15 first.
 fn ask_row(
-    table: Table,
+    rows: usize,
     row: u64,
+    constraint: Constraint,
     streams: &[u64; 256],
     times: &[u64; 256],
     count: usize,
 ) -> StretchAnswer
     requires { ⌜ count ≤ 256 ⌝ }
-    ensures { λ r. ⌜ Asks table row (now (streams .entry)) (now (times .entry)) count r ⌝ }
+    ensures { λ r. ⌜ Asks rows row constraint (now (streams .entry)) (now (times .entry)) count r ⌝ }
 {
-    if 32 <= row {
+    if rows as u64 <= row {
         return StretchAnswer::Refused {
             number: 15,
             place: 0,
         };
     }
-    if table.count as u64 <= row {
-        return StretchAnswer::Refused {
-            number: 15,
-            place: 0,
-        };
-    }
-    let i = row as usize;
-    let entry = table.rows[i];
-    let constraint = entry.constraint;
     try_row(constraint, streams, times, count)
 }
 
@@ -243,8 +235,9 @@ fn ask_row(
 pub fn shortest(newest: u8, table: &[u8], recording: &[u8], row: u64) -> StretchAnswer
     ensures { λ r. ⌜ AnswersStretchUpTo newest (now (table .entry)) (now (recording .entry)) row r ⌝ }
 {
-    let reading = table::read(newest, table);
-    let answer = reading.answer;
+    let numbered = scan::row_numbered(newest, table, row);
+    let scanned = numbered.scan;
+    let answer = scanned.answer;
     if let ReadAnswer::Refused { number, place } = answer {
         return StretchAnswer::Refused { number, place };
     }
@@ -264,6 +257,6 @@ pub fn shortest(newest: u8, table: &[u8], recording: &[u8], row: u64) -> Stretch
             place: 0,
         };
     }
-    let rows = reading.table;
-    ask_row(rows, row, &streams, &times, count)
+    let constraint = numbered.row;
+    ask_row(scanned.rows, row, constraint, &streams, &times, count)
 }

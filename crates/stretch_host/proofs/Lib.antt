@@ -1,2 +1,3 @@
 mod StretchNumbers
+pub mod Decoded
 pub mod Editions

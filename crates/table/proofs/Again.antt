@@ -2,8 +2,8 @@
 -- to the same rows.
 use Rattle.table.proofs.Names.{AcceptedIn, Bytes, Constraint, Judged, List, Question, RawRows, ReadAnswer, Reading, ReadsInto, ReadsTableUpTo}
 use Rattle.table.proofs.Names.{Refused, Table, Taken, WriteAnswer, Writes, WritesRaw, [], _*_, _++_, _+_, _<_, _∙_, _∷_, _≡_, _≤_, all-read}
-use Rattle.table.proofs.Names.{ap, arith, at, drop, judged-later, judged-none, judged-once, judged-parts, judged-yes, length, never, rawSize}
-use Rattle.table.proofs.Names.{readAs, refl, rows-then, rowsOf, rowsQuestions, stopped-at, subst, sym, table-of, tableBytesIn, take}
+use Rattle.table.proofs.Names.{ap, arith, at, drop, judged-later, judged-none, judged-once, judged-parts, judged-yes, lastType, length, never}
+use Rattle.table.proofs.Names.{rawSize, readAs, refl, rows-then, rowsOf, rowsQuestions, stopped-at, subst, sym, table-of, tableBytesIn, take}
 use Rattle.table.proofs.Names.{take-append-seam, writerQuestions, ℕ}
 use Rattle.table.proofs.{AcceptedRows.read-accepted, Answers.reads-as, Once.reads-once, RoundTrip.read-then-write, RoundTrip.write-then-read}
 
@@ -45,7 +45,7 @@ read-write bytes before after r w all into e long writes =
     rows-write bytes before after (rowsOf (r .table)) w all (reads-as bytes r ReadAnswer.Accepted e into) long writes
 
 -- written in an edition that the reader takes, then read: the bytes say the same rows
-module _ (newest edition : ℕ) (some : 1 ≤ edition) (known : edition ≤ newest) where
+module _ (newest edition : ℕ) (some : 0 < lastType edition) (known : edition ≤ newest) where
   pub written-read : (rows : List Constraint) (before after : List ℕ) (n : ℕ) → Writes edition rows before (WriteAnswer.Written n) after
       → ReadsTableUpTo newest (take n after) (table-of rows)
   written-read rows before after n writes =

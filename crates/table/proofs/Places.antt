@@ -1,8 +1,8 @@
 -- The questions of the row at a place are put in their order, so each "no" needs the earlier ones answered "yes".
 use Rattle.table.proofs.Names.{Answer, Bytes, Constraint, Decides, Judged, List, Refused, RowAt, ShapeFits, Taken, VersionUpTo, WholeAt, []}
-use Rattle.table.proofs.Names.{_+_, _-_, _<_, _∷_, _≡_, _≤_, add-sub-cancel-left, ap, arith, at, bodyAt, constraintOf, drop, judged-all}
-use Rattle.table.proofs.Names.{judged-no, judged-once-on, judged-yes, leb, length, lengthAt, placeQuestions, rowLimit, rowQuestions, same-test}
-use Rattle.table.proofs.Names.{take, test-le, ℕ}
+use Rattle.table.proofs.Names.{_+_, _-_, _<_, _∷_, _≡_, _≤_, add-sub-cancel-left, ap, arith, at, bodyAt, constraintOf, drop, edition-above}
+use Rattle.table.proofs.Names.{judged-all, judged-no, judged-once-on, judged-yes, lastType, leb, length, lengthAt, placeQuestions, rowLimit}
+use Rattle.table.proofs.Names.{rowQuestions, same-test, take, test-le, ℕ}
 use Rattle.table.proofs.{Bodies.bytes-part, Shapes.there, Standing.row-stands, Standing.stands-once}
 
 -- a row is whole where its length is no more than what is left behind the length field
@@ -70,9 +70,11 @@ pub part-body : (bytes : List ℕ) (place size : ℕ) → size ≡ lengthAt byte
 part-body bytes place size e = rw (add-sub-cancel-left (place + 2) size, e)
 
 -- a first byte that is an edition's is there
-pub version-asked : (newest : ℕ) (bytes : List ℕ) (version : ℕ) → version ≡ at bytes 0 → ¬ (version ≡ 0)
+pub version-asked : (newest : ℕ) (bytes : List ℕ) (version : ℕ) → version ≡ at bytes 0 → 0 < lastType version
     → Decides (VersionUpTo newest bytes) (leb version newest)
 version-asked newest bytes version e some =
+    let above = edition-above version some in
+    let typed : 0 < lastType (at bytes 0) = rw (← e) some in
     let to : version ≤ newest → VersionUpTo newest bytes =
-    λ known. (there bytes 0 (omega (arith, e, some)), omega (arith, e, some), omega (arith, e, known)) in
+    λ known. (there bytes 0 (omega (arith, e, above)), omega (arith, e, above), omega (arith, e, known), typed) in
     same-test to (λ taken. omega (arith, e, taken .2)) (leb version newest) (test-le version newest)

@@ -2,12 +2,12 @@
 -- bytes is written as the table that it was.
 use Rattle.table.proofs.Names.{AcceptedIn, Bytes, Constraint, Judged, KnownAt, List, Question, RawRows, ReadsTableUpTo, Refused, ShapeFits}
 use Rattle.table.proofs.Names.{StandsFor, Taken, WriteAnswer, Writes, WritesRaw, [], _*_, _++_, _+_, _<_, _∙_, _∷_, _≡_, _≤_, add-zero}
-use Rattle.table.proofs.Names.{all-read, ap, arith, at, drop, ext-getD, filler, getD, getD-drop, getD-take, getElem?, judged-all, judged-later}
+use Rattle.table.proofs.Names.{all-read, ap, arith, at, drop, ext-getD, filler, getD, getD-drop, getD-take, judged-all, judged-later}
 use Rattle.table.proofs.Names.{judged-none, judged-once, judged-parts, judged-yes, lastType, length, length-take, length-take-le, lengthOf}
-use Rattle.table.proofs.Names.{never, rawBody, rawSize, refl, row-accepted, row-fits, rowLimit, rowQuestionsIn, rows-room, rows-then}
-use Rattle.table.proofs.Names.{rowsQuestions, some, stopped-at, subst, suc, sym, table-of, take, take-all, take-append-drop, takesCount}
-use Rattle.table.proofs.Names.{typeOf, zero, ℕ}
-use Rattle.table.proofs.{AcceptedRows.read-accepted, Again.rows-write, Standing.stands-once}
+use Rattle.table.proofs.Names.{never, rawBody, rawSize, row-accepted, row-fits, rowLimit, rowQuestionsIn, rows-room, rows-then}
+use Rattle.table.proofs.Names.{rowsQuestions, stopped-at, subst, sym, table-of, take, take-all, take-append-drop, takesCount}
+use Rattle.table.proofs.Names.{typeOf, ℕ}
+use Rattle.table.proofs.{AcceptedRows.read-accepted, Again.rows-write, Scanning.row-there, Standing.stands-once}
 
 -- ---- the rows of some raw bytes
 
@@ -59,12 +59,7 @@ module _ (edition : ℕ) (raw : List ℕ) (i : ℕ) (c : Constraint) (typed : ty
 -- a row of an accepted table has a type of the edition
 row-typed : (edition : ℕ) (rows : List Constraint) → AcceptedIn edition rows → (i : ℕ) → i < length rows
     → typeOf (getD rows i filler) ≤ lastType edition
-row-typed edition rows accepted i there = judged-all 4 _ _ (row-accepted edition 0 rows accepted i _ (is rows i there)) .0
-  where
-    is : (rows : List Constraint) (i : ℕ) → i < length rows → getElem? rows i ≡ some (getD rows i filler)
-    is [] i there = absurd (omega arith)
-    is (c ∷ rows) zero there = refl
-    is (c ∷ rows) (suc i) there = is rows i (omega arith)
+row-typed edition rows accepted i there = judged-all 4 _ _ (row-accepted edition 0 rows accepted i _ (row-there rows i filler there)) .0
 
 module _ {newest : ℕ} (raw bytes before : List ℕ) (rows : List Constraint) (each : Bytes bytes)
     (reads : ReadsTableUpTo newest bytes (table-of rows)) (given : RawRows raw rows) (end : length raw < (length rows + 1) * rawSize)

@@ -2,10 +2,10 @@
 use Rattle.table.proofs.Names.{AcceptedIn, Bytes, Constraint, InRange, Judged, KindsFit, KindsSuit, List, ReadsRows, ReadsTableUpTo, RowAt}
 use Rattle.table.proofs.Names.{StandsFor, TableRead, Taken, WholeAt, [], _++_, _+_, _<_, _∙_, _∷_, _≡_, _≤_, ap, append-assoc, ap₂, arith, at}
 use Rattle.table.proofs.Names.{bodyAt, bytes-length, bytesAt, bytesOf, drop, drop-append-seam, drop-at, drop-cons, drop-drop}
-use Rattle.table.proofs.Names.{drop-of-length-le, fieldsOf, judged-all, judged-parts, kinds, lastType, length, length-append, length-drop}
-use Rattle.table.proofs.Names.{length-take-le, lengthAt, no-more, number-of-bytes, placeQuestions, row-fits, row-refused, row-taken, rowBody}
-use Rattle.table.proofs.Names.{rowBytes, rowLimit, rowQuestions, rowThen, rowsBytes, rowsQuestions, subst₂, sym, table-of, table-refused}
-use Rattle.table.proofs.Names.{tableBytesIn, take-append-drop, take-append-seam, take-at, typeOf, version-taken, ℕ}
+use Rattle.table.proofs.Names.{drop-of-length-le, edition-above, fieldsOf, judged-all, judged-parts, kinds, lastType, length, length-append}
+use Rattle.table.proofs.Names.{length-drop, length-take-le, lengthAt, no-more, number-of-bytes, placeQuestions, row-fits, row-refused}
+use Rattle.table.proofs.Names.{row-taken, rowBody, rowBytes, rowLimit, rowQuestions, rowThen, rowsBytes, rowsQuestions, subst₂, sym, table-of}
+use Rattle.table.proofs.Names.{table-refused, tableBytesIn, take-append-drop, take-append-seam, take-at, typeOf, version-taken, ℕ}
 use Rattle.table.proofs.{Bodies.number-back, Bodies.range-fits, Bodies.row-length, Places.place-row, Places.place-taken, Standing.body-short}
 
 -- From bytes to rows and back
@@ -117,7 +117,8 @@ rows-read edition before i (c ∷ rows) judged =
     (row-there edition before c after (parts .0)) (row-read edition before c after i (room .0) (known .0) (parts .0)) later
 
 -- what is written in an edition that the reader takes is read back
-pub write-then-read : (newest edition : ℕ) (rows : List Constraint) → 1 ≤ edition → edition ≤ newest → AcceptedIn edition rows
+pub write-then-read : (newest edition : ℕ) (rows : List Constraint) → 0 < lastType edition → edition ≤ newest → AcceptedIn edition rows
     → ReadsTableUpTo newest (tableBytesIn edition rows) (table-of rows)
 unfolding tableBytesIn
-write-then-read newest edition rows some known accepted = version-taken (omega arith, some, known) (rows-read edition (edition ∷ []) 0 rows accepted)
+write-then-read newest edition rows some known accepted =
+    version-taken (omega arith, edition-above edition some, known, some) (rows-read edition (edition ∷ []) 0 rows accepted)

@@ -8,7 +8,7 @@ use super::reader::whole_at;
 use constraint::Constraint;
 ghost use Prim.Native.Nat.{_<_};
 ghost use lib.ListN.{length};
-ghost use Rattle.table.specs.Scan.{CountsRows, Scans, PlacedAt};
+ghost use Rattle.table.specs.Scan.{CountsRows, Scans, PlacedAt, RowBehind, FindsRow};
 
 // The answer to a table's bytes, and how many rows they hold; after a refusal none.
 pub struct Scan {
@@ -20,6 +20,12 @@ pub struct Scan {
 pub struct Placed {
     pub row: Constraint,
     pub next: usize,
+}
+
+// What a table's bytes hold, and the row of one number; the row of an empty entry where the table has no such row.
+pub struct Numbered {
+    pub scan: Scan,
+    pub row: Constraint,
 }
 
 // The rows of an edition behind the version byte, judged and counted.
@@ -75,4 +81,35 @@ pub fn row_at(bytes: &[u8], place: usize) -> Placed
     let next = start + number::two_at(bytes, place);
     let row = row_of(&bytes[start..next]);
     Placed { row, next }
+}
+
+// The row behind i others of an accepted table.
+fn row_behind(bytes: &[u8], i: usize) -> Constraint
+    ensures { λ r. ⌜ RowBehind (now (bytes .entry)) i r ⌝ }
+{
+    let mut place = 1;
+    let mut k = 0;
+    while k < i {
+        let placed = row_at(bytes, place);
+        place = placed.next;
+        k += 1;
+    }
+    let found = row_at(bytes, place);
+    found.row
+}
+
+// Judges the bytes of a table of an edition up to the newest, and finds the row of a number in it.
+pub fn row_numbered(newest: u8, bytes: &[u8], i: u64) -> Numbered
+    ensures { λ r. ⌜ FindsRow newest (now (bytes .entry)) i r ⌝ }
+{
+    let scan = judge(newest, bytes);
+    if scan.rows as u64 <= i {
+        let row = Constraint::Order {
+            source: 0,
+            target: 0,
+        };
+        return Numbered { scan, row };
+    }
+    let row = row_behind(bytes, i as usize);
+    Numbered { scan, row }
 }

@@ -1,7 +1,9 @@
 //! The header and the archive in C and C++: hosts compiled at -O0 and -O2, run, and run under valgrind.
 //! Clauses: §3.4, §3.5, §9.7, §9.8, §11.1 to §11.6.
 
-use checks::hosts::{Host, Ran, c_host, c_host_alone, c_host_with_header, compile_with, cpp_host, cpp17_host, found};
+use checks::hosts::{
+    Host, Ran, c_compiler, c_host, c_host_alone, c_host_with_header, compile_with, cpp_host, cpp17_host, found,
+};
 use checks::places::{Folder, archive_folder, example, example_bytes, root};
 use checks::rows::numbers_of;
 use delkuthi::Monitor;
@@ -39,9 +41,9 @@ impl Files {
     }
 }
 
-/// What the bench loop is to do with the steps of a recording, by the model: where the next comes more than one past the
-/// deadline a tick comes first, and each row is said when it breaks.
-fn bench(rows: &[Constraint], steps: &[Step]) -> Ran {
+/// What the bench loop is to do with the steps of a recording, by the model. A step arrives `late` after its stamp. If the clock
+/// passes the deadline by more than `lag` before the next step arrives, a tick comes first. Each row is printed when it breaks.
+fn bench_with(rows: &[Constraint], steps: &[Step], lag: u64, late: u64) -> Ran {
     let mut monitor = model::Monitor::fresh(rows).expect("an accepted table");
     let (mut printed, mut broken) = (String::new(), 0);
     for step in steps.iter().chain([&Step::Close]) {
@@ -50,7 +52,7 @@ fn bench(rows: &[Constraint], steps: &[Step]) -> Ran {
             say(&monitor, &mut broken, &mut printed);
             break;
         };
-        while monitor.deadline() != NO_LIMIT && monitor.deadline() + 1 < time {
+        while monitor.deadline() != NO_LIMIT && monitor.deadline() + 1 + lag < time.saturating_add(late) {
             monitor.tick(monitor.deadline() + 1).expect("a tick after the clock");
             say(&monitor, &mut broken, &mut printed);
         }
@@ -60,6 +62,11 @@ fn bench(rows: &[Constraint], steps: &[Step]) -> Ran {
         say(&monitor, &mut broken, &mut printed);
     }
     if broken == 0 { Ran::new(0, &format!("{printed}every row kept\n")) } else { Ran::new(1, &printed) }
+}
+
+/// The same if every step arrives at once.
+fn bench(rows: &[Constraint], steps: &[Step]) -> Ran {
+    bench_with(rows, steps, 0, 0)
 }
 
 /// The lines for the rows that are broken now and were not.
@@ -143,6 +150,54 @@ fn the_bench_loop_says_each_row_as_it_breaks() {
             let bytes = refused_recording(&mut random, &rows, 40);
             let ran = host.run(&Files::new(&table_bytes(&rows), &bytes).paths);
             assert_eq!(ran, bench(&rows, &steps_of(&bytes)), "{rows:?}, {bytes:02x?}");
+        }
+    }
+}
+
+/// The bench loops in C, C++ and Rust.
+fn bench_loops() -> [Host; 3] {
+    let rust = Host::at(env!("CARGO_BIN_EXE_bench_loop"));
+    [c_host("bench_loop", "-O2"), cpp17_host("bench_loop.cpp"), rust]
+}
+
+/// The arguments of a bench loop.
+fn with_delays(files: &Files, lag: u64, late: u64) -> Vec<PathBuf> {
+    files.paths.iter().cloned().chain([lag, late].map(|time| time.to_string().into())).collect()
+}
+
+/// An answer that is stamped in time and arrives 3 later: a loop that ticks as soon as its clock passes the deadline breaks the row and
+/// then has to refuse the answer. With a lag of 3 the row is kept.
+#[test]
+fn an_event_that_arrives_late() {
+    let rows = [Constraint::Delay(Delay { source: 0, target: 1, lower: 0, upper: 50 })];
+    let steps = model::notation::steps("0@100, 1@149");
+    let files = Files::new(&table_bytes(&rows), &recording_bytes(&steps));
+    for host in bench_loops() {
+        let run = |lag, late| host.run(&with_delays(&files, lag, late));
+        assert_eq!(run(0, 0), Ran::new(0, "every row kept\n"));
+        assert_eq!(run(0, 3), Ran::new(2, "151: row 0 broken\nstep refused with 11\n"));
+        assert_eq!(run(3, 3), Ran::new(0, "every row kept\n"));
+        assert_eq!(host.run(&["a", "b", "c", "d", "e"]).status, Some(4));
+        assert_eq!(host.run(&[&files.paths[0], &files.paths[1], &"x".into()]).status, Some(4));
+    }
+}
+
+/// With a lag that is not less than the delay no step is refused that is taken without delay, and every row ends the same.
+#[test]
+fn a_lag_as_long_as_the_delay() {
+    let mut random = Random::new(410);
+    let hosts = bench_loops();
+    for turn in 0..60 {
+        let number = random.place(8);
+        let rows = table(&mut random, number);
+        let steps = steps_of(&recording(&mut random, &rows, 40));
+        let files = Files::new(&table_bytes(&rows), &recording_bytes(&steps));
+        let (lag, late) = (random.below(30), random.below(30));
+        let expected = bench_with(&rows, &steps, lag, late);
+        let ran = hosts[turn % 3].run(&with_delays(&files, lag, late));
+        assert_eq!(ran, expected, "{rows:?}, {steps:?}, lag {lag}, late {late}");
+        if late <= lag {
+            assert_eq!(ran.status, bench(&rows, &steps).status, "{rows:?}, {steps:?}, lag {lag}, late {late}");
         }
     }
 }
@@ -343,13 +398,16 @@ fn the_archive_and_the_header_match() {
     assert_eq!(longer, Ran::new(1, &of_header(version, size + 8)));
 }
 
-/// No call uses more of the stack than the header says.
+/// No call uses more than nine tenths of the stack that the header names. The host is linked as the header asks.
 #[test]
 fn the_stack() {
-    let host = c_host("stack", "-O2");
+    let link = [archive_folder().join("libdelkuthi.a").into(), "-Wl,-z,now".into()];
+    let mut compiler = c_compiler();
+    let host = compile_with(compiler.arg("-O2"), &["stack.c", "file.c"], &root().join("include"), &link);
     let rows = table(&mut Random::new(405), 32);
     let files = Files::new(&table_bytes(&rows), &recording(&mut Random::new(406), &rows, 100));
-    let ran = host.run(&files.paths);
+    let drive = [example("table.bin"), example("recording.bin")];
+    let ran = host.run(&files.paths.iter().chain(&drive).collect::<Vec<&PathBuf>>());
     println!("bytes of stack:\n{}", ran.printed);
     assert_eq!((ran.status, ran.printed.lines().count()), (Some(0), 14));
 }

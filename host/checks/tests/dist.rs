@@ -9,28 +9,39 @@ use std::path::{Path, PathBuf};
 use std::process::Command;
 use std::sync::OnceLock;
 
-/// What the gate keeps of a run.
+/// What the gate keeps of a run that passed.
 const GATE: &str = "12 passed, 0 failed\n3 minutes on 2 processors\n";
+/// What it keeps of a run on a slower machine, and of one that failed.
+const SLOWER: &str = "13 passed, 0 failed\n44 minutes on 1 processors\n";
+const FAILED: &str = "11 passed, 1 failed\n3 minutes on 2 processors\n";
 
 /// The commit, in a line.
 fn commit() -> String {
     done(Command::new("git").args(["rev-parse", "HEAD"]).current_dir(root()))
 }
 
-/// The tarball that a clone of the repository at this place gives, with what the gate said of its commit if it ran; none where the
-/// sources are in no repository.
-fn tarball(clone: &Path, gate: Option<&str>) -> Option<PathBuf> {
+/// Clones the repository to this place, with what the gate said of its commit if it ran. Returns false if the sources are in no
+/// repository.
+fn cloned(clone: &Path, gate: Option<&str>) -> bool {
     if !root().join(".git").exists() {
         say("the sources are in no git repository: no release was made");
-        return None;
+        return false;
     }
     done(Command::new("git").arg("clone").arg("--quiet").arg(root()).arg(clone));
     if let Some(text) = gate {
         fs::create_dir(clone.join("target")).expect("a folder");
         fs::write(clone.join("target/gate"), format!("{}{text}", commit())).expect("a file");
     }
-    done(make_in(clone).arg("dist"));
-    Some(clone.join(format!("build/{}.tar.gz", release_name())))
+    true
+}
+
+/// The tarball that a clone of the repository at this place gives, with what the gate said of its commit; none if the sources are in
+/// no repository.
+fn tarball(clone: &Path, gate: &str) -> Option<PathBuf> {
+    cloned(clone, Some(gate)).then(|| {
+        done(make_in(clone).arg("dist"));
+        clone.join(format!("build/{}.tar.gz", release_name()))
+    })
 }
 
 fn release_name() -> String {
@@ -43,21 +54,76 @@ fn release() -> Option<&'static Path> {
     let made = || {
         let folder = Path::new(env!("OUT_DIR")).join("release");
         let _ = fs::remove_dir_all(&folder);
-        let packed = tarball(&folder.join("clone"), Some(GATE))?;
+        let packed = tarball(&folder.join("clone"), GATE)?;
         done(Command::new("tar").arg("-xzf").arg(packed).arg("-C").arg(&folder));
         Some(folder.join(release_name()))
     };
     RELEASE.get_or_init(made).as_deref()
 }
 
+/// Two releases of one commit are the same to the byte, also if one gate took longer. What the gate said is beside the tarball.
 #[test]
 fn two_releases_are_the_same_to_the_byte() {
     let (one, other) = (Folder::new(), Folder::new());
-    let places = [one.path().join("a"), other.path().join("another-folder/below")];
-    let [Some(first), Some(second)] = places.map(|place| tarball(&place, None)) else { return };
-    assert!(fs::read(&first).expect("a tarball") == fs::read(second).expect("a tarball"));
-    let manifest = text_of(&first.with_file_name(release_name()).join("MANIFEST.md"));
-    assert!(manifest.contains("| gate, last line | not run on this commit"), "{manifest}");
+    let first = tarball(&one.path().join("a"), GATE);
+    let second = tarball(&other.path().join("another-folder/below"), SLOWER);
+    let (Some(first), Some(second)) = (first, second) else { return };
+    assert!(fs::read(&first).expect("a tarball") == fs::read(&second).expect("a tarball"));
+    for (packed, line, time) in
+        [(first, "12 passed, 0 failed", "3 minutes on 2"), (second, "13 passed, 0 failed", "44 minutes on 1")]
+    {
+        let said = text_of(&packed.with_file_name(format!("{}.gate.txt", release_name())));
+        let expected =
+            format!("commit: {}gate, last line: {line}\ngate, time: {time} processors\n", commit());
+        assert_eq!(said, expected);
+        let manifest = text_of(&packed.with_file_name(release_name()).join("MANIFEST.md"));
+        assert!(manifest.starts_with("The gate passed on this commit.\n"), "{manifest}");
+    }
+}
+
+/// A gate that failed, that was not run, or that ran on another commit makes no release. By the option the release is made, and the first
+/// line of its manifest says so.
+#[test]
+fn no_release_without_a_gate_that_passed() {
+    let folder = Folder::new();
+    let clone = folder.path().join("clone");
+    if !cloned(&clone, Some(FAILED)) {
+        return;
+    }
+    let refused = |said: &str| {
+        let output = make_in(&clone).arg("dist").output().expect("make can be run");
+        let text = String::from_utf8_lossy(&output.stderr).into_owned();
+        assert!(!output.status.success() && text.contains(said) && text.contains("UNCHECKED=yes"), "{text}");
+        assert!(!clone.join("build").join(format!("{}.tar.gz", release_name())).exists());
+    };
+    refused("11 passed, 1 failed");
+    fs::write(clone.join("target/gate"), format!("{}\n{GATE}", "0".repeat(40))).expect("a file");
+    refused("not run on this commit");
+    fs::remove_file(clone.join("target/gate")).expect("a file");
+    refused("not run on this commit");
+    done(make_in(&clone).args(["dist", "UNCHECKED=yes"]));
+    let manifest = text_of(&clone.join("build").join(release_name()).join("MANIFEST.md"));
+    assert!(manifest.starts_with("**NOT CHECKED: "), "{manifest}");
+}
+
+/// The sources of the release are in no repository. The check of their text passes there, and their gate names what is missing.
+#[test]
+fn the_gate_of_the_release_needs_no_git() {
+    let Some(release) = release() else { return };
+    let without = Folder::new();
+    let path = path_without("git", &without);
+    // outside of this repository, as a buyer unpacks it
+    let folder = Folder::new();
+    done(Command::new("cp").arg("-r").arg(release.join("source")).arg(folder.path()));
+    let sources = folder.path().join("source");
+    let said = done(Command::new("python3").arg("release/text-check.py").current_dir(&sources).env("PATH", &path));
+    assert!(said.ends_with("0 lines above\n"), "{said}");
+    let mut gate = Command::new("bash");
+    gate.arg(".ci/run").current_dir(&sources).env("PATH", path).env("DELKUTHI_LIB", folder.path());
+    let output = gate.output().expect("bash can be run");
+    let text = String::from_utf8_lossy(&output.stdout).into_owned();
+    assert!(text.contains("libdelkuthi.a (DELKUTHI_LIB has to name") && text.ends_with("\n0 passed, 1 failed\n"), "{text}");
+    assert_eq!(output.status.code(), Some(2));
 }
 
 #[test]
@@ -95,10 +161,7 @@ fn the_manifest() {
     );
     let identity = text.split(kit).nth(1).expect("the kit").split('`').next().expect("its end");
     assert_eq!(identity.len(), 64);
-    assert!(
-        text.contains("| gate, last line | 12 passed, 0 failed |\n| gate, time | 3 minutes on 2 processors |\n"),
-        "{text}"
-    );
+    assert!(!text.contains("12 passed") && !text.contains("3 minutes on"), "{text}");
     let functions: Vec<Vec<&str>> = text
         .lines()
         .filter(|line| line.starts_with("| `") && line.contains("crates/"))

@@ -42,7 +42,7 @@ fn copies() -> [Installed; 2] {
 }
 
 /// What is installed beside the headers and the files of the shared library.
-const INSTALLED: [&str; 21] = [
+const INSTALLED: [&str; 22] = [
     "bin/delkuthi",
     "lib/cmake/delkuthi/delkuthi-config-version.cmake",
     "lib/cmake/delkuthi/delkuthi-config.cmake",
@@ -53,6 +53,7 @@ const INSTALLED: [&str; 21] = [
     "share/doc/delkuthi/CONTRACT.md",
     "share/doc/delkuthi/DATASHEET.md",
     "share/doc/delkuthi/LICENSE",
+    "share/doc/delkuthi/MISRA.md",
     "share/doc/delkuthi/NOTICE",
     "share/doc/delkuthi/SAFETY.md",
     "share/doc/delkuthi/TRACE.md",
@@ -78,7 +79,7 @@ fn what_is_installed_and_taken_away_again() {
         expected.sort();
         assert_eq!(copy.files(), expected);
         copy.uninstall();
-        assert_eq!(copy.files(), Vec::<String>::new());
+        assert!(!copy.at.exists(), "a folder is left in {}", copy.at.display());
     }
 }
 
@@ -140,6 +141,12 @@ fn a_bench_loop_in_python() {
     let said = ran(python.output());
     assert!(said.status == Some(1) && said.printed.lines().count() == 3, "{said:?}");
     assert_eq!(said, checks::hosts::c_host("bench_loop", "-O2").run(&drive_files()));
+    for (lag, status, lines) in [("3000", 1, 3), ("0", 2, 2)] {
+        python = Command::new("/usr/bin/python3");
+        python.arg(root().join("host/python/bench_loop.py")).args(drive_files()).args([lag, "3000"]);
+        let said = ran(python.env("PYTHONPATH", root().join("python")).env("DELKUTHI_LIB", copy.lib()).output());
+        assert!(said.status == Some(status) && said.printed.lines().count() == lines, "lag {lag}: {said:?}");
+    }
 }
 
 /// A host in Rust that has the wrapper's folder as a copy takes the archive; neither needs the Rattle kit then.
@@ -357,6 +364,7 @@ fn what_make_says() {
     let makefile = text_of(&root().join("Makefile"));
     let targets = makefile.lines().find_map(|line| line.strip_prefix(".PHONY: ")).expect("the targets");
     let inner = ["all", "help", "always", "install-lib", "install-dev"];
+    assert!(!planned.contains("rt "), "rt is not needed for an archive that is there: {planned}");
     for target in targets.split(' ').filter(|target| !inner.contains(target)) {
         assert!(help.contains(&format!("make {target} ")), "{target} in {help}");
     }

@@ -1,9 +1,11 @@
-//! A bench loop over a recorded drive: `cargo run --example bench_loop TABLE RECORDING`.
+//! A bench loop over a recorded drive: `cargo run --example bench_loop TABLE RECORDING [LAG [LATE]]`.
 //!
-//! It gives the monitor each record as it comes, and a tick where the clock of the drive passes a deadline before the next
-//! record; and it says each row that breaks at the moment at which it breaks.
+//! It gives the monitor each record as it arrives, and a tick if the clock of the drive passes a deadline by `LAG` before
+//! the next record arrives. `LAG` is the longest time from a stamp to its arrival: a tick says that every earlier event
+//! has been given. A record arrives `LATE` after its stamp. Both are 0 if they are not given. The loop prints each row
+//! when the row breaks.
 
-use delkuthi::{Monitor, ROW_LIMIT, Refusal};
+use delkuthi::{Monitor, NO_LIMIT, ROW_LIMIT, Refusal};
 use std::process::exit;
 use std::{env, fs};
 
@@ -14,8 +16,7 @@ struct Record {
     time: u64,
 }
 
-/// The record at the start of the bytes and how many it takes, if it is whole. In version 1 there are no colours: 255 is
-/// none.
+/// The record at the start of the bytes and its size, if it is whole. Version 1 has no colours; 255 is not a colour.
 fn record(version: u8, bytes: &[u8]) -> Option<(Record, usize)> {
     let size = usize::from(*bytes.get(1)?);
     let body = bytes.get(2..2 + size).filter(|_| bytes[0] == 0 && (8..=10).contains(&size))?;
@@ -33,7 +34,7 @@ fn take(monitor: &mut Monitor, record: &Record) -> Result<(), Refusal> {
     }
 }
 
-/// Says each row that is broken now and was not; gives all that are broken now.
+/// Prints each row that has broken since; returns all that are broken now.
 fn say(monitor: &Monitor, before: u32) -> u32 {
     let now = monitor.broken_rows();
     for row in (0..ROW_LIMIT).filter(|row| (now & !before) >> row & 1 == 1) {
@@ -42,13 +43,27 @@ fn say(monitor: &Monitor, before: u32) -> u32 {
     now
 }
 
+/// Times in the drive.
+struct Delays {
+    lag: u64,
+    late: u64,
+}
+
+impl Delays {
+    /// Does the bench's clock pass a time by the lag before a record arrives?
+    fn pass(&self, until: u64, stamp: u64) -> bool {
+        let wake = until.saturating_add(self.lag);
+        wake != NO_LIMIT && stamp.saturating_add(self.late) > wake
+    }
+}
+
 /// The rows that are broken in the end, or the refusal of a step.
-fn bench(monitor: &mut Monitor, recording: &[u8]) -> Result<u32, Refusal> {
+fn bench(monitor: &mut Monitor, recording: &[u8], delays: &Delays) -> Result<u32, Refusal> {
     let (mut place, mut broken) = (1, 0);
     while place < recording.len() {
         let (next, size) = record(recording[0], &recording[place..]).unwrap_or_else(|| exit(4));
         let answer = match monitor.deadline() {
-            Some(deadline) if deadline + 1 < next.time => monitor.tick(deadline + 1),
+            Some(deadline) if delays.pass(deadline + 1, next.time) => monitor.tick(deadline + 1),
             _ => {
                 place += size;
                 take(monitor, &next)
@@ -61,12 +76,17 @@ fn bench(monitor: &mut Monitor, recording: &[u8]) -> Result<u32, Refusal> {
     Ok(say(monitor, broken))
 }
 
+/// The two files and the delays that the arguments name.
+fn arguments() -> Option<(Vec<u8>, Vec<u8>, Delays)> {
+    let words: Vec<String> = env::args().skip(1).collect();
+    let number = |place: usize| words.get(place).map_or(Some(0), |word| word.parse().ok());
+    let (table, recording) = (words.first()?, words.get(1).filter(|_| words.len() <= 4)?);
+    Some((fs::read(table).ok()?, fs::read(recording).ok()?, Delays { lag: number(2)?, late: number(3)? }))
+}
+
 fn main() {
-    let mut files = env::args().skip(1).map(fs::read);
-    let (table, recording) = if let (Some(Ok(table)), Some(Ok(recording))) = (files.next(), files.next()) {
-        (table, recording)
-    } else {
-        eprintln!("usage: bench_loop TABLE RECORDING");
+    let Some((table, recording, delays)) = arguments() else {
+        eprintln!("usage: bench_loop TABLE RECORDING [LAG [LATE]]");
         exit(4)
     };
     if !matches!(recording.first(), Some(1 | 2)) {
@@ -77,7 +97,7 @@ fn main() {
         println!("table refused with {} at byte {}", refusal.number(), refusal.place().unwrap_or(0));
         exit(2)
     });
-    match bench(&mut monitor, &recording) {
+    match bench(&mut monitor, &recording, &delays) {
         Ok(0) => println!("every row kept"),
         Ok(_) => exit(1),
         Err(refusal) => {

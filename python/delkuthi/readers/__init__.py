@@ -6,6 +6,7 @@ from typing import Sequence
 from ..table import Table
 from .asc import AscReader
 from .base import Lines, LogError, Policy, Reader, Stamped, ending
+from .blf import BlfReader
 from .btf import BtfReader
 from .candump import CandumpReader
 from .csv_events import CsvReader
@@ -17,7 +18,7 @@ from .trc import TrcReader
 from .xlsx import XlsxReader
 
 #: The formats by their endings; python-can is asked for all other files.
-READERS: tuple[type[Reader], ...] = (CsvReader, CandumpReader, AscReader, TrcReader, BtfReader, XlsxReader, RecordingReader)
+READERS: tuple[type[Reader], ...] = (CsvReader, CandumpReader, AscReader, BlfReader, TrcReader, BtfReader, XlsxReader, RecordingReader)
 
 __all__ = ["READERS", "Lines", "LogError", "Policy", "Reader", "Stamped", "reader"]
 

@@ -17,6 +17,7 @@ from typing import IO, Any, Callable, ClassVar, Iterable, Iterator, NamedTuple, 
 from ..batches import Batch, Codes
 from ..database import DatabaseError
 from ..mapping import CanMapping
+from ..scope import Scope
 from ..table import Table
 from ..units import NotWhole, in_unit, nearest_in_unit
 
@@ -33,8 +34,9 @@ Lines = Iterable[Stamped]
 _Found = TypeVar("_Found")
 #: So many names that are no events of the table are noted.
 OTHERS = 500
-#: How the files of each ending are unpacked.
+#: How the files of each ending are unpacked, and what they begin with.
 PACKED: dict[str, Callable[..., Any]] = {".gz": gzip.open, ".bz2": bz2.open, ".xz": lzma.open}
+_PACKED_BEGIN = {b"\x1f\x8b": ".gz", b"BZh": ".bz2", b"\xfd7zXZ\x00": ".xz"}
 
 
 @dataclass(frozen=True)
@@ -51,8 +53,10 @@ class Policy:
     - ``until``: the clock goes on to this stamp, in the table's unit, after the last line.
     - ``close``: the end of the log is the end of the recording; else rows that are not broken stay open.
     - ``time_column`` and the others: what the columns of a sheet are called, where they have not the usual names.
+    - ``time_unit``: the unit of the stamps of a sheet, where the head of their column does not say it.
     - ``encoding``: how the characters of a text log are written.
     - ``format``: the ending that says what the log is, where its own name does not.
+    - ``scope``: which part of the log is taken, and whether its beginning and its end are cut or closed.
     """
 
     equal: str = "refuse"
@@ -68,6 +72,8 @@ class Policy:
     action_column: str | None = None
     encoding: str = "utf-8"
     format: str | None = None
+    scope: Scope = Scope()
+    time_unit: str | None = None
 
 
 class LogError(Exception):
@@ -96,11 +102,14 @@ class Reader:
         #: What goes on from one file to the next where several are one log: the samples before, and who waits.
         self.state: dict[str, Any] = {}
         #: Lines that say nothing, such as blank ones, stamps that were rounded, and lines about what no table can name.
-        self.skipped = self.rounded = self.passed = 0
+        self.skipped = self.rounded = self.other_lines = 0
         #: The buses of the frames that were read, as the log names them.
         self.buses: set[str] = set()
         #: What stands where an event of the table could, some of it.
         self.others: set[str] = set()
+        #: The columns of a sheet, and what a scheduler trace is about, some of it: what it is (nothing where that is not said) and its name.
+        self.columns: list[str] = []
+        self.targets: set[tuple[str, str]] = set()
         #: Called with the number of bytes of each line, where they are known, for a progress bar.
         self.progress: Callable[[int], object] | None = None
 
@@ -122,8 +131,6 @@ class Reader:
             yield from found
         except DatabaseError as error:
             raise LogError(self.path, "", str(error)) from None
-        except UnicodeDecodeError as error:
-            raise LogError(self.path, "", f"not a text file: {error.reason} at byte {error.start}") from None
         except csv.Error as error:
             raise LogError(self.path, "", f"not a CSV file: {error}") from None
         except (EOFError, gzip.BadGzipFile, zlib.error, lzma.LZMAError) as error:
@@ -146,6 +153,11 @@ class Reader:
         if name and len(self.others) < OTHERS:
             self.others.add(name)
         return ()
+
+    def target(self, what: str, name: str) -> None:
+        """Notes a task, an interrupt routine or a runnable that the log has."""
+        if len(self.targets) < OTHERS:
+            self.targets.add((what, name))
 
     def placed(self, place: int) -> str:
         """A place with its file, as messages begin."""
@@ -188,7 +200,7 @@ class Reader:
 
     def opened(self) -> IO[bytes]:
         """The file, unpacked if it is packed."""
-        return PACKED.get(Path(self.file).suffix.lower(), open)(self.file, "rb")  # type: ignore[no-any-return]
+        return unpacked(self.file)
 
     @property
     def wide(self) -> bool:
@@ -199,18 +211,47 @@ class Reader:
         """The text of a line; the mark at the beginning of a file is left out."""
         if number == 1 and line.startswith(codecs.BOM_UTF8):
             line = line[len(codecs.BOM_UTF8) :]
-        return line.decode(self.policy.encoding)
+        try:
+            return line.decode(self.policy.encoding)
+        except UnicodeError as error:
+            raise self._undecoded(error, number) from None
+
+    def _undecoded(self, error: UnicodeError, number: int) -> LogError:
+        """What is said of a line that is not in the encoding."""
+        encoding = self.policy.encoding
+        what = f"byte {error.start + 1} of the line, 0x{error.object[error.start]:02X}," if isinstance(error, UnicodeDecodeError) else "the line"
+        other = "cp1252 or utf-16" if encoding == "utf-8" else "utf-8 or cp1252"
+        return self.error(number, f"{what} is not text in {encoding}: --encoding says what the log is written in, such as {other}")
 
     def text_lines(self) -> Iterator[tuple[int, str]]:
         """The lines of a text file, with their numbers."""
         with self.opened() as file:
             if self.wide:
-                for number, text in enumerate(codecs.getreader(self.policy.encoding)(file), 1):
-                    yield number, text
+                yield from self._wide_lines(file)
                 return
             for number, line in enumerate(file, 1):
                 self.advance(len(line))
                 yield number, self.decoded(line, number)
+
+
+    def _wide_lines(self, file: IO[bytes]) -> Iterator[tuple[int, str]]:
+        """The lines of a file of which a character has several bytes."""
+        number = 0
+        try:
+            for number, text in enumerate(codecs.getreader(self.policy.encoding)(file), 1):
+                yield number, text
+        except UnicodeError:
+            raise self._undecoded(UnicodeError(), number + 1) from None
+
+
+def unpacked(file: str) -> IO[bytes]:
+    """A file, unpacked if its name ends as that of a packed one, or if it begins as one."""
+    suffix = Path(file).suffix.lower()
+    if suffix not in PACKED:
+        with open(file, "rb") as packed:
+            begin = packed.read(8)
+        suffix = next((one for first, one in _PACKED_BEGIN.items() if begin.startswith(first)), "")
+    return PACKED.get(suffix, open)(file, "rb")  # type: ignore[no-any-return]
 
 
 def ending(path: str) -> str:

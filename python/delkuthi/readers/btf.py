@@ -6,16 +6,21 @@ comment. What the table does not ask for moves the clock.
 from __future__ import annotations
 
 import re
-from typing import Iterator
+from typing import Iterable, Iterator
 
+from ..batches import OTHER, Batch, Codes, NeedsSlowPath, Scale, Shape, batch_of, blocks
 from ..signals import signal
 from ..sources import ACTIONS, TaskSource
-from ..units import UNITS
-from .base import Reader, Stamped
+from ..units import UNITS, unit_of
+from .base import Lines, Reader, Stamped, lines_of
 
 #: The types of targets that a table can name, by their letters.
 TARGETS = {"T": "task", "I": "isr", "R": "runnable"}
 _TIME = re.compile(r"[0-9]{1,40}")
+#: A line without a note.
+_SHAPE = Shape(b",,,,,,\n")
+#: Nothing but characters of ASCII that print, without blanks.
+_PLAIN = re.compile(rb"[!-~\r\n]*")
 
 
 class BtfReader(Reader):
@@ -24,37 +29,92 @@ class BtfReader(Reader):
     endings = (".btf",)
 
     def lines(self) -> Iterator[Stamped]:
-        sources, scale = task_sources(self), "ns"
-        waiting: Waiting = self.state.setdefault("waiting", Waiting())
-        for number, line in self.text_lines():
+        return _Trace(self).read(self.text_lines())
+
+    def batches(self, codes: Codes) -> Iterator[Batch | Lines]:
+        if self.wide or self.table.unit is None:
+            yield self.lines()
+            return
+        trace, number = _Trace(self), 1
+        with self.opened() as file:
+            for block in blocks(file):
+                self.advance(len(block))
+                try:
+                    batch = trace.batch(block, codes, number)
+                    number += batch.lines
+                    yield batch
+                except NeedsSlowPath:
+                    lines = lines_of(block)
+                    yield trace.read((at, self.decoded(line, at)) for at, line in enumerate(lines, number))
+                    number += len(lines)
+
+
+class _Trace:
+    """The time scale of a trace, and who waits in it."""
+
+    def __init__(self, reader: BtfReader):
+        self._reader, self._sources, self._scale = reader, task_sources(reader), "ns"
+        self._waiting: Waiting = reader.state.setdefault("waiting", Waiting())
+        #: The codes of what happens to which target, and whether a table can name it.
+        self._known: dict[tuple[bytes, bytes, bytes], bytes] = {}
+        self._others: set[tuple[bytes, bytes, bytes]] = set()
+
+    def read(self, lines: Iterable[tuple[int, str]]) -> Iterator[Stamped]:
+        """The lines that have a stamp."""
+        for number, line in lines:
             text = line.strip()
             if not text or text.startswith("#"):
-                scale = self._scale(text, number) or scale
-                self.skipped += not text
+                self._header(text, number)
+                self._reader.skipped += not text
                 continue
             cells = [cell.strip() for cell in text.split(",")]
             if len(cells) < 7 or not _TIME.fullmatch(cells[0]):
-                raise self.error(number, "expected a line of BTF, such as 1000,Core_1,0,T,T10,0,start")
-            stamp, unit = (_nanoseconds(cells[0]), "ns") if scale == "ps" else (cells[0], scale)
+                raise self._reader.error(number, "expected a line of BTF, such as 1000,Core_1,0,T,T10,0,start")
+            stamp, unit = (_nanoseconds(cells[0]), "ns") if self._scale == "ps" else (cells[0], self._scale)
             target = TARGETS.get(cells[3].upper())
             kinds: tuple[int, ...] = ()
             if target is None or cells[6].lower() not in ACTIONS:
-                self.passed += 1
+                self._reader.other_lines += 1
             else:
-                action = waiting.action((cells[3], cells[4], cells[5]), cells[6].lower())
-                kinds = sources.get((target, cells[4], action), ())
-            yield Stamped(self.time(stamp, unit, number), kinds, number)
+                self._reader.target(target, cells[4])
+                action = self._waiting.action((cells[3], cells[4], cells[5]), cells[6].lower())
+                kinds = self._sources.get((target, cells[4], action), ())
+            yield Stamped(self._reader.time(stamp, unit, number), kinds, number)
 
-    def _scale(self, text: str, number: int) -> str | None:
-        """The unit of the stamps, if a line of the header says it."""
-        words = text[1:].split()
-        if words[:1] != ["timeScale"]:
-            return None
-        if words[1:2] == ["ps"]:
-            return "ps"
-        if len(words) < 2 or words[1] not in UNITS:
-            raise self.error(number, f"expected a time scale, one of ps, {', '.join(UNITS)}")
-        return words[1]
+    def _header(self, text: str, number: int) -> None:
+        """A line of the header, which may say the unit of the stamps: ``#timeScale ns``, or with a sign between."""
+        words = re.split(r"[\s=:]+", text[1:].strip())
+        if words[0].lower() == "timescale":
+            unit = "ps" if words[1:2] == ["ps"] else unit_of(words[1]) if len(words) > 1 else None
+            if unit is None:
+                raise self._reader.error(number, f"expected a time scale, one of ps, {', '.join(UNITS)}; found {' '.join(words[1:]) or 'nothing'}")
+            self._scale = unit
+
+    def batch(self, block: bytes, codes: Codes, number: int) -> Batch:
+        """The lines of a block; :class:`NeedsSlowPath` where they are not all alike, or something waits."""
+        if b"#" in block or b"wait" in block.lower() or self._waiting or self._scale == "ps" or not _PLAIN.fullmatch(block):
+            raise NeedsSlowPath
+        cells = _SHAPE.cut(block)
+        if not b"".join(cells[0::7]).isdigit() or max(map(len, cells[0::7])) > 40:
+            raise NeedsSlowPath
+        times = Scale(self._scale, self._reader.table.unit).times(cells[0::7])
+        keys = list(zip(cells[3::7], cells[4::7], cells[6::7]))
+        for key in {*keys} - self._known.keys():
+            self._learn(key, codes)
+        self._reader.other_lines += sum(map(self._others.__contains__, keys)) if self._others else 0
+        return batch_of(times, list(map(self._known.__getitem__, keys)), number)
+
+    def _learn(self, key: tuple[bytes, bytes, bytes], codes: Codes) -> None:
+        """The codes of what happens to a target, where nothing waits."""
+        letter, name, event = (cell.decode("ascii") for cell in key)
+        target, action = TARGETS.get(letter.upper()), event.lower()
+        if target is None or action not in ACTIONS:
+            self._others.add(key)
+            self._known[key] = bytes([OTHER])
+        else:
+            self._reader.target(target, name)
+            kinds = self._sources.get((target, name, action), ())
+            self._known[key] = bytes(codes.of[kind] for kind in kinds) or bytes([OTHER])
 
 
 def _nanoseconds(picoseconds: str) -> str:
@@ -79,6 +139,9 @@ class Waiting:
 
     def __init__(self) -> None:
         self._waiting: set[tuple[str, ...]] = set()
+
+    def __bool__(self) -> bool:
+        return bool(self._waiting)
 
     def action(self, instance: tuple[str, ...], event: str) -> str:
         """The action of an event of an instance: the event itself, but ``wake`` for a resume that ends a wait."""

@@ -8,7 +8,7 @@ from ..batches import Batch, Codes, NeedsSlowPath, Shape, blocks
 from ..mapping import CanMapping
 from ..units import NUMBER
 from .base import Lines, Reader, Stamped, lines_of
-from .frames import Frames, written_in_hex
+from .frames import TextFrames
 
 _LINE = re.compile(rf"\s*\(({NUMBER})\)\s+(\S+)\s+([0-9A-Fa-f]{{1,8}})#(#[0-9A-Fa-f])?([0-9A-Fa-f]*|R[0-9]*)(?:\s+[RT])?\s*$")
 #: A line as it nearly always is: (0.020500) can0 1A0#01
@@ -47,13 +47,13 @@ class CandumpReader(Reader):
             yield self.lines()
             return
         mapping, number = self.mapping(), 1
-        frames = Frames(self, mapping, codes, written_in_hex("([0-9A-Fa-f]{1,8})"))
+        frames = TextFrames(self, codes, "s", "(?P<number>(?P<extended>[0-9A-Fa-f]{4,8})|[0-9A-Fa-f]{1,3})")
         with self.opened() as file:
             for block in blocks(file):
                 self.advance(len(block))
                 try:
                     cells = _SHAPE.cut(block)
-                    yield frames.found(cells[0::4], cells[1::4], cells[2::4], cells[3::4], number)
+                    yield frames.written(cells[0::4], cells[1::4], cells[2::4], cells[3::4], number)
                     number += len(cells) // 4
                 except NeedsSlowPath:
                     lines = lines_of(block)

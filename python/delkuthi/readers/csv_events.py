@@ -1,20 +1,25 @@
 """CSV and TSV."""
 from __future__ import annotations
 
+import base64
 import csv
+import re
+from decimal import Decimal
 from itertools import chain
 from operator import itemgetter
 from typing import Iterable, Iterator
 
-from ..batches import OTHER, Batch, Codes, NeedsSlowPath, Scale, Shape, blocks
+from ..batches import OTHER, Batch, Codes, NeedsSlowPath, Scale, Shape, blocks, with_events
 from .base import Lines, Reader, Stamped, ending, lines_of
-from .python_can import PythonCanReader
 from .sheets import Columns, SheetReader
+
+#: A stamp as Python writes a floating-point number, and an identifier.
+_STAMP, _IDENTIFIER = re.compile(r"[0-9]{1,40}(?:\.[0-9]{0,40})?(?:e[+-]?[0-9]{1,2})?"), re.compile("(?:0x)?[0-9A-Fa-f]{1,8}")
 
 
 class CsvReader(SheetReader):
-    """Columns by name, between commas, semicolons or tabs; with semicolons a comma is the point of a number. A file of python-can's own
-    columns is read by python-can."""
+    """Columns by name, between commas, semicolons or tabs; with semicolons a comma is the point of a number. A file with python-can's own
+    columns has frames."""
 
     endings = (".csv", ".tsv")
     delimiter = ","
@@ -46,12 +51,21 @@ class CsvReader(SheetReader):
             yield number, cells
 
     def _frames(self) -> Iterator[Stamped]:
-        """A file of python-can, whose first frame is in the second line."""
-        frames = PythonCanReader(self.path, self.table, self.policy)
-        frames.buses, frames.progress, frames.state, frames.file = self.buses, self.progress, self.state, self.file
-        for time, kinds, place in frames.lines():
-            yield Stamped(time, kinds, place + 1)
-            self.rounded = frames.rounded
+        """The frames of a file of python-can: timestamp, arbitration_id, extended, remote, error, dlc, and data in base 64."""
+        mapping, rows = self.mapping(), self.rows()
+        next(rows)
+        for number, cells in rows:
+            if not cells:
+                self.skipped += 1
+                continue
+            if len(cells) < 7 or not _STAMP.fullmatch(cells[0]) or not _IDENTIFIER.fullmatch(cells[1]):
+                raise self.error(number, "expected a frame of python-can, such as 0.0205,0x1a0,0,0,0,1,AQ==")
+            try:
+                data = base64.b64decode(cells[6], validate=True)
+            except ValueError:
+                raise self.error(number, f"expected data in base 64, found {cells[6]}") from None
+            kinds = () if "1" in cells[3:5] else mapping.kinds(int(cells[1], 16), cells[2] == "1", "", data)
+            yield Stamped(self.time(f"{Decimal(cells[0]):f}", "s", number), kinds, number)
 
     def batches(self, codes: Codes) -> Iterator[Batch | Lines]:
         with self.opened() as file:
@@ -60,7 +74,7 @@ class CsvReader(SheetReader):
                 yield self.lines()
                 return
             columns = Columns(self, header, self.comma)
-            if columns.event is None or columns.samples or columns.tasks:
+            if columns.tasks or columns.unknown_unit:
                 yield self.lines()
                 return
             several = _Blocks(self, columns, codes)
@@ -73,7 +87,7 @@ class CsvReader(SheetReader):
                     return
                 try:
                     batch = several.batch(block, number)
-                    number += len(batch.codes)
+                    number += batch.lines
                     yield batch
                 except NeedsSlowPath:
                     lines = lines_of(block)
@@ -111,12 +125,12 @@ class _Events:
 
 
 class _Blocks:
-    """Blocks of lines that all have a plain stamp and an event."""
+    """Blocks of lines that all have a plain stamp, and an event or samples."""
 
     def __init__(self, reader: CsvReader, columns: Columns, codes: Codes):
         self.reader, self.columns = reader, columns
         self.shape = Shape(reader.delimiter.encode() * (len(columns.header) - 1) + b"\n")
-        self.events = _Events(reader, columns, codes)
+        self.events, self.codes = _Events(reader, columns, codes), codes
         if columns.unit is not None and reader.table.unit is None:
             raise reader.error(2, f"the stamps are in {columns.unit}, but the table has no unit line")
         self.scale = Scale(columns.unit, reader.table.unit)
@@ -124,9 +138,16 @@ class _Blocks:
     def batch(self, block: bytes, number: int) -> Batch:
         """The lines of a block."""
         if not block.isascii():
-            self.reader.decoded(block, 2)
+            try:
+                block.decode(self.reader.policy.encoding)
+            except UnicodeError:
+                raise NeedsSlowPath from None
         cells, number_of = self.shape.cut(block), self.shape.cells
         stamps = cells[self.columns.time :: number_of]
         if self.reader.comma:
             stamps = b"\n".join(stamps).replace(b",", b".").split(b"\n")
-        return Batch(self.scale.times(stamps), self.events.of(cells[self.columns.event or 0 :: number_of]), number)
+        times, event = self.scale.times(stamps), self.columns.event
+        found = bytes([OTHER]) * len(times) if event is None else self.events.of(cells[event::number_of])
+        samples = [(column, *column.states(cells[column.place :: number_of])) for column in self.columns.samples]
+        more = [(self.codes.of[column.signal], column.events(places, states)) for column, places, states in samples]
+        return with_events(times, found, more, number)

@@ -1,8 +1,10 @@
-"""What python-can reads: ASC, BLF, TRC and others."""
+"""What python-can reads beside the formats that have readers here, such as its SQLite files."""
 from __future__ import annotations
 
 import math
+import tempfile
 from decimal import Decimal
+from pathlib import Path
 from typing import Any, Iterator
 
 from .base import LogError, Reader, Stamped, ending
@@ -17,31 +19,41 @@ class PythonCanReader(Reader):
     word = "frame"
 
     def lines(self) -> Iterator[Stamped]:
-        mapping, first = self.mapping(), _FIRST_CHANNEL.get(ending(self.path), 0)
-        reader = self._reader()
-        start = _exact_start(reader)
-        file, read = getattr(reader, "file", None), 0
-        with reader:
-            for number, frame in enumerate(self._frames(reader), 1):
-                time = self._stamp(frame.timestamp, start, number)
-                data = not frame.is_error_frame and not frame.is_remote_frame
-                bus = str(frame.channel + first) if isinstance(frame.channel, int) else str(frame.channel or "")
-                if bus:
-                    self.buses.add(bus)
-                yield Stamped(time, mapping.kinds(frame.arbitration_id, frame.is_extended_id, bus, bytes(frame.data)) if data else (), number)
-                if self.progress is not None and number % 1000 == 0 and file is not None:
-                    now = getattr(file, "buffer", file).tell()
-                    self.advance(now - read)
-                    read = now
+        with tempfile.TemporaryDirectory(prefix="delkuthi-") as folder, self._reader(folder) as reader:
+            yield from self._stamped(reader)
 
-    def _reader(self) -> Any:
+    def _stamped(self, reader: Any) -> Iterator[Stamped]:
+        """The lines of an open reader of python-can."""
+        mapping, first = self.mapping(), _FIRST_CHANNEL.get(self._ending(), 0)
+        file, read = getattr(reader, "file", None), 0
+        for number, frame in enumerate(self._frames(reader), 1):
+            data = not frame.is_error_frame and not frame.is_remote_frame
+            bus = str(frame.channel + first) if isinstance(frame.channel, int) else str(frame.channel or "")
+            if bus:
+                self.buses.add(bus)
+            kinds = mapping.kinds(frame.arbitration_id, frame.is_extended_id, bus, bytes(frame.data)) if data else ()
+            yield Stamped(self._stamp(frame.timestamp, number), kinds, number)
+            if self.progress is not None and number % 1000 == 0 and file is not None:
+                now = getattr(file, "buffer", file).tell()
+                self.advance(now - read)
+                read = now
+
+    def _ending(self) -> str:
+        """The ending that says what the log is."""
+        return self.policy.format or ending(self.path)
+
+    def _reader(self, folder: str) -> Any:
+        """python-can's reader. It goes by the name's ending, so that a file with another name gets one in the folder."""
         try:
             import can
         except ImportError:
-            name = ending(self.path) or "this"
-            raise LogError(self.path, "", f"reading {name} needs python-can (Debian: python3-can)") from None
+            raise LogError(self.path, "", f"reading {self._ending() or 'this'} needs python-can (Debian: python3-can)") from None
+        name = self.file
+        if ending(name) != self._ending():
+            name = str(Path(folder) / f"log{self._ending()}")
+            Path(name).symlink_to(Path(self.file).absolute())
         try:
-            return can.LogReader(self.file)
+            return can.LogReader(name)
         except OSError:
             raise
         except Exception as error:  # python-can has no one exception for a file that it cannot read
@@ -60,27 +72,13 @@ class PythonCanReader(Reader):
             number += 1
             yield frame
 
-    def _stamp(self, seconds: float, start: int | None, place: int) -> int:
+    def _stamp(self, seconds: float, place: int) -> int:
         """A stamp as the file has it, which python-can gives as a floating-point number of seconds."""
-        if not math.isfinite(seconds):
+        decimal = Decimal(repr(seconds)) if math.isfinite(seconds) else None
+        if decimal is None or decimal < 0:
             raise self.error(place, f"expected a time, found {seconds}")
-        if start is not None:
-            return self.time(str(start + round(seconds * 10**9)), "ns", place)
-        decimal = Decimal(repr(seconds))
-        if decimal < 0:
-            raise self.error(place, f"expected a time, found {decimal}")
         exponent = decimal.as_tuple().exponent
         if isinstance(exponent, int) and not self.policy.round and 10.0**exponent < 2 * math.ulp(seconds):
             raise self.error(place, f"the stamp {decimal:f} s is finer than python-can can tell apart; --round takes the nearest "
                                     f"{self.table.unit or 'unit'}")
         return self.time(f"{decimal:f}", "s", place)
-
-
-def _exact_start(reader: Any) -> int | None:
-    """Of a BLF file the nanoseconds at which it starts. Its frames are then stamped from there, and exact: python-can would
-    add both as floating-point numbers, which leaves no more than a quarter of a microsecond."""
-    if type(reader).__name__ != "BLFReader":
-        return None
-    start = round(float(reader.start_timestamp) * 1000) * 10**6
-    reader.start_timestamp = 0.0
-    return start

@@ -13,14 +13,16 @@ class RecordingReader(Reader):
 
     endings = (".bin",)
     word = "record"
+    #: The version of the recording, once it is read.
+    version = 1
 
     def lines(self) -> Iterator[Stamped]:
         with self.opened() as file:
             version = file.read(1)
             if version not in (b"\x01", b"\x02"):
                 raise LogError(self.path, "", str(Refused(13, 0)))
-            clock = 0
-            for number, (place, kind, time) in enumerate(records(file, version[0]), 1):
+            self.version, clock = version[0], 0
+            for number, (place, kind, time) in enumerate(records(file, self.version), 1):
                 if time is None:
                     raise self.error(number, str(Refused(14, place)))
                 if kind is None and time <= clock and self.policy.unsorted == "refuse":

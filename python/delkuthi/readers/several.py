@@ -33,6 +33,11 @@ class SeveralReader(Reader):
     def error(self, place: int, message: str) -> LogError:
         return self._readers[place >> _BITS].error(self.number(place), message)
 
+    def text_lines(self) -> Iterator[tuple[int, str]]:
+        for number, one in self._each():
+            for place, text in one.text_lines() if one.word == "line" else ():
+                yield place + number, text
+
     def lines(self) -> Iterator[Stamped]:
         for number, one in self._each():
             for time, kinds, place in one.checked_lines():
@@ -42,7 +47,7 @@ class SeveralReader(Reader):
         for number, one in self._each():
             for found in one.checked(one.batches(codes)):
                 if isinstance(found, Batch):
-                    yield Batch(found.times, found.codes, found.place + number)
+                    yield found.moved(number)
                 else:
                     yield (Stamped(time, kinds, place + number) for time, kinds, place in one.checked(found))
 
@@ -50,7 +55,7 @@ class SeveralReader(Reader):
         """The readers, one after the other, with what their places begin at; what they count is counted here."""
         before = (0, 0, 0)
         for number, one in enumerate(self._readers):
-            one.progress, one.buses, one.others = self.progress, self.buses, self.others
+            one.progress, one.buses, one.others, one.columns, one.targets = self.progress, self.buses, self.others, self.columns, self.targets
             yield number << _BITS, one
-            before = before[0] + one.skipped, before[1] + one.rounded, before[2] + one.passed
-            self.skipped, self.rounded, self.passed = before
+            before = before[0] + one.skipped, before[1] + one.rounded, before[2] + one.other_lines
+            self.skipped, self.rounded, self.other_lines = before

@@ -2,22 +2,25 @@
 from __future__ import annotations
 
 import re
-from decimal import Decimal
 from typing import Iterator
 
-from ..conditions import Edge, Sample
+from ..conditions import Edge
 from ..signals import is_coloured, colours, parts, signal
-from ..sources import ColumnSource
+from ..sources import ColumnSource, TaskSource
+from ..spelling import did_you_mean
 from ..table import CsvSource, Table
 from ..timestamps import Stamps
-from ..units import UNITS
+from ..units import UNITS, unit_of
 from .base import Reader, Stamped
 from .btf import Waiting, task_sources
+from .samples import SampledColumn
 
-_UNIT = re.compile(r"(?:^|[ _(\[])(%s)[)\]]?$" % "|".join(UNITS))
-_TIME = re.compile(r"(?:time(?:stamp)?|date|uhrzeit|zeit)(?:$|[ _(\[])")
-#: A sampled number.
-_NUMBER = re.compile(r"[+-]?(?:[0-9]{1,40}(?:\.[0-9]{0,40})?|\.[0-9]{1,40})(?:[eE][+-]?[0-9]{1,2})?")
+#: What stands in brackets at the end of a column's head.
+_BRACKETS = re.compile(r".*[\[(<{]\s*(.*?)\s*[\])>}]")
+#: Last words of a head that are no unit: there the stamps are in the table's.
+_NO_UNIT = ("time", "stamp", "timestamp", "date", "zeit", "uhrzeit", "zeitstempel", "abs", "absolute", "rel", "relative", "elapsed", "utc", "gmt",
+            "local", "day", "start", "offset", "axis", "column")
+_TIME = re.compile(r"(?:time(?:stamp)?|date|uhrzeit|zeit(?:stempel)?)(?:$|[\W_])")
 
 
 def named_kinds(table: Table) -> dict[str, tuple[int, ...]]:
@@ -34,6 +37,21 @@ def named_kinds(table: Table) -> dict[str, tuple[int, ...]]:
     return kinds
 
 
+def _as_a_word(capital: re.Match[str]) -> str:
+    """A capital within a word, as in ``timeMs``, where a word of its own begins."""
+    return f"_{capital[0].lower()}"
+
+
+def unit_word(head: str) -> str | None:
+    """The word of a column's head that says the unit of its times: what stands in brackets at its end, or its last word if there are several
+    and that is no usual one, such as the stamp of ``time_stamp``."""
+    found = _BRACKETS.fullmatch(head)
+    if found is not None:
+        return found[1] or None
+    words = re.split(r"[\W_]+", re.sub("(?<=[a-z])[A-Z]", _as_a_word, head))
+    return None if len(words) < 2 or words[-1].lower() in ("", *_NO_UNIT) else words[-1]
+
+
 class Columns:
     """What the columns of a sheet are, by its header."""
 
@@ -41,6 +59,8 @@ class Columns:
         self.reader, self.header, self.comma = reader, header, comma
         self.names = [cell.strip().lower() for cell in header]
         self.stamps = Stamps()
+        #: What the head of the times' column says where that is no unit: stamps that are plain numbers are an error then.
+        self.unknown_unit: str | None = None
         self.time, self.unit = self._time_column()
         policy = reader.policy
         self.event = self._optional(policy.event_column, "event")
@@ -52,8 +72,20 @@ class Columns:
         self.waiting: Waiting = reader.state.setdefault("waiting", Waiting())
         if self.event is None and not self.samples and not self.tasks:
             raise self._lacks(policy.event_column or "event")
-        used = [self.time, self.event, *(place for place, _, _, _ in self.samples), *((self.task, self.action) if self.tasks else ())]
+        used = [self.time, self.event, *(column.place for column in self.samples), *((self.task, self.action) if self.tasks else ())]
         self.last = max(place for place in used if place is not None)
+        reader.columns += [cell.strip() for cell in header]
+        self._ask_for_columns()
+
+    def _ask_for_columns(self) -> None:
+        """An event of a row that can only come from columns that are not there is an error."""
+        asked = {kind for row in self.reader.table.rows for kind in (*row.kinds, *(row.window or ()))}
+        for event in self.reader.table.events if self.event is None else ():
+            columns = [source.column for source in event.sources if isinstance(source, ColumnSource)]
+            there = any(column.strip().lower() in self.names for column in columns)
+            if event.kind in asked and columns and not there and not (self.tasks and any(isinstance(one, TaskSource) for one in event.sources)):
+                hint = did_you_mean(columns[0], self.reader.columns) or f"; the columns are {', '.join(self.header)}"
+                raise self.reader.error(1, f"no column {columns[0]}, from which {event.name} would come{hint}")
 
     def _lacks(self, name: str) -> Exception:
         wanted = [source.column for event in self.reader.table.events for source in event.sources if isinstance(source, ColumnSource)]
@@ -78,17 +110,24 @@ class Columns:
             if not found:
                 raise self.reader.error(1, f"expected a column time, found {', '.join(self.header) or 'nothing'}")
             place = found[0]
-        unit = _UNIT.search(self.header[place].strip())
-        return place, unit[1] if unit else None
+        return place, self._unit(self.header[place].strip())
 
-    def _samples(self) -> Iterator[tuple[int, Edge, int, bool]]:
-        """The sampled columns that the table names: place, condition, signal, and whether it needs numbers."""
+    def _unit(self, head: str) -> str | None:
+        """The unit of the stamps: the one that was given, or that the head of their column ends with, if it does."""
+        word = self.reader.policy.time_unit or unit_word(head)
+        unit = None if word is None else unit_of(word)
+        if word is not None and unit is None:
+            self.unknown_unit = word
+        return unit
+
+    def _samples(self) -> Iterator[SampledColumn]:
+        """The sampled columns that the table names."""
         for event in self.reader.table.events:
             for source in event.sources:
                 if isinstance(source, ColumnSource) and source.column.strip().lower() in self.names:
                     place, number = self.names.index(source.column.strip().lower()), signal(event.kind, source.colour)
                     edge = self.reader.state.setdefault(f"edge {number} {source}", Edge(source.condition))
-                    yield place, edge, number, source.condition.word in ("rises above", "falls below")
+                    yield SampledColumn(place, number, source.condition, edge, self.comma, self.reader.policy.encoding)
 
     def _tasks(self) -> dict[tuple[str, str], tuple[int, ...]]:
         """The signals by the name and the action, whatever it is that has the name."""
@@ -105,29 +144,24 @@ class Columns:
         kinds = self.kinds.get(name) or self.reader.other(name)
         if self.tasks:
             name, action = cells[self.task or 0].strip(), cells[self.action or 0].strip().lower()
+            self.reader.target("", name)
             kinds += self.tasks.get((name, self.waiting.action((name,), action)), ())
-        for place, edge, one, numeric in self.samples:
-            sample = self._sample(cells[place].strip(), numeric, place, number)
-            if sample is not None and edge.take(sample) and one not in kinds:
-                kinds += (one,)
+        for column in self.samples:
+            sample = column.sample(cells[column.place].strip())
+            if column.numeric and isinstance(sample, str):
+                raise self.reader.error(number, f"expected a number in the column {self.header[column.place].strip()}, found {sample}")
+            if sample is not None and column.take(sample) and column.signal not in kinds:
+                kinds += (column.signal,)
         return Stamped(self._stamp(cells[self.time].strip(), number), kinds, number)
 
     def _stamp(self, text: str, number: int) -> int:
         found = self.stamps.read(text.replace(",", ".") if self.comma else text)
         if found is None:
             raise self.reader.error(number, f"expected a time, found {text or 'nothing'}")
+        if found[1] is None and self.unknown_unit is not None:
+            raise self.reader.error(number, f"the column {self.header[self.time].strip()} says that its times are in {self.unknown_unit}, which is "
+                                            f"no unit here: --time-unit with one of {', '.join(UNITS)} says what they are in")
         return self.reader.time(found[0], found[1] or self.unit, number)
-
-    def _sample(self, text: str, numeric: bool, place: int, number: int) -> Sample | None:
-        """A sampled value; ``None`` where the cell is empty, or says that there is no number."""
-        if not text or text.lower() == "nan":
-            return None
-        decimal = text.replace(",", ".") if self.comma else text
-        if _NUMBER.fullmatch(decimal):
-            return Decimal(decimal)
-        if numeric:
-            raise self.reader.error(number, f"expected a number in the column {self.header[place].strip()}, found {text}")
-        return text
 
 
 class SheetReader(Reader):

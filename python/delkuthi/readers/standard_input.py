@@ -3,13 +3,15 @@ from __future__ import annotations
 
 import atexit
 import io
+import lzma
 import os
 import shutil
 import sys
 import tempfile
+import zlib
 from functools import lru_cache
 
-from .base import LogError
+from .base import LogError, unpacked
 
 #: What stands for the standard input.
 NAME = "-"
@@ -39,7 +41,10 @@ def _remove(name: str, process: int) -> None:
 
 
 def ending_of(name: str) -> str:
-    """The ending that fits what a file begins with."""
-    with open(name, "rb") as file:
-        begin = file.read(16)
+    """The ending that fits what a file begins with, once it is unpacked."""
+    with unpacked(name) as file:
+        try:
+            begin = file.read(16)
+        except (EOFError, OSError, zlib.error, lzma.LZMAError):
+            return ".csv"
     return next((ending for first, ending in BEGINNINGS if begin.startswith(first)), ".csv")

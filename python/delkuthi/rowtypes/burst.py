@@ -4,8 +4,8 @@ from __future__ import annotations
 from typing import TYPE_CHECKING, Iterator
 
 from ..fields import RowType
-from ..measure import Instance, margin_of
-from ..reasons import Blamed, Case, Reason, Times, Window, gap, plain
+from ..measure import margin_of
+from ..reasons import Blamed, Case, Reason, Times, Window, drop_to_last, gap, plain
 from .repeat import Spans
 
 if TYPE_CHECKING:
@@ -29,6 +29,11 @@ def reason(case: Case) -> Reason | None:
     return None
 
 
+def forget(case: Case) -> None:
+    """Forgets all but the last maximum events."""
+    drop_to_last(case, "event", case.number("maximum"))
+
+
 def windows(row: Row, times: Times) -> Iterator[Window]:
     """From the first event of each burst the stretch that may have no more than maximum."""
     kind, end = row.number("event"), -1
@@ -49,24 +54,22 @@ class Bursts(Spans):
     def take(self, time: int, place: int) -> None:
         if self.last:
             gap, minimum, sides = time - self.last[-1][0], self.values["minimum"], []
+            close = "gap shorter than minimum" if gap < minimum else None
             if minimum:
                 sides.append(gap - minimum)
             if len(self.last) == self.span:
                 value = time - self.last[0][0]
                 side = margin_of(value, self.values["length"], None)
                 sides += [] if side is None else [side]
-                self.measure.add(value, time, place, min(sides, default=None))
+                many = "more than maximum within length" if value < self.values["length"] else None
+                begin = self.last[-1] if close and not many else self.last[0]
+                self.measure.add(value, time, place, min(sides, default=None), begin, many or close)
             else:
-                self._gap(gap, time, place, min(sides, default=None))
+                # Before the first whole span an event is judged by its gap alone, which is no distance over the span.
+                self.measure.judged += 1
+                if close:
+                    self.measure.compare(gap, time, place, gap - minimum, self.last[-1], close)
         self.last.append((time, place))
-
-    def _gap(self, gap: int, time: int, place: int, margin: int | None) -> None:
-        """An event before the first whole span is judged by its gap alone; what it measures is no distance over the span."""
-        self.measure.judged += 1
-        if margin is not None and margin < 0:
-            self.measure.outside += 1
-            if self.measure.worst is None or self.measure.worst.margin is None or margin < self.measure.worst.margin:
-                self.measure.worst = Instance(gap, time, place, margin)
 
 
 TYPE = RowType(
@@ -78,7 +81,7 @@ TYPE = RowType(
     manual="""any stretch shorter than length has at most maximum events, and neighbours are at least minimum apart. Silence
         breaks nothing.""",
     measures="distance over maximum places; the least distance of neighbours counts in the margin", each="each event but the first",
-    reason=reason, windows=windows, measuring=Bursts, instance=("event", 1),
+    reason=reason, forget=forget, windows=windows, measuring=Bursts, instance=("event", 1),
     example=("burst", "fault maximum 3, length 50 ms, minimum 2 ms",
              {"fault": "10 14 18 62 66 70 74"}),
 )

@@ -1,13 +1,13 @@
 """Delay: after each source a target."""
 from __future__ import annotations
 
-from bisect import bisect_left
-from collections import deque
+from bisect import bisect_left, bisect_right
 from typing import TYPE_CHECKING, Iterator
 
 from ..fields import RowType
+from ..fifo import Fifo
 from ..library import NO_LIMIT
-from ..measure import WAITING, RowMeasuring, Taker, margin_of
+from ..measure import Moment, RowMeasuring, Taker, margin_of
 from ..reasons import Blamed, Case, Reason, Times, Window, unanswered, until
 
 if TYPE_CHECKING:
@@ -27,6 +27,16 @@ def reason(case: Case) -> Reason | None:
     return None
 
 
+def forget(case: Case) -> None:
+    """Forgets the sources that are answered, and the targets before the first that is not. The last target stays: it answers a
+    source that comes after it at the same time."""
+    sources, targets = case.of(case.number("source")), case.of(case.number("target"))
+    if targets.times:
+        sources.drop(bisect_right(sources.times, targets.times[-1] - case.number("lower")))
+        oldest = min([*sources.times[:1], targets.times[-1]])
+        targets.drop(bisect_left(targets.times, oldest))
+
+
 def windows(row: Row, times: Times) -> Iterator[Window]:
     """For each source the stretch in which its target has to come."""
     for time in times.get(row.number("source"), ()):
@@ -41,34 +51,39 @@ class Delays(RowMeasuring):
     def __init__(self, row: Row):
         super().__init__(row)
         self.lower, self.upper = self.values["lower"], self.values["upper"]
-        self.waiting: deque[tuple[int, int]] = deque()
+        self.waiting = Fifo()
         #: The last target, which answers a source that is given after it at the same time.
-        self.target = -1, 0
+        self.target: Moment = (-1, 0)
 
     def takers(self) -> dict[int, Taker]:
         return {self.values["source"]: self.take_source, self.values["target"]: self.take_target}
 
     def take_source(self, time: int, place: int) -> None:
         if self.lower == 0 and self.target[0] == time:
-            self.measure.add(0, time, self.target[1], margin_of(0, 0, self.upper))
+            self.measure.add(0, time, self.target[1], margin_of(0, 0, self.upper), (time, place))
             return
         # Of a source whose time is over when the next one comes no later target is the answer.
-        while self.waiting and self._over(time) or len(self.waiting) >= WAITING:
-            self.measure.miss(*self.waiting.popleft())
-        self.waiting.append((time, place))
+        while self._over(time):
+            self._miss(time)
+        self.waiting.append(time, place)
 
     def _over(self, time: int) -> bool:
-        return self.upper is not None and time > self.waiting[0][0] + self.upper
+        return self.upper is not None and len(self.waiting) > 0 and time > self.waiting.first[0] + self.upper
+
+    def _miss(self, now: int) -> None:
+        source = self.waiting.pop()
+        self.measure.miss(source, "no target came for it", None if self.upper is None else source[0] + self.upper, now)
 
     def take_target(self, time: int, place: int) -> None:
         self.target = time, place
-        while self.waiting and self.waiting[0][0] + self.lower <= time:
-            value = time - self.waiting.popleft()[0]
-            self.measure.add(value, time, place, margin_of(value, self.lower, self.upper))
+        while self.waiting and self.waiting.first[0] + self.lower <= time:
+            source = self.waiting.pop()
+            value = time - source[0]
+            self.measure.add(value, time, place, margin_of(value, self.lower, self.upper), source)
 
     def end(self, clock: int, closed: bool) -> None:
         while self.waiting and (closed or self._over(clock)):
-            self.measure.miss(*self.waiting.popleft())
+            self._miss(clock)
 
 
 TYPE = RowType(
@@ -81,7 +96,7 @@ TYPE = RowType(
     manual="""after each source a target comes from lower to upper later. One target may answer several sources, and further
         targets do no harm.""",
     measures="latency: to the first target that is not too early", each="each source",
-    reason=reason, windows=windows, measuring=Delays, instance=("source", 0), waits=True,
+    reason=reason, forget=forget, windows=windows, measuring=Delays, instance=("source", 0), waits=True,
     example=("delay", "pedal -> light, 2 ms .. 20 ms",
              {"pedal": "10 50", "light": "22 75"}),
 )

@@ -1,8 +1,11 @@
 """ExecutionTime: from each start to its stop, without what lies from preempt to resume."""
 from __future__ import annotations
 
+from bisect import bisect_right
+from collections import Counter
 from typing import TYPE_CHECKING, Iterator
 
+from ..beginnings import Beginning
 from ..fields import RowType
 from ..measure import RowMeasuring, Taker, margin_of
 from ..reasons import Blamed, Case, Reason, Times, Window, plain
@@ -27,7 +30,7 @@ def _stages(case: Case) -> list[tuple[int, int, str, int]]:
 def reason(case: Case) -> Reason | None:
     """The first event out of its order, or the first run that is too short or too long, or the one without a stop."""
     lower, upper = case.number("lower"), case.number("upper")
-    before, since, taken, last = "stop", 0, 0, -1
+    before, since, taken, last = "stop", 0, 0, -1 if case.memory is None else case.memory
     start = Blamed(case.number("start"), 0)
     for time, _, name, index in _stages(case):
         one = Blamed(case.number(name), index)
@@ -88,6 +91,23 @@ def _ran(case: Case, start: Blamed, stop: Blamed) -> int:
     return taken
 
 
+def forget(case: Case) -> None:
+    """Forgets the runs that have ended, and remembers the time of the last event of these."""
+    stops = case.times("stop")
+    if not stops:
+        return
+    case.memory = stops[-1]
+    for name in _STAGES:
+        events = case.of(case.number(name))
+        events.drop(bisect_right(events.times, case.memory))
+
+
+def pending(case: Case) -> int:
+    """The run that has begun and not ended."""
+    starts, stops = case.times("start"), case.times("stop")
+    return int(bool(starts) and (not stops or stops[-1] < starts[-1]))
+
+
 def windows(row: Row, times: Times) -> Iterator[Window]:
     """From each start and each resume the stretch in which the stop can come if nothing else comes before. Where a preempt
     comes in it, the stop is not missing there."""
@@ -103,6 +123,17 @@ def windows(row: Row, times: Times) -> Iterator[Window]:
             begin, end = time + max(row.number("lower") - taken, 1), time + upper - taken
             preempted = place + 1 < len(stages) and stages[place + 1][1] == "preempt" and stages[place + 1][0] <= end
             yield Window(row.number("stop"), begin, end, wanted=not preempted)
+
+
+def _began(row: Row, signal: int, since: int, taken: Counter[int], left: Counter[int]) -> str:
+    """What comes before the first start belongs to a run that began before the log."""
+    start = row.number("start")
+    return "surely" if signal != start and not taken[start] else ""
+
+
+def _run(left: Counter[int]) -> int:
+    """All that is left out is of one run."""
+    return int(left.total() > 0)
 
 
 class Executions(RowMeasuring):
@@ -126,8 +157,10 @@ class Executions(RowMeasuring):
         act = getattr(self, name)
 
         def take(time: int, place: int) -> None:
-            if time == self.last or not self.fits(name):
-                self.measure.miss(time, place)
+            if time == self.last:
+                self.measure.miss((time, place), "shares its time with another event of the row")
+            elif not self.fits(name):
+                self.measure.miss((time, place), f"{name} may not come here")
             act(time, place)
             self.last = time
 
@@ -153,7 +186,7 @@ class Executions(RowMeasuring):
     def stop(self, time: int, place: int) -> None:
         if self.since is not None:
             value = self.ran + time - self.since
-            self.measure.add(value, time, place, margin_of(value, self.lower or 0, self.upper))
+            self.measure.add(value, time, place, margin_of(value, self.lower or 0, self.upper), self.begun)
         self.begun, self.since = None, None
 
     def end(self, clock: int, closed: bool) -> None:
@@ -161,7 +194,8 @@ class Executions(RowMeasuring):
             return
         soonest = self.ran + (1 if self.since is None else max(clock - self.since, 1))
         if closed or soonest > self.upper:
-            self.measure.miss(*self.begun)
+            due = None if self.since is None else self.since + self.upper - self.ran
+            self.measure.miss(self.begun, "its run did not end", due, clock)
 
 
 TYPE = RowType(
@@ -175,7 +209,8 @@ TYPE = RowType(
     manual="""the time from each start to its stop, without what lies from a preempt to its resume, is lower to upper. An event
         that may not come next breaks the row too.""",
     measures="running time", each="each run",
-    reason=reason, windows=windows, measuring=Executions, instance=("start", 0),
+    reason=reason, forget=forget, windows=windows, measuring=Executions, instance=("start", 0), pending=pending,
+    beginning=Beginning(_began, _run),
     example=("task", "start -> stop, preempt preempt, resume resume, 5 ms .. 10 ms",
              {"start": "10 50", "stop": "30 65", "preempt": "13", "resume": "25"}),
 )

@@ -1,11 +1,13 @@
 """Order: as many targets as sources, none before its source."""
 from __future__ import annotations
 
+from collections import Counter
 from typing import TYPE_CHECKING, Iterator
 
+from ..beginnings import Beginning
 from ..fields import RowType
 from ..reasons import Blamed, Case, Reason, Times, Window, alone, unanswered
-from .strong_delay import Pairs
+from .strong_delay import Pairs, forget
 
 if TYPE_CHECKING:
     from ..table import Row
@@ -25,12 +27,22 @@ def reason(case: Case) -> Reason | None:
     return None
 
 
+def pending(case: Case) -> int:
+    """The sources that have no target yet."""
+    return max(len(case.times("source")) - len(case.times("target")), 0)
+
+
 def windows(row: Row, times: Times) -> Iterator[Window]:
     """For each source the stretch up to its target, unless that came before it."""
     targets = times.get(row.number("target"), ())
     for index, time in enumerate(times.get(row.number("source"), ())):
         if index >= len(targets) or targets[index] >= time:
             yield Window(row.number("target"), time, targets[index] if index < len(targets) else None)
+
+
+def _began(row: Row, signal: int, since: int, taken: Counter[int], left: Counter[int]) -> str:
+    """A target without a source may belong to one before the log, however long ago that was."""
+    return "maybe" if signal == row.number("target") and taken[row.number("source")] <= taken[signal] else ""
 
 
 class Lags(Pairs):
@@ -54,7 +66,8 @@ TYPE = RowType(
     manual="""the first target belongs to the first source, the second to the second, and so on, and none is before its source. A
         source may wait for its target as long as it likes, until the end of the recording.""",
     measures="lag from each source to its target", each="each pair",
-    reason=reason, windows=windows, measuring=Lags, instance=("source", 0),
+    reason=reason, forget=forget, windows=windows, measuring=Lags, instance=("source", 0), pending=pending,
+    beginning=Beginning(_began, online=True),
     example=("order", "sensor -> entry",
              {"sensor": "10 55", "entry": "12 50"}),
 )

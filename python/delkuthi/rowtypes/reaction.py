@@ -4,7 +4,8 @@ from __future__ import annotations
 from typing import TYPE_CHECKING, Iterator
 
 from ..fields import RowType
-from ..measure import WAITING, RowMeasuring, Taker, margin_of
+from ..fifo import Fifo
+from ..measure import Moment, RowMeasuring, Taker, margin_of
 from ..reasons import Blamed, Case, Reason, Times, Window, plain, unanswered
 from ..signals import colours
 
@@ -40,6 +41,20 @@ def _reacted_early(case: Case, asked: Blamed, first: Blamed) -> Reason:
                  f"{case.long(minimum)} is asked", first, asked)
 
 
+def forget(case: Case) -> None:
+    """Forgets the stimuli whose response has come, and all but the first response of each colour."""
+    for stimulus, response in zip(colours(case.number("stimulus")), colours(case.number("response"))):
+        if len(case.of(response)):
+            case.of(stimulus).drop(len(case.of(stimulus)))
+            del case.of(response).times[1:], case.of(response).places[1:]
+
+
+def pending(case: Case) -> int:
+    """The stimuli whose colour has no response yet."""
+    pairs = zip(colours(case.number("stimulus")), colours(case.number("response")))
+    return sum(len(case.of(stimulus)) for stimulus, response in pairs if not len(case.of(response)))
+
+
 def windows(row: Row, times: Times) -> Iterator[Window]:
     """For each colour with a stimulus the stretch in which its first response suits all of them."""
     minimum, maximum = row.number("minimum"), row.number("maximum")
@@ -53,8 +68,8 @@ class _Colour:
     """The stimuli of a colour that wait for its first response, and that response."""
 
     def __init__(self) -> None:
-        self.waiting: list[tuple[int, int]] = []
-        self.response: tuple[int, int] | None = None
+        self.waiting = Fifo()
+        self.response: Moment | None = None
 
 
 class Reactions(RowMeasuring):
@@ -74,21 +89,18 @@ class Reactions(RowMeasuring):
             found[response] = self._response(colour)
         return found
 
-    def _add(self, begin: int, time: int, place: int) -> None:
-        self.measure.add(time - begin, time, place, margin_of(time - begin, self.lower, self.upper))
+    def _add(self, stimulus: Moment, time: int, place: int) -> None:
+        value = time - stimulus[0]
+        self.measure.add(value, time, place, margin_of(value, self.lower, self.upper), stimulus)
 
     def _stimulus(self, colour: _Colour) -> Taker:
         def take(time: int, place: int) -> None:
             if colour.response is None:
-                # The first and the last one are always kept: they have the greatest and the least latency.
-                if len(colour.waiting) >= WAITING:
-                    colour.waiting.pop()
-                    self.measure.judged += 1
-                colour.waiting.append((time, place))
+                colour.waiting.append(time, place)
             elif colour.response[0] == time:
-                self._add(time, *colour.response)
+                self._add((time, place), *colour.response)
             else:
-                self.measure.miss(time, place)
+                self.measure.miss((time, place), "the first response of its colour came before it")
 
         return take
 
@@ -96,17 +108,20 @@ class Reactions(RowMeasuring):
         def take(time: int, place: int) -> None:
             if colour.response is None:
                 colour.response = time, place
-                for begin, _ in colour.waiting:
-                    self._add(begin, time, place)
-                colour.waiting.clear()
+                for stimulus in colour.waiting.drain():
+                    self._add(stimulus, time, place)
 
         return take
 
     def end(self, clock: int, closed: bool) -> None:
         for colour in self.colours:
-            for begin, place in colour.waiting:
-                if closed or clock > begin + self.upper or begin + self.lower > colour.waiting[0][0] + self.upper:
-                    self.measure.miss(begin, place)
+            first = colour.waiting.first[0] if colour.waiting else 0
+            for begin, place in colour.waiting.drain():
+                due = begin + self.upper
+                if closed or clock > due:
+                    self.measure.miss((begin, place), "no response came for it", due, clock)
+                elif begin + self.lower > first + self.upper:
+                    self.measure.miss((begin, place), "no response suits it and the first stimulus of its colour", due)
 
 
 TYPE = RowType(
@@ -122,7 +137,7 @@ TYPE = RowType(
         second `ask/1` finds the answer to the first, which came long before it. Give each request a colour of its own, 0 to 7, or
         take a Delay or a StrongDelay, where each request has its own answer.""",
     measures="latency: from each stimulus to the first response of its colour in the whole recording", each="each stimulus",
-    reason=reason, windows=windows, measuring=Reactions, instance=("stimulus", 0), words=16,
+    reason=reason, forget=forget, windows=windows, measuring=Reactions, instance=("stimulus", 0), words=16, pending=pending,
     example=("chain", "ask -> answer, 3 ms .. 8 ms",
              {"ask": "10/1 30/2 60/1", "answer": "15/1 36/2 66/1"}),
 )

@@ -7,7 +7,7 @@ from typing import TYPE_CHECKING, Iterator
 from ..fields import RowType
 from ..library import NO_LIMIT
 from ..measure import RowMeasuring, Taker, margin_of
-from ..reasons import Blamed, Case, Reason, Times, Window, gap, silent, until
+from ..reasons import Blamed, Case, Reason, Times, Window, drop_to_last, gap, silent, until
 
 if TYPE_CHECKING:
     from ..table import Row
@@ -28,6 +28,11 @@ def reason(case: Case) -> Reason | None:
     if upper != NO_LIMIT and first < len(times) and case.clock > times[first] + upper:
         return silent(case, Blamed(kind, first), times[first] + upper, f", at most {case.long(upper)} is asked")
     return None
+
+
+def forget(case: Case) -> None:
+    """Forgets all but the last span events."""
+    drop_to_last(case, "event", case.number("span"))
 
 
 def windows(row: Row, times: Times) -> Iterator[Window]:
@@ -54,12 +59,13 @@ class Spans(RowMeasuring):
     def take(self, time: int, place: int) -> None:
         if len(self.last) == self.span:
             value = time - self.last[0][0]
-            self.measure.add(value, time, place, margin_of(value, self.lower or 0, self.upper))
+            self.measure.add(value, time, place, margin_of(value, self.lower or 0, self.upper), self.last[0])
         self.last.append((time, place))
 
     def end(self, clock: int, closed: bool) -> None:
         if self.upper is not None and self.last and clock > self.last[0][0] + self.upper:
-            self.measure.miss(*self.last[0])
+            missing = "no event came after it" if self.span == 1 else f"fewer than {self.span} events came after it"
+            self.measure.miss(self.last[0], missing, self.last[0][0] + self.upper, clock)
 
 
 TYPE = RowType(
@@ -72,7 +78,7 @@ TYPE = RowType(
     manual="""from each event to the one span places after it it takes from lower to upper. A signal that falls silent breaks the
         row too, once upper is over.""",
     measures="distance over the span", each="each event span places after another",
-    reason=reason, windows=windows, measuring=Spans, instance=("event", "span"),
+    reason=reason, forget=forget, windows=windows, measuring=Spans, instance=("event", "span"),
     example=("repeat", "speed span 1, 9 ms .. 11 ms",
              {"speed": "5 15 24 34 46"}),
 )

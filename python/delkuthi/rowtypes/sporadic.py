@@ -6,39 +6,49 @@ from typing import TYPE_CHECKING, Iterator, Sequence
 from ..fields import RowType
 from ..library import NO_LIMIT
 from ..measure import HiddenPoints
-from ..reasons import Blamed, Case, Reason, Times, Window, gap, misplaced, plain, silent
+from ..reasons import Blamed, Case, Reason, Times, Window, drop_to_last, gap, misplaced, plain, silent
 
 if TYPE_CHECKING:
     from ..table import Row
 
 #: From when on, and up to when at the latest (``None``: however late), an event can come.
 Stretch = tuple[int, "int | None"]
+#: The first and the last place that a hidden point can have.
+Point = tuple[int, int]
 
 
-def _points(row: Row, times: Sequence[int]) -> Iterator[Stretch]:
-    """For each event the stretch in which it could come by those before it, and for the next one."""
+def _first_points(row: Row, times: Sequence[int], begin: Point | None = None) -> Iterator[tuple[Stretch, Point]]:
+    """For each event the stretch in which it could come by those before it, and the first and the last place of its point.
+    ``begin`` are the places of the first event's point, where there were events before it."""
     lower, upper, jitter, minimum = (row.number(name) for name in ("lower", "upper", "jitter", "minimum"))
-    apart = max(lower, 1)
-    first: int | None = None
-    last = 0
+    apart, first, last = max(lower, 1), 0, 0
     for index, time in enumerate(times):
-        if first is None:
-            yield 0, None
-            first, last = max(time - jitter, 0), time
+        if not index:
+            first, last = begin or (max(time - jitter, 0), time)
+            yield (0, None), (first, last)
             continue
         limit = None if upper == NO_LIMIT else last + upper
-        yield max(first + apart, times[index - 1] + minimum), None if limit is None else limit + jitter
+        stretch = max(first + apart, times[index - 1] + minimum), None if limit is None else limit + jitter
         first = max(first + apart, time - jitter)
         last = time if limit is None else min(limit, time)
-    if first is not None:
-        yield max(first + apart, times[-1] + minimum), None if upper == NO_LIMIT else last + upper + jitter
+        yield stretch, (first, last)
+
+
+def _points(row: Row, times: Sequence[int], begin: Point | None = None) -> Iterator[Stretch]:
+    """For each event the stretch in which it could come by those before it, and for the next one."""
+    lower, upper, jitter, minimum = (row.number(name) for name in ("lower", "upper", "jitter", "minimum"))
+    first = last = 0
+    for stretch, (first, last) in _first_points(row, times, begin):
+        yield stretch
+    if times:
+        yield max(first + max(lower, 1), times[-1] + minimum), None if upper == NO_LIMIT else last + upper + jitter
 
 
 def reason(case: Case) -> Reason | None:
     """The first event for which no point is left."""
     kind, minimum = case.number("event"), case.number("minimum")
     times = case.times("event")
-    allowed = list(_points(case.row, times))
+    allowed = list(_points(case.row, times, case.memory))
     for index, time in enumerate(times):
         one = Blamed(kind, index)
         if index and time - times[index - 1] < minimum:
@@ -52,6 +62,13 @@ def reason(case: Case) -> Reason | None:
         if last is not None and case.clock > last:
             return silent(case, Blamed(kind, len(times) - 1), last, "")
     return None
+
+
+def forget(case: Case) -> None:
+    """Forgets all but the last event, and remembers where its point can be."""
+    for _, case.memory in _first_points(case.row, case.times("event"), case.memory):
+        pass
+    drop_to_last(case, "event", 1)
 
 
 def windows(row: Row, times: Times) -> Iterator[Window]:
@@ -76,13 +93,20 @@ class Gaps(HiddenPoints):
         if not self.points:
             return None
         first, last = self.points[0]
-        begin, gap = first + self.apart, time - self.before[-1]
+        begin, gap = first + self.apart, time - self.before[-1][0]
         sides = [time - begin] if self.values["lower"] or time < begin else []
         if self.minimum:
             sides.append(gap - self.minimum)
         if self.upper is not None:
             sides += [last + self.upper + self.jitter - time, *([self.upper - self.apart] if self.upper < self.apart else [])]
         return min(sides, default=None)
+
+    def wrong(self, time: int) -> str:
+        if time - self.before[-1][0] < self.minimum:
+            return "gap shorter than minimum"
+        if self.upper is not None and self.upper < self.apart:
+            return "no moment is left for it"
+        return f"came too {'early' if time < self.points[0][0] + self.apart else 'late'} for the events before it"
 
     def step(self, time: int) -> None:
         if not self.points:
@@ -93,14 +117,10 @@ class Gaps(HiddenPoints):
         self.points.append((max(first + self.apart, time - self.jitter), later))
 
     def end(self, clock: int, closed: bool) -> None:
-        if self.upper is not None and self.points and clock > self.points[0][1] + self.upper + self.jitter:
-            self.measure.miss(self.before[-1], self.place)
-
-    place = 0
-
-    def take(self, time: int, place: int) -> None:
-        super().take(time, place)
-        self.place = place
+        if self.upper is not None and self.points:
+            due = self.points[0][1] + self.upper + self.jitter
+            if clock > due:
+                self.measure.miss(self.before[-1], "no event came after it", due, clock)
 
 
 TYPE = RowType(
@@ -114,7 +134,7 @@ TYPE = RowType(
     manual="""each event is 0 to jitter after a point of its own, and neighbouring points are lower to upper apart; neighbouring
         events are at least minimum apart. With lower = upper it is a periodic signal with jitter, whose clock may not wander.""",
     measures="gap to the event before", each="each event but the first",
-    reason=reason, windows=windows, measuring=Gaps, instance=("event", 1),
+    reason=reason, forget=forget, windows=windows, measuring=Gaps, instance=("event", 1),
     example=("sporadic", "camera, 20 ms .. 20 ms, jitter 5 ms, minimum 12 ms",
              {"camera": "7 25 48 65 93"}),
 )

@@ -1,11 +1,13 @@
 """StrongDelay: after each source its own target."""
 from __future__ import annotations
 
-from collections import deque
+from collections import Counter
 from typing import TYPE_CHECKING
 
+from ..beginnings import Beginning
 from ..fields import RowType
-from ..measure import WAITING, RowMeasuring, Taker, margin_of
+from ..fifo import Fifo
+from ..measure import Moment, RowMeasuring, Taker, margin_of
 from ..reasons import Blamed, Case, Reason, alone, plain, unanswered
 from .delay import windows
 
@@ -34,6 +36,19 @@ def reason(case: Case) -> Reason | None:
     return None
 
 
+def forget(case: Case) -> None:
+    """Forgets the pairs that are whole."""
+    sources, targets = case.of(case.number("source")), case.of(case.number("target"))
+    whole = min(len(sources), len(targets))
+    sources.drop(whole)
+    targets.drop(whole)
+
+
+def _began(row: Row, signal: int, since: int, taken: Counter[int], left: Counter[int]) -> str:
+    """A target may belong to a source before the log as long as that would not be too long ago, and no other target was taken."""
+    return "maybe" if signal == row.number("target") and not taken[signal] and since < row.number("upper") else ""
+
+
 class Pairs(RowMeasuring):
     """For the first source and the first target, the second and the second, and so on, the time between them."""
 
@@ -42,18 +57,16 @@ class Pairs(RowMeasuring):
     def __init__(self, row: Row):
         super().__init__(row)
         self.lower, self.upper = self.limits()
-        self.waiting: deque[tuple[int, int]] = deque()
-        #: Sources that are counted and not kept, behind those that are.
-        self.uncounted = 0
+        self.waiting = Fifo()
         #: A target whose source may still come at the same time.
-        self.early: tuple[int, int] | None = None
+        self.early: Moment | None = None
 
     def takers(self) -> dict[int, Taker]:
         return {self.values["source"]: self.take_source, self.values["target"]: self.take_target}
 
-    def _add(self, begin: int, time: int, place: int) -> None:
-        value, lower = time - begin, self.lower or 0
-        self.measure.add(value, time, place, self.margin(value, lower))
+    def _add(self, source: Moment, time: int, place: int) -> None:
+        value, lower = time - source[0], self.lower or 0
+        self.measure.add(value, time, place, self.margin(value, lower), source)
 
     def margin(self, value: int, lower: int) -> int | None:
         return margin_of(value, lower, self.upper)
@@ -61,42 +74,37 @@ class Pairs(RowMeasuring):
     def _settle(self, time: int) -> None:
         """A target that had no source up to its time has none."""
         if self.early is not None and self.early[0] < time:
-            self.measure.miss(*self.early)
+            self.measure.miss(self.early, "no source came before it")
             self.early = None
 
     def take_source(self, time: int, place: int) -> None:
         self._settle(time)
         if self.early is not None:
-            self._add(time, *self.early)
+            self._add((time, place), *self.early)
             self.early = None
             return
-        while self.upper is not None and self.waiting and time > self.waiting[0][0] + self.upper:
-            self.measure.miss(*self.waiting.popleft())
-        if self.uncounted or len(self.waiting) >= WAITING:
-            self.uncounted += 1
-        else:
-            self.waiting.append((time, place))
+        while self._over(time):
+            self._miss(time)
+        self.waiting.append(time, place)
+
+    def _over(self, time: int) -> bool:
+        return self.upper is not None and len(self.waiting) > 0 and time > self.waiting.first[0] + self.upper
+
+    def _miss(self, now: int) -> None:
+        source = self.waiting.pop()
+        self.measure.miss(source, "no target came for it", None if self.upper is None else source[0] + self.upper, now)
 
     def take_target(self, time: int, place: int) -> None:
         self._settle(time)
         if self.waiting:
-            self._add(self.waiting.popleft()[0], time, place)
-        elif self.uncounted:
-            self.uncounted -= 1
-            self.measure.judged += 1
+            self._add(self.waiting.pop(), time, place)
         else:
             self.early = time, place
 
     def end(self, clock: int, closed: bool) -> None:
-        self._settle(clock + closed)
-        if self.early is not None and self.lower:
-            self.measure.miss(*self.early)
-        over = self.waiting if closed else [one for one in self.waiting if self.upper is not None and clock > one[0] + self.upper]
-        for one in over:
-            self.measure.miss(*one)
-        if closed and self.uncounted:
-            self.measure.judged += self.uncounted
-            self.measure.missing += self.uncounted
+        self._settle(clock + (1 if closed or self.lower else 0))
+        while self.waiting and (closed or self._over(clock)):
+            self._miss(clock)
 
 
 TYPE = RowType(
@@ -108,7 +116,8 @@ TYPE = RowType(
     manual="""the first target belongs to the first source, the second to the second, and so on, each from lower to upper after
         its source. A target too early, or one too many, breaks the row at once.""",
     measures="latency: from the first source to the first target, the second to the second, and so on", each="each pair",
-    reason=reason, windows=windows, measuring=Pairs, instance=("source", 0), waits=True,
+    reason=reason, forget=forget, windows=windows, measuring=Pairs, instance=("source", 0), waits=True,
+    beginning=Beginning(_began),
     example=("strong delay", "request -> reply, 5 ms .. 20 ms",
              {"request": "10 14 50", "reply": "20 30 53"}),
 )

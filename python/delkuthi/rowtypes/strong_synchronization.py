@@ -1,9 +1,10 @@
 """StrongSynchronization: the events of all kinds in groups within tolerance."""
 from __future__ import annotations
 
-from collections import deque
+from collections import Counter, deque
 from typing import TYPE_CHECKING, Iterator
 
+from ..beginnings import Beginning
 from ..fields import RowType
 from ..measure import WAITING, RowMeasuring, Taker
 from ..reasons import Blamed, Case, Reason, Times, Window
@@ -41,6 +42,13 @@ def _incomplete(case: Case, first: Blamed, lacking: list[Blamed], due: int) -> R
     return Reason(say, (first, *lacking), tuple(lacking), tuple(one.signal for one in lacking))
 
 
+def forget(case: Case) -> None:
+    """Forgets the groups that are complete."""
+    complete = min(len(case.of(kind)) for kind in case.row.kinds)
+    for kind in case.row.kinds:
+        case.of(kind).drop(complete)
+
+
 def windows(row: Row, times: Times) -> Iterator[Window]:
     """For each group the stretch within which all its kinds have to come."""
     groups = [times.get(kind, ()) for kind in row.kinds]
@@ -48,6 +56,17 @@ def windows(row: Row, times: Times) -> Iterator[Window]:
         first = min(group[index] for group in groups if index < len(group))
         for kind in row.kinds:
             yield Window(kind, first, first + row.number("tolerance"))
+
+
+def _began(row: Row, signal: int, since: int, taken: Counter[int], left: Counter[int]) -> str:
+    """The first events of a kind may belong to groups before the log, for less than tolerance; of one kind at least each is there."""
+    others = any(not left[kind] for kind in row.kinds if kind != signal)
+    return "maybe" if not taken[signal] and since < row.number("tolerance") and others else ""
+
+
+def _groups(left: Counter[int]) -> int:
+    """The groups of which events are left out."""
+    return max(left.values(), default=0)
 
 
 class Groups(RowMeasuring):
@@ -72,21 +91,25 @@ class Groups(RowMeasuring):
         return lambda time, place: self.take(kind, time, place)
 
     def take(self, kind: int, time: int, place: int) -> None:
-        for begin, _, seen in self.waiting:
+        for begin, first, seen in self.waiting:
             if kind not in seen:
                 seen.add(kind)
                 if len(seen) == len(self.kinds):
                     self.waiting.popleft()
-                    self.measure.add(time - begin, time, place, self.tolerance - (time - begin))
+                    self.measure.add(time - begin, time, place, self.tolerance - (time - begin), (begin, first))
                 return
         while self.waiting and time > self.waiting[0][0] + self.tolerance or len(self.waiting) >= WAITING:
-            self.measure.miss(*self.waiting.popleft()[:2])
+            self._miss(*self.waiting.popleft(), time)
         self.waiting.append((time, place, {kind}))
 
+    def _miss(self, begin: int, place: int, seen: set[int], now: int) -> None:
+        lacking = len(self.kinds) - len(seen)
+        self.measure.miss((begin, place), f"{lacking} of its {len(self.kinds)} events did not come", begin + self.tolerance, now)
+
     def end(self, clock: int, closed: bool) -> None:
-        for begin, place, _ in self.waiting:
+        for begin, place, seen in self.waiting:
             if closed or clock > begin + self.tolerance:
-                self.measure.miss(begin, place)
+                self._miss(begin, place, seen, clock)
 
 
 TYPE = RowType(
@@ -98,7 +121,8 @@ TYPE = RowType(
     manual="""the first events of all the kinds are at most tolerance apart, and so are the second, the third, and so on. A group
         that lacks a kind breaks the row once tolerance is over.""",
     measures="width: from the first event of a group to the last", each="each group",
-    reason=reason, windows=windows, measuring=Groups, instance=("kinds", 0), waits=True,
+    reason=reason, forget=forget, windows=windows, measuring=Groups, instance=("kinds", 0), waits=True,
+    beginning=Beginning(_began, _groups),
     example=("together", "front rear mirror, tolerance 5 ms",
              {"front": "10 50", "rear": "12 60", "mirror": "14 52"}),
 )

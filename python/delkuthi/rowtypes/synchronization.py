@@ -5,6 +5,7 @@ from bisect import bisect_left
 from collections import deque
 from typing import TYPE_CHECKING, Iterator, Sequence
 
+from ..beginnings import Beginning
 from ..fields import RowType
 from ..measure import WAITING, RowMeasuring, Taker
 from ..reasons import Blamed, Case, Reason, Times, Window
@@ -28,13 +29,41 @@ def _window(full: Sequence[int], time: int, tolerance: int) -> int | None:
     return full[place] if place < len(full) and full[place] <= time else None
 
 
+def _alone(case: Case) -> list[tuple[int, int, int]]:
+    """The events that lie in no full window, each with its time, its kind and its number. What is not known or forgotten may have
+    made a window full for those that came less than tolerance after it."""
+    tolerance = case.number("tolerance")
+    groups = [case.of(kind).times for kind in case.row.kinds]
+    full, known = _full(groups, tolerance), 0 if case.begin is None else case.begin + tolerance
+    return [(time, kind, number) for kind, times in zip(case.row.kinds, groups) for number, time in enumerate(times)
+            if time >= known and _window(full, time, tolerance) is None]
+
+
+def _lone(case: Case, until: int) -> int:
+    """The events before a time that lie in no full window."""
+    return sum(time < until for time, _, _ in _alone(case))
+
+
+def pending(case: Case) -> int:
+    """The events that lie in no full window yet."""
+    return len(_alone(case))
+
+
+def forget(case: Case) -> None:
+    """Forgets the events that are in no window with one that could still be blamed."""
+    begin = case.clock - 2 * case.number("tolerance")
+    if case.begin is None or begin > case.begin:
+        case.begin = begin
+        for kind in case.row.kinds:
+            events = case.of(kind)
+            events.drop(bisect_left(events.times, begin))
+
+
 def reason(case: Case) -> Reason | None:
     """The oldest event that lies in no full window: what was missing from it on, and by when."""
     kinds, tolerance = case.row.kinds, case.number("tolerance")
     groups = [case.of(kind).times for kind in kinds]
-    full = _full(groups, tolerance)
-    alone = [(time, kind, number) for kind, times in zip(kinds, groups) for number, time in enumerate(times)
-             if _window(full, time, tolerance) is None]
+    alone = _alone(case)
     if not alone:
         return None
     first, kind, number = min(alone)
@@ -102,7 +131,7 @@ class Widths(RowMeasuring):
         self._settle(time)
         self.last[kind] = time
         if len(self.open) >= WAITING:
-            self._close(*self.open.popleft())
+            self._close(*self.open.popleft(), time)
         self.open.append((time, place, None))
         begin = min(self.last.values()) if len(self.last) == len(self.kinds) else None
         if begin is not None and time - begin <= self.tolerance:
@@ -115,18 +144,20 @@ class Widths(RowMeasuring):
     def _settle(self, time: int) -> None:
         """No stretch that ends at this time or later is shorter than what the oldest events have, or is short enough for them."""
         while self.open and time - self.open[0][0] >= (self.tolerance + 1 if self.open[0][2] is None else self.open[0][2]):
-            self._close(*self.open.popleft())
+            self._close(*self.open.popleft(), time)
 
-    def _close(self, time: int, place: int, width: int | None) -> None:
+    def _close(self, time: int, place: int, width: int | None, now: int) -> None:
+        if width is None and self.begin is not None and time < self.begin + self.tolerance:
+            return  # what came before the log may have been there for it
         if width is None:
-            self.measure.miss(time, place)
+            self.measure.miss((time, place), "no stretch of tolerance around it has every kind", time + self.tolerance, now)
         else:
             self.measure.add(width, time, place, self.tolerance - width)
 
     def end(self, clock: int, closed: bool) -> None:
         for time, place, width in self.open:
             if width is not None or closed or clock > time + self.tolerance:
-                self._close(time, place, width)
+                self._close(time, place, width, clock)
 
 
 TYPE = RowType(
@@ -142,7 +173,8 @@ TYPE = RowType(
         which a kind is missing breaks the row once tolerance is over.""",
     measures="width of the shortest stretch with an event of every kind that the event lies in; the greatest is the least tolerance that "
              "would do", each="each event",
-    reason=reason, windows=windows, measuring=Widths, instance=("kinds", 0), edition=2,
+    reason=reason, forget=forget, windows=windows, measuring=Widths, instance=("kinds", 0), edition=2, pending=pending,
+    beginning=Beginning(lone=_lone),
     example=("fusion", "radar lidar video, tolerance 5 ms",
              {"radar": "10 13 50", "lidar": "12 62", "video": "14 52"}),
 )

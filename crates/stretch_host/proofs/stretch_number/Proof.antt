@@ -1,9 +1,9 @@
--- The number is that of the stretch, or that of the refusal, which is above 0, and its place.
+-- The number is that of the stretch, or that of the refusal, which is from 1 to 127, and its place.
 use Rattle.constraint.proofs.Judged.{never}
 use Rattle.constraint.proofs.Library.{_<_, _≡_, arith, needs, now, refl, ℕ}
 use Rattle.constraint.specs.{Stretches.AnswersStretchUpTo, declared.StretchAnswer.StretchAnswer}
 use Rattle.queue.proofs.Shared.{free}
-use Rattle.stretch_host.proofs.{StretchNumbers.stretch-above, stretch_number.Statement.statement}
+use Rattle.stretch_host.proofs.{StretchNumbers.stretch-short, stretch_number.Statement.statement}
 use Rattle.stretch_host.proofs.stretch_number.Tie as tie
 
 -- the number of a refusal is small
@@ -43,7 +43,7 @@ returns-2 c =
       answer = StretchAnswer.Refused (given .0 .0) (given .0 .1 .0);
       answers = says;
       equals = omega (arith, c .place-number .ensures);
-      small = λ n place e. refusal-small (given .0 .0) (given .0 .1 .0) n place (stretch-above _ _ _ _ _ says) (omega arith) e;
+      small = λ n place e. refusal-small (given .0 .0) (given .0 .1 .0) n place (stretch-short _ _ _ _ _ says .0) (omega arith) e;
       parts = λ first size tried e. never (cc);
     }
 

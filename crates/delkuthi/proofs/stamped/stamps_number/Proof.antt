@@ -1,6 +1,6 @@
--- The number is that of the word, or that of the refusal, which is above 0, and its place.
+-- The number is that of the word, or that of the refusal, which is from 1 to 127, and its place.
 use Rattle.delkuthi.proofs.Names.{AnswersStampsUpTo, StampedAnswer, _<_, _≡_, arith, free, needs, never, now, ℕ}
-use Rattle.delkuthi.proofs.{RecordNumbers.stamped-above, stamped.stamps_number.Statement.statement}
+use Rattle.delkuthi.proofs.{RecordNumbers.stamped-short, stamped.stamps_number.Statement.statement}
 use Rattle.delkuthi.proofs.stamped.stamps_number.Tie as tie
 
 -- the number of a refusal is small
@@ -28,7 +28,7 @@ returns-2 c =
       answer = StampedAnswer.Refused (given .0 .0) (given .0 .1 .0);
       answers = says;
       equals = omega (arith, c .place-number .ensures);
-      small = λ n place e. refusal-small (given .0 .0) (given .0 .1 .0) n place (stamped-above _ _ _ _ _ _ says) (omega arith) e;
+      small = λ n place e. refusal-small (given .0 .0) (given .0 .1 .0) n place (stamped-short _ _ _ _ _ _ says .0) (omega arith) e;
     }
 
 pub stamps-number-spec : {M : Type 1} → statement M

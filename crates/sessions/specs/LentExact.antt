@@ -1,59 +1,24 @@
--- The promise of the exported calls on lent memory, over whole lists of them (§11.2).
+-- The promise of the exported calls on lent memory in which a table was accepted, over whole lists of them (§11.2).
 use Prim.Native.Nat.{ℕ, _<_}
 use mathlib.Core.Path.{_≡_}
 use mathlib.Core.List.{List, [], _∷_, _++_, map}
-use mathlib.Core.Option.{Option}
-use lib.ListN.{length}
 use Rattle.constraint.specs.Steps.{Step, close}
 use Rattle.constraint.specs.Run.{Request, Left, noneLeft, Run}
-use Rattle.constraint.specs.Promise.{ReadsRow}
 use Rattle.constraint.specs.Table.{ReadsTableUpTo, table-of, table-refused}
 use Rattle.constraint.specs.Recording.{ReadsRecording, recording-of, recording-refused}
-use Rattle.constraint.specs.Page.{Pages}
 use Rattle.constraint.specs.Report.{ReportsUpTo}
 use Rattle.constraint.specs.declared.Constraint.{Constraint}
-use Rattle.constraint.specs.declared.Verdict.{Verdict}
-use Rattle.monitor.specs.Contract.{stepIn}
-use Rattle.lent.specs.Layout.{Words}
-use Rattle.lent.specs.Contract.{answerFrom, Takes, ReadOff}
-use Rattle.fresh.specs.Fresh.{BeginsUpTo}
+use Rattle.lent.specs.Layout.{Lent, wordsOf}
+use Rattle.lent.specs.Steps.{leaves}
+use Rattle.lent.specs.Contract.{answerFrom, ReadOff}
+use Rattle.fresh.specs.Fresh.{BeginsUpTo, freshLent}
+use Rattle.delkuthi.specs.Host.{Memory, Host, Untouched}
 use Rattle.delkuthi.specs.Taking.{StepsBefore}
-use Rattle.delkuthi.specs.Lent.{wordOf, WordOfVerdict, StepOfVerdict, NumberOfRows}
-use Rattle.delkuthi.specs.Printed.{WritesPage}
-use Rattle.delkuthi.specs.Reporting.{ReportsOnUpTo, ReportsSteps, ReportsOf}
+use Rattle.delkuthi.specs.Reporting.{ReportsOnUpTo, ReportsOf}
+use Rattle.sessions.specs.Readers.{ReadsAs}
+use Rattle.sessions.specs.Monitors.{Monitors}
 
--- ---- the memory
-
--- what a host lends to the calls
-abbrev pub Memory : Type 0
-Memory = Words
-
--- ---- a host's calls
-
--- one after the other, from the memory before to the memory after, and the numbers that they answer: each known by its contract alone
-pub data Host : Memory → List Request → List ℕ → Memory → Type 0 where
-  over : {h : Memory} → Host h [] [] h
-  asked : {h mid end : Memory} {requests : List Request} {numbers : List ℕ} (r : Request) (number : ℕ)
-      → Takes h r number mid → Host mid requests numbers end → Host h (r ∷ requests) (number ∷ numbers) end
-
--- §9.2: each of them that is refused leaves the memory as it was
-abbrev pub Untouched : {h end : Memory} {requests : List Request} {numbers : List ℕ} → Host h requests numbers end → Type 0
-Untouched over = Unit {0}
-Untouched (asked {h = h} {mid = mid} r number takes rest) = (0 < number → mid ≡ h) × Untouched rest
-
--- ---- what is read then
-
--- what the exported readers answer is what the rows read after these steps: the word and the step of each row number, the number of rows, the page,
--- and the report
-pub record ReadsAs (h : Memory) (rows : List Constraint) (steps : List Step) : Type 0 where
-  pub verdicts : (i : ℕ) → (v : Option Verdict) × ReadsRow rows steps i v
-      × ((word : ℕ) → ReadOff h (λ m. WordOfVerdict m i) word → word ≡ wordOf v)
-      × ((step : ℕ) → ReadOff h (λ m. StepOfVerdict m i) step → step ≡ stepIn v)
-  pub counted : (number : ℕ) → ReadOff h NumberOfRows number → number ≡ length rows
-  pub paged : (buffer : List ℕ) (number : ℕ) (written : List ℕ) → ReadOff h (λ m answer. WritesPage m buffer answer written) number
-      → Pages rows steps buffer number written
-  pub reported : (buffer : List ℕ) (number : ℕ) (written : List ℕ) → ReadOff h (λ m answer. ReportsOf m buffer answer written) number
-      → ReportsSteps rows steps buffer number written
+-- ---- a report on the memory
 
 -- after a recording: its steps and the close, or the steps before the record that was refused
 pub data ReadsRecorded (h : Memory) (rows : List Constraint) (recording : List ℕ) : Type 0 where
@@ -69,12 +34,20 @@ pub record Reported (newest : ℕ) (before : Memory) (table recording buffer : L
   pub refused : (n place : ℕ) → ReadsTableUpTo newest table (table-refused n place) → h ≡ before
   pub used : (rows : List Constraint) → ReadsTableUpTo newest table (table-of rows) → ReadsRecorded h rows recording
 
+-- ---- every word
+
+-- what a list of calls and withdrawals leaves of a lent monitor
+unfoldable pub leavesAll : Lent → List Request → Lent
+leavesAll h [] = h
+leavesAll h (r ∷ requests) = leavesAll (leaves h r) requests
+
 -- ---- the promise
 
 -- §3.6, §3.8 and §3.13 for the exported calls, over a table's bytes and any list of calls and withdrawals: the numbers are the answers of the
--- questions, a refused call leaves the memory as it was, and the readers answer what the rows read after the steps that are left. After the
--- list the report of the monitor is that of the table and a recording of the steps that are left, a report on the memory is as §7.22 says, and a
--- `delkuthi_fresh` that is refused leaves the memory as it was: these two of every newest edition, and the others of the one that the first call had
+-- questions, a refused call leaves the memory as it was, each word is known, and the memory monitors the table's rows after the steps that are left.
+-- After the list the report of the monitor is that of the table and a recording of the steps that are left, a report on the memory is as §7.22 says,
+-- and a `delkuthi_fresh` that is refused leaves the memory as it was: these two of every newest edition, and the others of the one that the first
+-- call had
 pub record LentExactUpTo (newest : ℕ) (bytes : List ℕ) {h end : Memory} {requests : List Request} {numbers : List ℕ}
     (host : Host h requests numbers end) : Type 0 where
   pub rows : List Constraint
@@ -82,7 +55,8 @@ pub record LentExactUpTo (newest : ℕ) (bytes : List ℕ) {h end : Memory} {req
   pub left : Left
   pub run : Run rows noneLeft requests (map answerFrom numbers) left
   pub untouched : Untouched host
-  pub reads : ReadsAs end rows (left .steps)
+  pub words : end ≡ wordsOf (leavesAll (freshLent rows) requests)
+  pub monitors : Monitors end rows left
   pub recorded : (recording : List ℕ) (steps : List Step) → ReadsRecording rows recording (recording-of steps) → left .steps ≡ steps ++ (close ∷ [])
       → (buffer : List ℕ) (number : ℕ) (written : List ℕ) → ReadOff end (λ m answer. ReportsOf m buffer answer written) number
       → ReportsUpTo newest bytes recording buffer number written

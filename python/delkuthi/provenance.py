@@ -1,0 +1,80 @@
+"""What a page was made from: when, by which command and versions, of which files, and what the user notes beside."""
+from __future__ import annotations
+
+import hashlib
+import os
+import platform
+import shlex
+import sys
+from dataclasses import dataclass
+from datetime import datetime, timezone
+from pathlib import Path
+from typing import Iterable, Sequence
+
+from .library import VERSION, library_version
+from .readers.base import LogError
+from .readers.standard_input import NAME, kept
+from .table import Table
+
+#: Other packages that a log may be read by, with the names that people know them by.
+_PACKAGES = {"can": "python-can", "canmatrix": "canmatrix", "openpyxl": "openpyxl"}
+
+
+@dataclass(frozen=True)
+class File:
+    """A file that was read: what it is for, its name, its size in bytes and its SHA-256; these are ``None`` where it cannot be read."""
+
+    what: str
+    name: str
+    size: int | None
+    digest: str | None
+
+
+@dataclass(frozen=True)
+class Provenance:
+    """When a page was made, by which command line, of which files, with which versions, and the user's notes."""
+
+    date: str
+    command: str
+    files: tuple[File, ...]
+    versions: str
+    notes: tuple[tuple[str, str], ...]
+
+
+def provenance(table: Table, table_name: str, logs: Iterable[str | tuple[str, ...]], words: Sequence[str],
+               notes: Iterable[tuple[str, str]] = ()) -> Provenance:
+    """The provenance of a check of these logs by the command of these words."""
+    files = [_file("Table", table_name, table_name)]
+    files += [_file("Signals", Path(path).name, path) for path in table.database_paths]
+    names = [name for log in logs for name in ([log] if isinstance(log, str) else log)]
+    files += [_file("Log", "standard input" if name == NAME else name, kept() if name == NAME else name) for name in dict.fromkeys(names)]
+    return Provenance(_date(), shlex.join(["delkuthi", *words]), tuple(files), _versions(), tuple(notes))
+
+
+def _file(what: str, name: str, path: str) -> File:
+    """A file with its digest; what is no plain file could not be read twice, and has none."""
+    try:
+        if os.path.isfile(path):
+            with open(path, "rb") as file:
+                return File(what, name, os.fstat(file.fileno()).st_size, hashlib.file_digest(file, "sha256").hexdigest())
+    except OSError:
+        pass
+    return File(what, name, None, None)
+
+
+def _date() -> str:
+    """Now, or the time that ``SOURCE_DATE_EPOCH`` says, in UTC."""
+    given = os.environ.get("SOURCE_DATE_EPOCH")
+    try:
+        moment = datetime.now(timezone.utc) if given is None else datetime.fromtimestamp(int(given), timezone.utc)
+    except (ValueError, OverflowError, OSError):
+        raise LogError("SOURCE_DATE_EPOCH", "", f"expected seconds since 1970, found {given}") from None
+    return moment.strftime("%Y-%m-%d %H:%M:%S UTC")
+
+
+def _versions() -> str:
+    """This package, the library, Python, and the packages that logs were read by."""
+    found = [f"Delkuthi {VERSION}", f"library {library_version()}", f"Python {platform.python_version()}"]
+    found += [f"{name} {getattr(sys.modules[module], '__version__', 'of unknown version')}"
+              for module, name in _PACKAGES.items() if module in sys.modules]
+    return ", ".join(found)

@@ -1,0 +1,50 @@
+"""Templates of HTML: parts of a file, filled with values. Every value is escaped, unless it was made by a template itself."""
+from __future__ import annotations
+
+import re
+from functools import lru_cache
+from html import escape
+from pathlib import Path
+from string import Template
+from typing import Iterable, Union
+
+_FOLDER = Path(__file__).parent / "page"
+_PART = re.compile(r"^<!-- part (\w+) -->\n", re.MULTILINE)
+
+
+class Markup(str):
+    """Text that is HTML already."""
+
+
+#: What a template can be filled with.
+Value = Union[str, int, Iterable[Markup]]
+
+
+def joined(parts: Iterable[Markup]) -> Markup:
+    """Several pieces of HTML, one behind the other."""
+    return Markup("".join(parts))
+
+
+def fill(part: str, **values: Value) -> Markup:
+    """The part of this name, with a value for each of its names."""
+    return Markup(_parts()[part].substitute({name: _html(value) for name, value in values.items()}))
+
+
+def file_text(name: str) -> Markup:
+    """A style or a script of the page's folder, for its element of the page."""
+    return Markup((_FOLDER / name).read_text(encoding="utf-8"))
+
+
+def _html(value: Value) -> str:
+    if isinstance(value, Markup):
+        return value
+    if isinstance(value, str):
+        return escape(value)
+    return str(value) if isinstance(value, int) else joined(value)
+
+
+@lru_cache(maxsize=None)
+def _parts() -> dict[str, Template]:
+    """The parts of the page, by their names."""
+    _, *found = _PART.split((_FOLDER / "page.html").read_text(encoding="utf-8"))
+    return {name: Template(text.rstrip("\n")) for name, text in zip(found[::2], found[1::2])}

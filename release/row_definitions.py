@@ -490,6 +490,19 @@ def examples_hold():
     return "".join(law(place, *one) for place, one in enumerate(example_lists(), 1))
 
 
+def reading_rows():
+    """The rows of the guide for the types of later editions: definition, examples, what is shown of it, exactness and function."""
+    def row(row_type):
+        laws = [name for path in ROOT.glob(f"crates/*/proofs/Laws/{row_type.name}.antt")
+                for name in re.findall(rf"^pub (exact{row_type.name}\d?) :", path.read_text(encoding="utf-8"), re.M)]
+        laws += re.findall(r"^pub (?!lawful)(\S+) :", text_of(f"crates/constraint/proofs/Types/{row_type.name}.antt"), re.M)
+        lists = [name for clauses, name in example_lists() if re.match(rf"§5\.{row_type.number}\b", clauses)]
+        cells = [f"Meets{row_type.name}", *lists], [*laws, *(f"{name}-hold" for name in lists)], [f"{snake(row_type)}::apply"]
+        return f"| §5.{row_type.number} | {' | '.join(', '.join(f'[`{name}`]' for name in cell) for cell in cells)} |\n"
+
+    return "".join(row(row_type) for row_type in TYPES if edition(row_type) > 1)
+
+
 def type_crates():
     """The crates that have a type's machine or laws."""
     found = [path for row_type in TYPES for place in ("specs", "proofs/Laws") for path in ROOT.glob(f"crates/*/{place}/{row_type.name}.antt")]
@@ -562,6 +575,7 @@ PARTS += (
     ("crates/status/proofs/Coloured.antt", DECLARED.replace("·specs.specs", ".specs"), "use Rattle.constraint.proofs.",
      lambda: variant_names("Rattle.constraint.specs")),
     ("crates/status/proofs/Coloured.antt", f"  unfolding KindsSuit waiting\n  {ARMS}", "\n-- ----", coloured_waits),
+    ("docs/READING.md", "[`repetitions-hold`] | [`repetition::apply`] |\n", "\n## 6 What waits\n", reading_rows),
     *((f"crates/{crate}/{path}", "", "", partial(modules, f"crates/{crate}/{path}", f"crates/{crate}/{folder}"))
       for crate in type_crates() for path, folder in MODULES.items()),
 )

@@ -153,7 +153,7 @@ def main():
     if len(sys.argv) != 2 + links:
         sys.exit("trace.py [--links] FILE")
     table, missing = trace((lambda found: with_links(found, file.parent)) if links else with_crates)
-    opening = (f"# From each promise to what stands behind it: Delkuthi {read('VERSION').strip()}\n\n"
+    opening = (f"# From each promise to its evidence: Delkuthi {read('VERSION').strip()}\n\n"
                "A program makes this page from the contract, the sources and the tests. " + ("" if links else
                "A name in `this form` is declared in the\nsources of the crate in brackets after it. ") +
                "If a cell is empty, the other cells say it all. A test is\nnamed by its folder and file below `host`.\n\n")

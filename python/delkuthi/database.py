@@ -46,11 +46,22 @@ class Database:
     def __init__(self, path: str):
         self.path = path
         self._signals: dict[str, list[tuple[Any, Any]]] = {}
+        self._frames: dict[str, set[tuple[int, bool]]] = {}
         for matrix in _matrices(path):
             for frame in matrix.frames:
+                self._frames.setdefault(frame.name, set()).add((frame.arbitration_id.id, bool(frame.arbitration_id.extended)))
                 for signal in frame.signals:
                     for name in (f"{frame.name}.{signal.name}", signal.name):
                         self._signals.setdefault(name, []).append((frame, signal))
+
+    def frame(self, name: str) -> tuple[int, bool] | None:
+        """The identifier of a frame, and whether it is an extended one; ``None`` if there is not one such frame."""
+        found = self._frames.get(name, set())
+        return next(iter(found)) if len(found) == 1 else None
+
+    def frames_with(self, signal: str) -> list[str]:
+        """The names of the frames that have a signal."""
+        return sorted({frame.name for frame, _ in self._signals.get(signal, [])})
 
     def layout(self, name: str) -> SignalLayout:
         """Where a signal stands; :class:`DatabaseError` if it is unknown, or in several frames."""

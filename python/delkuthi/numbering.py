@@ -5,7 +5,7 @@ from dataclasses import replace
 from typing import Iterator
 
 from .library import FIRST_COLOURED, LAST_KIND
-from .signals import FURTHER, is_coloured
+from .signals import FIRST_EXTRA_KIND, is_coloured
 from .sources import TaskSource
 from .rows import Event, Executed, Row
 
@@ -33,7 +33,7 @@ def _free(taken: set[int], coloured: bool) -> Iterator[int]:
     yield from (kind for kind in range(LAST_KIND + 1) if is_coloured(kind) == coloured and kind not in taken)
     if coloured:
         raise TooMany(f"more than {LAST_KIND + 1 - FIRST_COLOURED} events with colours")
-    kind = FURTHER
+    kind = FIRST_EXTRA_KIND
     while True:
         yield kind
         kind += 1

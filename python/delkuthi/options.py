@@ -7,6 +7,7 @@ import difflib
 import re
 from typing import Iterable
 
+from .autosar import is_arxml, take_over
 from .logs import LogError, Policy
 from .readers.base import ending
 from .scope import Edge, Scope
@@ -66,6 +67,15 @@ def add_edges(parser: argparse.ArgumentParser) -> None:
 def add_databases(parser: argparse.ArgumentParser) -> None:
     """The option that every command on frames has."""
     parser.add_argument("--dbc", metavar="FILE", action="append", default=[], help="signals by name: a DBC or ARXML file, by canmatrix")
+    add_timing(parser)
+    parser.add_argument("--unit", choices=list(UNITS), help="the unit of a table that is an ARXML file (ns)")
+
+
+def add_timing(parser: argparse.ArgumentParser) -> None:
+    """The options of a table that is an ARXML file."""
+    group = parser.add_argument_group("where the table is an ARXML file with AUTOSAR timing requirements")
+    group.add_argument("--events", metavar="FILE", help="lines event NAME from .. for events of which the file does not say how a log has them")
+    group.add_argument("--guarantees", action="store_true", help="take its timing guarantees too")
 
 
 def _encoding(text: str) -> str:
@@ -82,11 +92,26 @@ def _format(text: str) -> str:
 
 
 def read_table(given: argparse.Namespace, recorded: bool = False) -> Table:
-    """The table, with the files of signals that the options name. What is recorded can only have the library's own kinds."""
-    table = Table.read(given.table).with_databases(given.dbc)
+    """The table, with the files of signals that the options name. What is recorded can only have the library's own kinds. The table of an
+    ARXML file counts in ns, as a log's stamps are finer than what is asked of them."""
+    table = (timing_table(given, given.unit or "ns") if is_arxml(given.table) else _plain_table(given)).with_databases(given.dbc)
     if recorded and not table.recordable:
         raise LogError(str(given.table), "", "a recording has at most 48 events, and 16 with colours")
     return table
+
+
+def _plain_table(given: argparse.Namespace) -> Table:
+    """A table of text or bytes, which says itself where its events come from."""
+    for name, option in (("--events", given.events), ("--guarantees", given.guarantees), ("--unit", given.unit)):
+        if option:
+            raise LogError(name, "", f"only where the table is an ARXML file; {given.table} is none")
+    return Table.read(given.table)
+
+
+def timing_table(given: argparse.Namespace, unit: str | None) -> Table:
+    """The table of an ARXML file; what became of each constraint is noted for the outputs."""
+    given.takeover = take_over(given.table, given.events, given.guarantees, getattr(given, "dbc", ()))
+    return given.takeover.table(unit)
 
 
 def refuse_windows(table: Table, file: str, rows: Iterable[int], what: str) -> None:

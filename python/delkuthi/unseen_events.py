@@ -14,17 +14,22 @@ def warnings(table: Table, log: Log, seen: Iterable[int | None]) -> list[str]:
     """A line for each event of the table's rows and their windows that is not among the signals that were seen."""
     kinds = {parts(number)[0] for number in seen if number is not None}
     named = {event.kind: event for event in table.events}
+    names = {table.event_name(kind) for kind in kinds}
     lines = [] if table.rows else [f"{log.path}: the table has no rows, so nothing is checked"]
     for kind in sorted({kind for row in table.rows for kind in (*row.kinds, *(row.window or ()))} - kinds):
+        if table.event_name(kind) in names:
+            continue  # another lane of the same event
         why = _why(named[kind], log) if kind in named else ""
         lines.append(f"{log.path}: the log has no {table.event_name(kind)}{why and f': {why}'}")
-    return lines
+    return list(dict.fromkeys(lines))
 
 
 def _why(event: Event, log: Log) -> str:
     """What the log has in its place."""
     found = [_of_frames(source, log) if log.reader.reads_frames else _of_columns(source, log) for source in event.sources]
     reasons = [why for why in dict.fromkeys(found) if why]
+    if not event.sources and (log.reader.reads_frames or log.reader.targets):
+        return "the table does not say what it is in such a log (from ..)"
     if not log.reader.reads_frames and not reasons:
         wanted = [event.name, *(source.text for source in event.sources if isinstance(source, CsvSource))]
         near = [name for name in (nearest(one, log.reader.others, 0.75) for one in wanted) if name]

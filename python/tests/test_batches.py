@@ -10,7 +10,7 @@ import pytest
 from delkuthi import Row, Table, batches, monitors
 from delkuthi.check import check
 from delkuthi.logs import Log, LogError, Policy
-from delkuthi.measure import measure
+from delkuthi.measure import Measuring, measure
 from delkuthi.monitors import Monitors, monitor_of
 from delkuthi.readers import READERS, Reader
 from delkuthi.rowtypes import TYPES
@@ -330,3 +330,29 @@ def test_a_step_that_one_monitor_refuses_is_taken_by_none():
         monitor.take(2, 64)
     assert ([str(verdict) for verdict in monitor.verdicts], monitor.steps) == before
     monitor.take(0, 64)
+
+
+def test_measures_of_many_steps():
+    """Events taken many at a time, cut anywhere, measure what they measure one by one: regular ones, and some with faults among them."""
+    rng, regular = random.Random(21), 0
+    for number in range(300):
+        rows = [random_row(rng, rng.choice(TYPES)) for _ in range(2)]
+        rows += [Row.of(name, source=0, target=1, lower=rng.choice([0, 0, 2]), upper=rng.choice([5, 9])) for name in ("Delay", "StrongDelay")]
+        rows += [Row.of("Repeat", event=0, span=rng.choice([1, 2, 3]), lower=rng.choice([0, 3]), upper=rng.choice([30, 2**64 - 1]))]
+        table, steps, time, faults = Table(rows), [], 0, rng.choice([0, 0, 0.02, 0.2])
+        for _ in range(rng.randint(0, 60)):
+            for kind in (0, 1):
+                time += rng.randint(0 if kind else 1, 4)
+                if rng.random() >= faults:
+                    steps.append((kind if rng.random() >= faults else rng.choice([0, 1, 2, 3, None]), time, len(steps)))
+        one, many, at = Measuring(table), Measuring(table), 0
+        for step in steps:
+            one.take(*step)
+        while at < len(steps):
+            some = steps[at : at + rng.choice([1, 2, 7, 50])]
+            many.take_all([time for _, time, _ in some], [kind for kind, _, _ in some], [place for _, _, place in some])
+            at += len(some)
+        assert one.measures == many.measures
+        assert one.end(time + 9, number % 2 == 0) == many.end(time + 9, number % 2 == 0)
+        regular += one.measures[2].judged > 10 and not one.measures[2].missing
+    assert regular > 100

@@ -23,8 +23,8 @@ _MEASURE = """
   for (const one of document.querySelectorAll("body *")) {
     const box = one.getBoundingClientRect();
     if (box.width && !scrolls(one) && (box.left < -1 || box.right > wide + 1)) cut.push(one.outerHTML.slice(0, 90));
-    const style = getComputedStyle(one);
-    if (!scrolls(one) && /^(TD|TH|P|H1|H2|DD)$/.test(one.tagName) && one.scrollWidth > one.clientWidth + 1) cut.push("in " + one.outerHTML.slice(0, 90));
+    const holds = /^(TD|TH|P|H1|H2|DD)$/.test(one.tagName) && !scrolls(one);
+    if (holds && one.scrollWidth > one.clientWidth + 1) cut.push("in " + one.outerHTML.slice(0, 90));
   }
   for (const text of document.querySelectorAll(".picture svg text")) {
     const box = text.getBBox(), all = text.ownerSVGElement.viewBox.baseVal;

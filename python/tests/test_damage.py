@@ -3,11 +3,13 @@
 ``DAMAGE=10000 pytest python/tests/test_damage.py`` tries as many.
 """
 import contextlib
+import gzip
 import io
 import os
 import random
 import shutil
 
+import can
 import pytest
 
 from delkuthi.command import main
@@ -52,8 +54,9 @@ def options(chance):
     """Some options of a log."""
     found = []
     for some in (["--equal", "drop"], ["--equal", "later"], ["--unsorted", "sort"], ["--round"], ["--from-zero"], ["--as-stamped"],
-                 ["--no-close"], ["--until", chance.choice(["300 ms", "9" * 30, "1152921504606846976", "1.5", "-1", "x"])]):
-        if chance.randrange(4) == 0:
+                 ["--no-close"], ["--encoding", chance.choice(["cp1252", "utf-16", "ascii"])], ["--time-unit", "ms"],
+                 ["--format", chance.choice(["csv", "asc", "blf", "btf", "trc", "log", "xlsx", "bin", "db"])], ["--until", chance.choice(["300 ms", "9" * 30, "1152921504606846976", "1.5", "-1", "x"])]):
+        if chance.randrange(24 if some[0] in ("--format", "--encoding") else 4) == 0:
             found += some
     return found
 
@@ -94,7 +97,15 @@ def pairs(folder):
     found = [(table, log) for table in ("drive.txt", "drive.txt", "table.bin") for log in logs]
     for path in (EXAMPLES / "bench").iterdir():
         shutil.copy(path, folder)
-    return found + 3 * [("bus.txt", "bus.log"), ("tasks.txt", "tasks.btf"), ("samples.txt", "samples.csv")]
+    bench = [("bus.txt", "bus.log"), ("tasks.txt", "tasks.btf"), ("samples.txt", "samples.csv")]
+    for ending in ("asc", "blf", "trc", "csv"):
+        with can.LogReader(str(folder / "bus.log")) as reader, can.Logger(str(folder / f"bus.{ending}")) as writer:
+            for frame in reader:
+                frame.is_fd = ending in ("asc", "blf") and frame.dlc == 8
+                writer(frame)
+        bench.append(("bus.txt", f"bus.{ending}"))
+    (folder / "drive.csv.gz").write_bytes(gzip.compress((folder / "drive.csv").read_bytes()))
+    return found + 3 * bench + [("drive.txt", "drive.csv.gz")]
 
 
 def test_damaged_files(tmp_path, monkeypatch):

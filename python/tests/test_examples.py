@@ -10,9 +10,9 @@ from delkuthi.check import check
 from delkuthi.logs import Log
 from delkuthi.recording import records
 from delkuthi.rowtypes import TYPES
+from delkuthi.scenes import close_up, gather
 from delkuthi.signals import signal as signal_of
 from delkuthi.svg import svg
-from delkuthi.timeline import close_up, gather
 
 from conftest import EXAMPLES, ROOT
 

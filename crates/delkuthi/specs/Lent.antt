@@ -16,9 +16,9 @@ use Rattle.monitor.specs.declared.Monitor.{Monitor}
 
 -- ---- the library
 
--- 0.6.0: major * 1,000,000 + minor * 1,000 + patch
+-- 0.6.1: major * 1,000,000 + minor * 1,000 + patch
 abbrev pub version : ℕ
-version = 0 * 1000000 + 6 * 1000 + 0
+version = 0 * 1000000 + 6 * 1000 + 1
 
 -- the bytes of a lent monitor: 35 blocks of two arrays of 64 words of eight bytes
 abbrev pub monitorSize : ℕ

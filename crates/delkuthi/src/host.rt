@@ -15,8 +15,8 @@ ghost use Rattle.lent.specs.Contract.{Takes, Holds, ReadOff};
 ghost use Rattle.fresh.specs.Fresh.{BeginsUpTo, Begins};
 ghost use Rattle.delkuthi.specs.Lent.{KnownWord, WordOfVerdict, StepOfVerdict, NumberOfRows, version, monitorSize};
 
-// The version of the library: 0.6.0 as major * 1,000,000 + minor * 1,000 + patch.
-pub const VERSION: u32 = 6000;
+// The version of the library: 0.6.1 as major * 1,000,000 + minor * 1,000 + patch.
+pub const VERSION: u32 = 6001;
 // The bytes of a monitor.
 pub const MONITOR_SIZE: u64 = 35840;
 

@@ -159,7 +159,7 @@ execution-times-hold = all-read execution-times (all-computed .3)
 pub repetitions-hold : AllRead repetitions
 repetitions-hold = all-read repetitions (all-computed .4)
 
--- §1.1
+-- §1.1, §1.10
 pub long-clocks-hold : AllRead long-clocks
 long-clocks-hold = all-read long-clocks (all-computed .5)
 

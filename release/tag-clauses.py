@@ -2,7 +2,7 @@
 """Tags each declaration that docs/READING.md links with the clauses of its rows, as `-- §1.3, §8.11` in the comment above it.
 
     tag-clauses.py            says which declarations lack which clauses; status 1 if there are any
-    tag-clauses.py --write    adds the tags, and leaves in docs/READING.md only what is not in them
+    tag-clauses.py --write    adds the tags, leaves in docs/READING.md only what is not in them, and takes its row out of release/row_definitions.py
 
 It runs once, on a tree in which release/links.py finds nothing; then release/trace.py makes the page from the tags. A comment of definitions or laws
 gets its tags in front of its text. In code the tags are a line above the comment. The theorem of a list of examples gets the tags of the list from
@@ -13,7 +13,7 @@ import sys
 from pathlib import Path
 
 ROOT = Path(__file__).resolve().parent.parent
-READING = "docs/READING.md"
+READING, MAKER = "docs/READING.md", "release/row_definitions.py"
 LINK = re.compile(r"^\[`([^`]+)`\]: \.\./(crates/.*)$", re.M)
 NAME = re.compile(r"\[`([^`]+)`\]")
 CLAUSE = r"§\d+(?:\.\d+)+"
@@ -179,6 +179,17 @@ def shortened(text):
     return OPENING + signs.replace("| x is y;", "| x equals y;") + BY_HAND + NAME.sub(r"`\1`", parts_of_a_call) + "\n"
 
 
+def without_row(text):
+    """The program that makes parts of files, without the part that was a row of the page."""
+    text = re.sub(r"def reading_rows\(\):\n(?:.*\n)*?\n\n(?=def )", "", text)
+    return re.sub(r"    \(\"docs/READING\.md\", .*reading_rows\),\n", "", text)
+
+
+def rewrite(path, change):
+    """Writes a file as a function changes it."""
+    (ROOT / path).write_text(change((ROOT / path).read_text(encoding="utf-8")), encoding="utf-8")
+
+
 def main():
     if sys.argv[1:] not in ([], ["--write"]):
         print(__doc__, file=sys.stderr)
@@ -196,7 +207,8 @@ def main():
     if sys.argv[1:]:
         for path, lines in files.items():
             (ROOT / path).write_text("\n".join(lines), encoding="utf-8")
-        (ROOT / READING).write_text(shortened((ROOT / READING).read_text(encoding="utf-8")), encoding="utf-8")
+        rewrite(READING, shortened)
+        rewrite(MAKER, without_row)
         lacking = [line for line in lacking if line.endswith("there")]
     print("\n".join(lacking), end="\n" if lacking else "")
     return 1 if lacking else 0

@@ -18,7 +18,7 @@ from delkuthi.check import check
 from delkuthi.histogram import histogram_svg
 from delkuthi.evidence import evidence_of
 from delkuthi.html_page import as_html
-from delkuthi.html_rows import mean_text
+from delkuthi.html_rows import mean_number
 from delkuthi.logs import Policy
 from delkuthi.measure import Histogram, measure
 from delkuthi.measured import described
@@ -194,9 +194,9 @@ def test_numbers_can_be_pasted(tmp_path):
 
 
 def test_means_have_three_digits():
-    assert [mean_text(mean, 1000) for mean in (10001.646, 44700.0, 0.0, None, 412.3456, 1.23456, 0.0123456, 123456780.0)] == [
+    assert [mean_number(mean, 1000) for mean in (10001.646, 44700.0, 0.0, None, 412.3456, 1.23456, 0.0123456, 123456780.0)] == [
         "10.002", "44.7", "0", "", "0.412", "0.00123", "0.0000123", "123456.78"]
-    assert mean_text(10001.6466, 1) == "10001.647"
+    assert mean_number(10001.6466, 1) == "10001.647"
 
 
 def test_a_bar_with_a_value_outside_is_red():

@@ -229,7 +229,7 @@ def _table(given: argparse.Namespace) -> int:
     if given.unit and given.takeover is None:
         if table.unit is not None:
             raise LogError(given.table, "", f"the table has the unit {table.unit} already")
-        table = Table(table.rows, table.events, given.unit, table.databases, table.folder)
+        table = Table(table.rows, table.events, given.unit, table.databases, table.folder, table.comments)
     to_text = given.text or not given.bytes and (is_bytes(data) or given.takeover is not None or given.output is None)
     if not to_text:
         refuse_windows(table, given.table, range(len(table.rows)), "the bytes of a table do not take it")

@@ -2,6 +2,7 @@
 from __future__ import annotations
 
 import argparse
+import gzip
 import json
 import math
 import os
@@ -132,7 +133,7 @@ def _measured(given: argparse.Namespace) -> bool:
 def _write_outputs(given: argparse.Namespace, table: Table, how: Policy, outcomes: Sequence[Outcome]) -> None:
     """What is asked for besides the messages."""
     if len(outcomes) > 1 and not (given.json or given.page or given.quiet):
-        out(overall(outcomes) + "\n")
+        out(wrapped(overall(outcomes), given.width))
     if given.json:
         out(as_json(table, outcomes, given.takeover))
     if given.junit:
@@ -203,7 +204,7 @@ def _trace(path: str, table: Table, how: Policy, outcomes: Sequence[Outcome]) ->
     """A trace for each log."""
     for name, outcome in _files(path, outcomes):
         try:
-            with open(name, "w", encoding="utf-8") as file:
+            with gzip.open(name, "wt", encoding="utf-8") if name.endswith(".gz") else open(name, "w", encoding="utf-8") as file:
                 write_trace(file, table, Log(outcome.files, table, how), outcome)
         except OSError as error:
             raise NotWritten(f"{name}: {error.strerror or error}") from None
@@ -322,7 +323,7 @@ def _add_check(commands: Any) -> None:
     one.add_argument("--html", metavar="FILE", help="a page with pictures that needs no network")
     one.add_argument("--note", metavar="NAME=TEXT", type=_note, action="append", default=[], help="say this on the page, such as build=1234")
     one.add_argument("--plot", metavar="FILE", help="a picture: SVG, or PNG by matplotlib")
-    one.add_argument("--trace", metavar="FILE", help="a trace for Perfetto or chrome://tracing")
+    one.add_argument("--trace", metavar="FILE", help="a trace for Perfetto or chrome://tracing; .json.gz is packed")
     one.add_argument("--jobs", metavar="N", type=_positive, default=1, help="check so many logs at a time")
     one.add_argument("--quiet", action="store_true", help="messages only, no last line")
     one.add_argument("--width", metavar="COLUMNS", type=_width, default=COLUMNS,

@@ -368,7 +368,15 @@ class Measuring:
 
 def measure(table: Table, steps: Iterable[tuple[int | None, int, int]], closed: bool = True) -> list[Measure]:
     """What each row of a table measures over the steps of a log: of each its signal or ``None`` for a tick, its time, its place."""
+    return measure_noting(table, steps, closed, lambda number: None)
+
+
+def measure_noting(table: Table, steps: Iterable[tuple[int | None, int, int]], closed: bool,
+                   note: Callable[[int], Callable[[Finding], None] | None]) -> list[Measure]:
+    """The same; ``note`` gives for the number of a row what takes each of its instances that is not as asked."""
     measuring, clock = Measuring(table), 0
+    for row, measure in enumerate(measuring.measures):
+        measure.note = note(row)
     for number, clock, place in steps:
         measuring.take(number, clock, place)
     return measuring.end(clock, closed)

@@ -7,13 +7,12 @@ import platform
 import shlex
 import sys
 from dataclasses import dataclass
-from datetime import datetime, timezone
 from pathlib import Path
 from typing import Iterable, Sequence
 
 from .library import VERSION, library_version
-from .readers.base import LogError
 from .readers.standard_input import NAME, kept
+from .run_date import run_date
 from .table import Table
 
 #: Modules that may have read a log, and the names of their packages.
@@ -48,7 +47,7 @@ def provenance(table: Table, table_name: str, logs: Iterable[str | tuple[str, ..
     files += [_file("Signals", Path(path).name, path) for path in table.database_paths]
     names = [name for log in logs for name in ([log] if isinstance(log, str) else log)]
     files += [_file("Log", "standard input" if name == NAME else name, kept() if name == NAME else name) for name in dict.fromkeys(names)]
-    return Provenance(_date(), shlex.join(["delkuthi", *words]), tuple(files), _versions(), tuple(notes))
+    return Provenance(run_date().strftime("%Y-%m-%d %H:%M:%S UTC"), shlex.join(["delkuthi", *words]), tuple(files), _versions(), tuple(notes))
 
 
 def _file(what: str, name: str, path: str) -> File:
@@ -60,16 +59,6 @@ def _file(what: str, name: str, path: str) -> File:
     except OSError:
         pass
     return File(what, name, None, None)
-
-
-def _date() -> str:
-    """The time in UTC: now, or what ``SOURCE_DATE_EPOCH`` says."""
-    given = os.environ.get("SOURCE_DATE_EPOCH")
-    try:
-        moment = datetime.now(timezone.utc) if given is None else datetime.fromtimestamp(int(given), timezone.utc)
-    except (ValueError, OverflowError, OSError):
-        raise LogError("SOURCE_DATE_EPOCH", "", f"expected seconds since 1970, found {given}") from None
-    return moment.strftime("%Y-%m-%d %H:%M:%S UTC")
 
 
 def _versions() -> str:

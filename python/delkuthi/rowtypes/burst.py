@@ -65,8 +65,11 @@ class Bursts(Spans):
                 side = margin_of(value, self.values["length"], None)
                 sides += [] if side is None else [side]
                 many = "more than maximum within length" if value < self.values["length"] else None
-                begin = self.last[-1] if close and not many else self.last[0]
-                self.measure.add(value, time, place, min(sides, default=None), begin, many or close)
+                margin = min(sides, default=None)
+                self.measure.judged += 1
+                self.measure.value(value, margin is not None and margin < 0)
+                blamed = (gap, self.last[-1]) if close and not many else (value, self.last[0])
+                self.measure.compare(blamed[0], time, place, margin, blamed[1], many or close)
             else:
                 # Before the first whole span an event is judged by its gap alone, which is no distance over the span.
                 self.measure.judged += 1

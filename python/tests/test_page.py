@@ -170,6 +170,14 @@ def test_provenance(command, tmp_path):
     assert status == 2 and "expected NAME=TEXT such as build=1234, found build" in error
 
 
+def test_long_notes_are_at_the_end_of_the_page():
+    notes = [("build", "17"), ("remark", "x" * 61), *((f"n{number}", str(number)) for number in range(9))]
+    page = page_of(SHORT, EXAMPLES / "drive.csv", notes=notes)
+    header, rest = page.split("</header>")
+    assert re.findall(r" · (\w+) <b>", header) == ["build", "n0", "n1", "n2", "n3", "n4"]
+    assert re.findall(r"<dt>(\w+)</dt><dd>[^<]*</dd>", rest)[-11:] == [name for name, _ in notes]
+
+
 def test_the_files_of_signals_and_the_standard_input(command, tmp_path):
     text = (EXAMPLES / "bench/bus.log").read_text()
     assert command("check", "bus.txt", "-", "--html", tmp_path / "a.html", cwd=EXAMPLES / "bench", input=text)[0] == 1

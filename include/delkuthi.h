@@ -27,13 +27,13 @@
  *   - A broken row stays broken, at the same step, unless a step up to that
  *     one is withdrawn. After a withdrawal every row reads as if the withdrawn
  *     step had never been taken.
- * A machine has checked these statements. For the calls on a monitor the
- * theorem is lent-is-exact. It speaks of memory in which delkuthi_fresh has
- * accepted a table, of any list of events, ticks, closes and withdrawals, and
- * of what delkuthi_row_verdict, delkuthi_row_step, delkuthi_rows,
- * delkuthi_page, delkuthi_report_of and delkuthi_report_on answer after it.
- * That a broken row stays broken is the theorem broken-stays, about the state
- * machine behind the calls. The rest is in the contract of each call.
+ * A machine has checked these statements. They are one theorem,
+ * session-is-exact. It speaks of any memory and any list of the calls that
+ * change it: delkuthi_fresh, events, ticks, closes, withdrawals and
+ * delkuthi_report_on, with any arguments, in both forms. It says what each of
+ * these calls answers, and what each of the thirteen calls that only read a
+ * monitor answers after the list. That no call leaves its memory and that
+ * every call ends is in the contract of each call.
  * DATASHEET.md lists the promises with their theorems, the assumptions, and
  * what is not promised. CONTRACT.md says everything in words, in numbered
  * clauses, with examples by which you can check a verdict by hand.
@@ -152,10 +152,11 @@
  *
  * THE TABLE
  *
- * One byte, its version, then the rows; the first is row 0. The version is 1,
- * or 2 (EDITIONS below). Each row has a length field of two bytes and, as many
- * bytes as it says, its type and its fields. Kinds, n, span and maximum take
- * one byte, all other fields eight, the most significant byte first.
+ * A table is one byte, its version, followed by the rows. The first row is row
+ * 0. The version is 1 or 2 (EDITIONS below). Each row is a length field of two
+ * bytes, then its type and its fields in as many bytes as the length field
+ * says. Kinds, n, span and maximum take one byte, all other fields eight, the
+ * most significant byte first.
  *
  *   type                      fields                                   length
  *   1 Delay                   source, target, lower, upper                 19
@@ -171,14 +172,14 @@
  *  10 Repetition              event, span, lower, upper, jitter            27
  *  11 Synchronization         n from 2 to 4, n kinds, tolerance        10 + n
  *
- * The kinds of a Reaction are coloured ones, those of all other types plain
- * ones. Its maximum is a time, as its minimum is.
+ * The kinds of a Reaction are coloured, and those of all other types are
+ * plain. The minimum and maximum of a Reaction are times.
  *
  * Spans, and the maximum of a Burst, go from 1 to 64, the span of type 10 from
- * 1 to 8. Where the upper of type 1, 3 or 4 is 2^64 - 1, DELKUTHI_NO_LIMIT,
- * there is no upper limit.
+ * 1 to 8. If the upper of type 1, 3 or 4 is 2^64 - 1, DELKUTHI_NO_LIMIT, there
+ * is no upper limit.
  *
- * Type 11: in tables of edition 2 alone.
+ * Type 11 requires edition 2.
  *
  * A host need not count these bytes. A function for each type makes a row from
  * its fields, and delkuthi_make_table_2 writes the table. A Delay and an
@@ -223,72 +224,73 @@
  *
  *   1 Delay       For each source, at time s, a target comes at s + lower or
  *                 later and at s + upper or earlier. One target may answer
- *                 several sources, and further targets do no harm. A source
- *                 that has no target breaks the row once the clock is past
+ *                 several sources, and extra targets do no harm. A source
+ *                 without a target breaks the row once the clock is past
  *                 s + upper, and at the close. Without an upper limit the
- *                 target may come however late, and only the close breaks the
- *                 row.
+ *                 target may come at any later time, and only the close breaks
+ *                 the row.
  *   2 StrongDelay The first target belongs to the first source, the second to
  *                 the second, and so on, and each comes lower to upper after
- *                 its source. A target too early, or one too many, breaks the
- *                 row at once, a source without its target as in Delay.
- *   3 Repeat      Of span + 1 events in a row the last comes lower to upper
- *                 after the first. Silence counts from the first event on: the
- *                 row breaks once the clock is past (the oldest event that has
- *                 none span places after it) + upper. Without an upper limit
- *                 silence breaks nothing. The close breaks nothing.
- *   4 Sporadic    Each event is 0 to jitter after a hidden point of its own.
- *                 The points are at least 0, rise, and are lower to upper
- *                 apart; the events are at least minimum apart. With lower =
+ *                 its source. A target that is too early, or one too many,
+ *                 breaks the row at once. A source without its target breaks
+ *                 it as in a Delay.
+ *   3 Repeat      In any span + 1 consecutive events, the last comes lower to
+ *                 upper after the first. Silence counts from the first event
+ *                 on: the row breaks once the clock is past (the oldest event
+ *                 that has none span places after it) + upper. Without an
+ *                 upper limit silence does not break the row. The close does
+ *                 not break it either.
+ *   4 Sporadic    Each event comes 0 to jitter after its own hidden point. The
+ *                 points are at least 0, increase, and are lower to upper
+ *                 apart. The events are at least minimum apart. With lower =
  *                 upper it is a periodic signal. Silence counts from the first
- *                 event on: the row breaks once the clock is past (the last
+ *                 event on: the row breaks once the clock is past (the latest
  *                 place that the last point can have) + upper + jitter.
- *                 Without an upper limit silence breaks nothing. The close
- *                 breaks nothing.
- *   5 Burst       The event maximum places after another is at least length
- *                 after it, so that shorter stretches have at most maximum
- *                 events; neighbours are at least minimum apart. Silence and
- *                 the close break nothing.
+ *                 Without an upper limit silence does not break the row. The
+ *                 close does not break it either.
+ *   5 Burst       The event maximum places after another one comes at least
+ *                 length after it, so that any stretch shorter than length has
+ *                 at most maximum events. Neighbouring events are at least
+ *                 minimum apart. Silence and the close do not break the row.
  *   6 Order       The first target belongs to the first source, the second to
- *                 the second, and so on, and none is before its source. A
- *                 source may wait for its target as long as it likes, until
- *                 the close.
+ *                 the second, and so on, and no target comes before its
+ *                 source. A source may wait for its target until the close.
  *   7 StrongSynchronization
  *                 The first events of all the kinds are at most tolerance
  *                 apart, and so are the second, the third, and so on. A group
  *                 that lacks a kind breaks the row once the clock is past its
  *                 first event + tolerance, and at the close.
  *   8 ExecutionTime
- *                 The row's events come as a start, any number of pairs of a
- *                 preempt and a resume, a stop, and again from a start, no two
- *                 at the same time. The running time, stop minus start less
- *                 the stretches from preempt to resume, is lower to upper. An
- *                 event that may not come next breaks the row, and so does the
- *                 clock once the running time is past upper, a preempt after
- *                 which no time is left to run, and a close after a start and
- *                 before its stop.
- *   9 Reaction    Each stimulus needs a response of its colour, and it is the
- *                 first response of that colour in the whole recording that
- *                 has to come minimum to maximum after it. So all stimuli of a
- *                 colour share one response, and one that comes before any
- *                 stimulus is it already. Later responses do not count. A
- *                 colour that has stimuli and no response breaks the row once
- *                 the clock is past its first stimulus + maximum, as soon as
- *                 no time is left that suits all its stimuli, and at the
- *                 close.
- *  10 Repetition  Each event is 0 to jitter after a hidden point of its own.
- *                 The points are at least 0 and rise, and a point is lower to
+ *                 The row's events come in this order: a start, any number of
+ *                 pairs of a preempt and a resume, a stop, and then a start
+ *                 again. No two have the same time. The running time is stop
+ *                 minus start, less the stretches from preempt to resume, and
+ *                 it is lower to upper. The row breaks at an event out of this
+ *                 order, as soon as the running time up to the clock is more
+ *                 than upper, at a preempt after which no time is left to run,
+ *                 and at a close between a start and its stop.
+ *   9 Reaction    Each stimulus needs a response of its colour. The response
+ *                 is the first one of that colour in the whole recording, and
+ *                 it must come minimum to maximum after the stimulus. So all
+ *                 stimuli of a colour share one response, and a response
+ *                 before every stimulus counts as that response. Later
+ *                 responses do not count. A colour that has stimuli and no
+ *                 response breaks the row once the clock is past its first
+ *                 stimulus + maximum, as soon as no time is left that suits
+ *                 all its stimuli, and at the close.
+ *  10 Repetition  Each event comes 0 to jitter after its own hidden point. The
+ *                 points are at least 0 and increase, and a point is lower to
  *                 upper after the one span places before it. An event for
  *                 which there is no such point breaks the row; the first span
- *                 events never do. Silence and the close break nothing.
+ *                 events never do. Silence and the close do not break the row.
  *  11 Synchronization
  *                 Each event of the kinds lies in a full window: a stretch
  *                 from some time to tolerance later in which every one of the
- *                 kinds has an event. Windows may overlap, one event may serve
+ *                 kinds has an event. Windows may overlap, one event may be in
  *                 several, and a kind may have several events in one: unlike
- *                 type 7 it counts nothing. An event that lies in no full
- *                 window breaks the row once the clock is past it + tolerance,
- *                 and at the close.
+ *                 type 7 it does not count events. An event that lies in no
+ *                 full window breaks the row once the clock is past
+ *                 it + tolerance, and at the close.
  *
  *
  * A BENCH LOOP
@@ -404,8 +406,8 @@ extern "C" {
 #define DELKUTHI_NONNULL
 #endif
 
-/* The version of this header, 0.6.0: major * 1000000 + minor * 1000 + patch. */
-#define DELKUTHI_VERSION UINT32_C(6000)
+/* The version of this header, 0.6.1: major * 1000000 + minor * 1000 + patch. */
+#define DELKUTHI_VERSION UINT32_C(6001)
 
 #define DELKUTHI_LAST_TIME     UINT64_C(1152921504606846975)
 #define DELKUTHI_LAST_COUNT    UINT64_C(18446744073709551615)

@@ -138,7 +138,7 @@ def kinds_of_runs(folder: Path) -> dict[str, Callable[[], None]]:
         "CSV, a row broken at the end: read twice": lambda: checked(folder / "drive.csv", table(True), True),
         "CSV, 65 rows": lambda: checked(folder / "drive.csv", table(times=2)),
         "CSV, 65 rows, one of them broken at the end: read twice": lambda: checked(folder / "drive.csv", table(True, times=2), True),
-        "CSV, measured: read twice": lambda: checked(folder / "drive.csv", table(), measured=True),
+        "CSV, measured": lambda: checked(folder / "drive.csv", table(), measured=True),
     }
 
 

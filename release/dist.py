@@ -29,7 +29,7 @@ NEEDED_OF_C = {"memcpy", "memmove", "memset", "memcmp"}
 
 
 def said(*words):
-    """What a command prints."""
+    """Returns what a command prints."""
     try:
         return subprocess.run(words, cwd=ROOT, check=True, capture_output=True, text=True).stdout
     except (OSError, subprocess.CalledProcessError) as error:
@@ -42,12 +42,12 @@ def digest(path, kind="sha256"):
 
 
 def files(folder):
-    """The files below a folder, links among them, in the order of their names."""
+    """Returns the files below a folder, links included, in the order of their names."""
     return sorted((path for path in folder.rglob("*") if path.is_symlink() or path.is_file()), key=lambda path: path.as_posix())
 
 
 def commit():
-    """The commit that the sources are of, with a word if they were changed since, and its time."""
+    """Returns the commit of the sources, with a note if they have changed since, and its time."""
     changed = " with changes that are not committed" if said("git", "status", "--porcelain", "--untracked-files=no") else ""
     return said("git", "rev-parse", "HEAD").strip() + changed, int(said("git", "log", "-1", "--format=%ct"))
 
@@ -75,7 +75,7 @@ class Gate:
 
 
 class Archive:
-    """The proved archive: its objects, the kit that proved each, and its functions."""
+    """The proved archive: its objects, the kit that proved them, and its functions."""
 
     def __init__(self, path):
         self.path = path
@@ -91,13 +91,13 @@ class Archive:
         defined = {name for name, _ in self.functions}
         self.needed -= defined
         if len(KIT.findall(path.read_bytes())) < len(self.objects) or len(self.kits) != 1:
-            sys.exit(f"dist.py: the objects of {path} do not carry one kit's identity: {self.kits}")
+            sys.exit(f"dist.py: the objects of {path} do not name one kit: {self.kits}")
         if not self.needed <= NEEDED_OF_C:
-            sys.exit(f"dist.py: {path} needs more of a C library than is said: {sorted(self.needed)}")
+            sys.exit(f"dist.py: {path} needs more of a C library than the documents say: {sorted(self.needed)}")
 
 
 def declared(function):
-    """Where a function of the archive is declared: its file and line, and the definitions that its contract names."""
+    """Returns where a function of the archive is declared, as file and line, and the definitions that its contract names."""
     *before, name = function.split("::")
     crate, *within = before or ["*", "*"]
     of_type = "".join(rf"^impl {word}\b[\s\S]*?" for word in within if word[0].isupper())
@@ -111,7 +111,7 @@ def declared(function):
             brought = set(re.findall(r"\w+", " ".join(re.findall(r"^ghost use Rattle·[^{]*\{([^}]*)\}", text, re.M))))
             cited = [word for word in re.findall(r"\w+", clause[1]) if word in brought] if clause else []
             line = text[:start].count("\n") + 1
-            return f"{file.relative_to(ROOT)}:{line}", ", ".join(dict.fromkeys(cited)) or "its result, in its own words"
+            return f"{file.relative_to(ROOT)}:{line}", ", ".join(dict.fromkeys(cited)) or "its result"
     sys.exit(f"dist.py: no crate declares {function}, which is in the archive")
 
 
@@ -128,7 +128,7 @@ def manifest(version, of_commit, archive, tree, opening):
 
 
 def spdx(version, created, archive, tree):
-    """The list of parts: what is delivered, what is linked in, and what built it."""
+    """Returns the list of parts: what is delivered, what is linked in, and what built it."""
     delivered = [path for path in files(tree) if not path.is_symlink() and path.parts[len(tree.parts)] in ("bin", "lib", "include")]
     listed = "".join(f"FileName: ./{path.relative_to(tree)}\nSPDXID: SPDXRef-File-{number}\nFileChecksum: SHA1: {digest(path, 'sha1')}\n"
                      f"FileChecksum: SHA256: {digest(path)}\nLicenseConcluded: LicenseRef-Delkuthi\nLicenseInfoInFile: NOASSERTION\n"
@@ -141,7 +141,7 @@ def spdx(version, created, archive, tree):
 
 
 def put_sources(folder):
-    """The sources, as git has them."""
+    """Copies the sources that git lists."""
     for name in said("git", "ls-files", "-z").split("\0"):
         if name and (ROOT / name).exists():
             (folder / name).parent.mkdir(parents=True, exist_ok=True)
@@ -149,7 +149,7 @@ def put_sources(folder):
 
 
 def put_answers(folder, build):
-    """What the proved archive answers to the script of the portable crate, for a machine to be compared with."""
+    """Writes the proved archive's answers to the script of the portable crate, for comparison with other machines."""
     player = build / "dist/player"
     said(os.environ.get("CC", "cc"), "-std=c99", "-O2", f"-I{folder}/include", f"{folder}/portable/test/player.c", f"{folder}/lib/libdelkuthi.a",
          "-o", str(player))
@@ -157,7 +157,7 @@ def put_answers(folder, build):
 
 
 def pack(folder, time):
-    """The tarball of a folder."""
+    """Packs a folder into a tarball."""
     def plain(entry):
         entry.uid = entry.gid = 0
         entry.uname = entry.gname = ""

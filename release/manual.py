@@ -1,6 +1,6 @@
 #!/usr/bin/env python3
-"""Writes a manual page: of the command delkuthi, the Python package's, from what the command says of itself; or of the library, from
-release/delkuthi.3.in and the calls that the header declares.
+"""Writes a manual page: of the command of the Python package, from what the command prints for --help; or of the library, from
+release/delkuthi.3.in and the functions of the header.
 
     manual.py command FILE
     manual.py library FILE
@@ -15,34 +15,37 @@ ROOT = Path(__file__).resolve().parent.parent
 
 
 def helped(*words):
-    """What the command prints for --help."""
+    """Returns what the command prints for --help."""
     settings = {**os.environ, "PYTHONPATH": str(ROOT / "python"), "COLUMNS": "78", "PYTHONDONTWRITEBYTECODE": "1"}
     output = subprocess.run([sys.executable, "-m", "delkuthi", *words, "--help"], env=settings, check=True, capture_output=True, text=True)
     return output.stdout
 
 
 def roff(text):
-    """A text as it stands, for a manual page."""
+    """Returns a text for a manual page that prints it unchanged."""
     plain = text.rstrip().replace("\\", "\\e").replace("-", "\\-")
     return "".join(("\\&" if line[:1] in (".", "'") else "") + line + "\n" for line in plain.split("\n"))
 
 
-def declared():
-    """The calls of the header, as it declares them, without what is for the compiler alone."""
+def functions():
+    """Returns the functions of the header: the calls that it declares, then the inline functions that hosts use. Attributes are left out."""
     header = (ROOT / "include/delkuthi.h").read_text(encoding="utf-8")
-    found = re.findall(r"^(?!static |typedef |#)[A-Za-z][\w \n()]*?\bdelkuthi_\w+\([^{};]*\)[^{};]*;", header, re.M)
-    return [re.sub(r"\s+", " ", re.sub(r"\bDELKUTHI_[A-Z_]+(\([^)]*\))?\s*", "", call)).replace(" ;", ";") for call in found]
+    declared = re.findall(r"^(?!static |typedef |#)[A-Za-z][\w \n()]*?\bdelkuthi_\w+\([^{};]*\)[^{};]*;", header, re.M)
+    inline = [f"{found};" for found in re.findall(r"^static inline ([^{};#]*?\bdelkuthi_\w+\([^{};]*?\))\s*\{", header, re.M)]
+    for_hosts = [found for found in inline if not re.search(r"\bdelkuthi_row_(?:bytes|time)\(", found)]
+    plain = (re.sub(r"\s+", " ", re.sub(r"\bDELKUTHI_[A-Z_]+(\([^)]*\))?\s*", "", call)) for call in [*declared, *for_hosts])
+    return [call.replace(" ;", ";").replace("( ", "(") for call in plain]
 
 
 def library():
-    """The page of the library."""
+    """Returns the page of the library."""
     version = (ROOT / "VERSION").read_text().strip()
-    calls = "".join(f".TP\n.B {roff(call)}" for call in declared())
+    calls = "".join(f".TP\n.B {roff(call)}" for call in functions())
     return (ROOT / "release/delkuthi.3.in").read_text(encoding="utf-8").replace("@VERSION@", version).replace("@CALLS@\n", calls)
 
 
 def command():
-    """The page of the command."""
+    """Returns the page of the command."""
     whole = helped()
     version = (ROOT / "VERSION").read_text().strip()
     usage, description, rest = whole.split("\n\n", 2)

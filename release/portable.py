@@ -3,11 +3,11 @@
 
     portable.py FOLDER CRATE ...
 
-FOLDER is made anew. It gets a module for each CRATE of crates.txt and for each crate that one of them uses, from the very
-sources: what is left out are `ghost use` items and the clauses `requires` and `ensures`. What is added: `derive(Clone,
-Copy)`, which a proved type has without saying so, for each exported function one with pointers and lengths, as
-include/delkuthi.h declares it, the headers, and a script of calls to be played on the machine. Anything else that is not Rust
-stops the program: it guesses nothing.
+FOLDER is replaced. It gets a module for each CRATE of crates.txt and for each crate that one of them uses, from the same
+sources without `ghost use` items and without the clauses `requires` and `ensures`. The program adds `derive(Clone, Copy)`,
+which every proved type has implicitly; for each exported function one with pointers and lengths, as include/delkuthi.h
+declares it; the headers; and a script of calls to play on the machine. Anything else that is not Rust stops the program: it
+guesses nothing.
 """
 import re
 import shutil
@@ -20,7 +20,7 @@ CLAUSE = re.compile(r"\n[ \t]*(requires|ensures)(\s+\w+)?\s*\{")
 TYPE = re.compile(r"^(pub )?(struct|enum) \w+(<[^>]*>)? ?[{(][^})]*[})]", re.M)
 EXPORTED = re.compile(r'#\[no_mangle\]\npub extern "C" fn (\w+)\(([^)]*)\)( -> \w+)?')
 SLICE = re.compile(r"&(mut )?\[u8\]")
-# What only a contract has: a letter that is not ASCII, or the word ghost, outside of a comment.
+# Only contracts have these outside of comments: letters that are not ASCII, and the word ghost.
 LEFT_OVER = re.compile(r"^(?![ \t]*//).*([^\x00-\x7f]|\bghost\b).*$", re.M)
 
 
@@ -29,7 +29,7 @@ class NotUnderstood(Exception):
 
 
 def without_clauses(text):
-    """The text without its clauses: each is a word and braces, which are closed as often as they are opened."""
+    """Returns the text without its clauses. A clause is a word followed by balanced braces."""
     kept, start = [], 0
     while found := CLAUSE.search(text, start):
         kept.append(text[start:found.start()])
@@ -43,12 +43,12 @@ def without_clauses(text):
 
 
 def with_copies(text):
-    """The text with each type copied as a proved one is. What holds a reference to be written by cannot be copied."""
+    """Returns the text with each type made copyable, as proved types are. A type that holds a mutable reference cannot be copied."""
     return TYPE.sub(lambda found: ("" if "mut " in found.group() else "#[derive(Clone, Copy)]\n") + found.group(), text)
 
 
 def for_a_host(found):
-    """An exported function as plain Rust, and before it the one for a host: a slice is a pointer and a length there."""
+    """Returns an exported function as plain Rust, and before it the one for a host, where a slice is a pointer and a length."""
     name, parameters, answer = found.group(1), [], found.group(3) or ""
     arguments = []
     for parameter in filter(None, (part.strip() for part in found.group(2).split(","))):
@@ -61,7 +61,7 @@ def for_a_host(found):
         pointer, make = ("*mut u8", "from_raw_parts_mut") if writes.group(1) else ("*const u8", "from_raw_parts")
         parameters += [f"{word}: {pointer}", f"{word}_length: usize"]
         arguments.append(f"core::slice::{make}({word}, {word}_length)")
-    safety = "// Safety: the duties of a host stand in delkuthi.h, under MEMORY AND THREADS."
+    safety = "// Safety: delkuthi.h lists the duties of a host under MEMORY AND THREADS."
     body = f"{name}({', '.join(arguments)})"
     body = f"unsafe {{ {body} }}" if "core::slice" in body else body
     return (f'{safety}\n#[export_name = "{name}"]\n'
@@ -70,7 +70,7 @@ def for_a_host(found):
 
 
 def rust(text, crate, used):
-    """A source file of a crate as a module of the portable one."""
+    """Returns a source file of a crate as a module of the portable one."""
     text = without_clauses(GHOST_USE.sub("", text))
     left = LEFT_OVER.search(re.sub(r"//.*", "", text))
     if left:
@@ -84,13 +84,13 @@ def rust(text, crate, used):
 
 
 def crates():
-    """The crates of crates.txt, each with those that it uses."""
+    """Returns the crates of crates.txt, each with those that it uses."""
     lines = (line.split("#")[0].strip() for line in (ROOT / "crates.txt").read_text().splitlines())
     return {name.strip(): used.split() for name, used in (line.split(":") for line in lines if line)}
 
 
 def needed(listed, names):
-    """These crates and all that they use, in the order of the list."""
+    """Returns these crates and all that they use, in the order of the list."""
     found, more = set(), list(names)
     while more:
         name = more.pop()

@@ -14,7 +14,7 @@ from pathlib import Path
 ROOT = Path(__file__).resolve().parent.parent
 TAIL = 40
 PROVED = re.compile(r"rt: (\w+) proved \((?:(\d+) s|unchanged\b.*)\)$")
-EDIT_REFUSED = re.compile(r"rt: must-fail (\w+)/\S+: refused")
+EDIT_REFUSED = re.compile(r"rt: must-fail \S+: refused")
 FAILED = re.compile(r"rt: (?:\w+ NOT PROVED|must-fail \S+: (?:NOT REFUSED|BAD EDIT)|FAILED:|in no crate)")
 BUILT = re.compile(r"rt: (target/staticlib/\S+) has the functions")
 CARGO_FILE = re.compile(r"\s+Running (?:unittests )?(\S+) \(")
@@ -46,15 +46,15 @@ class Progress:
 
     def __init__(self, total):
         self.total, self.proved, self.unchanged = total, 0, 0
-        self.edits = {}
+        self.edits = 0
         self.file = ""
 
     def short(self, line):
         """The line to print for a line of output, or none."""
         if found := PROVED.match(line):
             return self.crate(found[1], found[2])
-        if found := EDIT_REFUSED.match(line):
-            self.edits[found[1]] = self.edits.get(found[1], 0) + 1
+        if EDIT_REFUSED.match(line):
+            self.edits += 1
             return None
         if found := BUILT.match(line):
             return f"{found[1]} built"
@@ -83,9 +83,9 @@ class Progress:
 
     def summary(self):
         """The lines at the end."""
-        edits = sum(self.edits.values())
-        refused = [f"{edits} wrong programs in {len(self.edits)} crates refused, as they must be"] if edits else []
-        return refused + ([f"{self.unchanged} crates unchanged since they were proved"] if self.unchanged else [])
+        refused = [f"wrong programs refused, as they must be: {self.edits}"] if self.edits else []
+        all_counted = self.unchanged and self.proved == self.total
+        return refused + ([f"crates unchanged since they were proved: {self.unchanged}"] if all_counted else [])
 
 
 def run(log, words):

@@ -2,7 +2,7 @@
 """What follows from the list of row types is made from it: tables and limits in the documents, makers in C and Rust, other lists of the types.
 
     row-types.py            says which parts differ from the list, and what a type still lacks; status 1 where there is such
-    row-types.py --write    writes the parts anew
+    row-types.py --write    writes the parts
 
 The list is python/delkuthi/rowtypes, a file for each type. Each part stands between two texts of its file: in code from a comment that says so to
 the end of the list, in documents and in the header between what stands around it. What a type lacks is written by hand: its section of the contract,
@@ -107,7 +107,7 @@ def comment(text, first=" * ", other=" * "):
 
 
 def header_line(row_type):
-    """A type, its fields and its length, in columns; where there is no room for all fields, the times have a line of their own."""
+    """A type, its fields and its length, in columns; where there is no room for all fields, the times have a separate line."""
     fields, first = ", ".join(names(row_type, "n from 2 to 4, n kinds")), f" *  {row_type.number:2} {row_type.name:22}  "
     if len(fields) > 40:
         kinds, fields = map(", ".join, small(row_type))
@@ -120,11 +120,11 @@ def header_table():
     marked = listed([str(t.number) for t in having("limit")], "or")
     coloured = listed([one(t.name) for t in having("coloured")])
     counts = listed(list(dict.fromkeys(part.name for t in TYPES for part in t.fields if part.role in MOST)))
-    size = f"""One byte, its version, then the rows; the first is row 0. The version is 1, or 2 (EDITIONS below). Each row has a length field of
-        two bytes and, as many bytes as it says, its type and its fields. Kinds, n, {counts} take one byte, all other fields eight, the most
-        significant byte first."""
-    kinds = f"The kinds of {coloured} are coloured ones, those of all other types plain ones. Its maximum is a time, as its minimum is."
-    limit = f"{spans()} Where the upper of type {marked} is 2^64 - 1, DELKUTHI_NO_LIMIT, there is no upper limit."
+    size = f"""A table is one byte, its version, followed by the rows. The first row is row 0. The version is 1 or 2 (EDITIONS below). Each row
+        is a length field of two bytes, then its type and its fields in as many bytes as the length field says. Kinds, n, {counts} take one
+        byte, all other fields eight, the most significant byte first."""
+    kinds = f"The kinds of {coloured} are coloured, and those of all other types are plain. The minimum and maximum of {coloured} are times."
+    limit = f"{spans()} If the upper of type {marked} is 2^64 - 1, DELKUTHI_NO_LIMIT, there is no upper limit."
     table = " *   type                      fields                                   length\n" + "".join(map(header_line, TYPES))
     return " *\n".join([comment(size), table, comment(kinds), comment(limit), *map(comment, later())]) + " *\n"
 
@@ -133,7 +133,8 @@ def later():
     """Which types only a later edition of the table has, if there are such."""
     editions = sorted({t.edition for t in TYPES} - {1})
     numbers = {edition: [str(t.number) for t in TYPES if t.edition == edition] for edition in editions}
-    return [f"{'Types' if len(found) > 1 else 'Type'} {listed(found)}: in tables of edition {edition} alone." for edition, found in numbers.items()]
+    return [f"Types {listed(found)} require edition {edition}." if len(found) > 1 else f"Type {found[0]} requires edition {edition}."
+            for edition, found in numbers.items()]
 
 
 def last_type():
@@ -142,7 +143,7 @@ def last_type():
 
 
 def header_asks():
-    """What each row asks, in full; a long name has a line of its own."""
+    """What each row asks, in full; a long name has a separate line."""
     def said(row_type):
         first, other = f" *  {row_type.number:2} {row_type.name:11} ", " *".ljust(19)
         return comment(row_type.asks, first, other) if len(first) == len(other) else first.rstrip() + "\n" + comment(row_type.asks, other, other)

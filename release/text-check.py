@@ -1,15 +1,16 @@
 #!/usr/bin/env python3
-"""Looks at the text of the sources alone, in some seconds and without the kit.
+"""Checks the text of the sources, in some seconds and without the kit or git.
 
-    text-check.py                  says what is wrong; status 1 where something is
-    text-check.py --count          the numbers for each folder
-    text-check.py --allow          lowers the numbers of release/text-allowance.txt to what there is; it raises none
-    text-check.py --fix FOLDER..   takes the names that are not used out of the imports of the files below the folders, and cuts long imports
+    text-check.py                  reports what is wrong; then status 1
+    text-check.py --count          prints the numbers for each folder
+    text-check.py --allow          lowers the numbers of release/text-allowance.txt to what there is; it never raises one
+    text-check.py --fix FOLDER..   removes unused names from the imports of the files below the folders, and splits long imports
 
-What is looked for: a line of more than 150 characters, a tab, a blank at a line's end, a name that a file of code or of proofs imports and does not
-use, and one that a file of definitions or proofs declares and that nothing else uses, cites in a contract or names in a document. Rows of a table in
-a document may be long, and so may what it shows as it is printed. What a file passes on (`pub use`) is used where another file imports it from
-there. The allowance has, for a folder that is not clean, how many of each it may have: what is above that is wrong, so the numbers only fall.
+It finds lines of more than 150 characters, tabs, blanks at the end of a line, names that a file of code or of proofs imports and does not use, and
+names that a file of definitions or proofs declares and that nothing else uses, cites in a contract or names in a document. A law that is tagged with
+a clause (§) counts as used. Rows of a table in a document and indented text may be longer. A name that a file exports again (`pub use`) is used if
+another file imports it from there. For a folder that is not clean the allowance says how many of each it may have. More is an error, so the numbers
+can only fall.
 """
 import os
 import re
@@ -30,15 +31,17 @@ IMPORT = re.compile(r"^(?P<before>(?:ghost |(?:unfoldable )?pub )?use )(?P<modul
                     r"(?:\.\{(?P<names>[^}]*)\}| as (?P<alias>[^\s;]+))?(?P<after>;?)$")
 # What stands between two names of the proof language, of which `[]` is one; in code a name ends at other signs too.
 TOKENS = re.compile(r"\[\]|[^\s(){};,.\"⌜⌝⟦⟧@]+")
-# What a line of proofs declares; what the proof of a function is called goes by the function's name.
+# A declaration in a line of proofs. The proof of a function is named after the function.
 DECLARED = re.compile(r"^\s*(?:(?:pub|abbrev|unfoldable|opaque|data|record|private)\s+)*([^\s(){}.,;:]+)(?:\s+(?:\([^)]*\)|\{[^}]*\}))*\s+:(?:\s|$)")
 # A module with parameters declares no name, and what stands in its line is used.
 MODULE = re.compile(r"\s*(?:pub )?module\b")
 COMMENT = re.compile(r"(?:^|\s)(?:--|//).*")
+# A law that is tagged with the clause that it proves.
+TAGGED = re.compile(r"^\s*-- §.*\n(?:\s*--.*\n)*\s*(?:(?:pub|abbrev|unfoldable|opaque|data|record|private)\s+)*([^\s(){}.,;:]+)", re.M)
 
 
 def listed_by_git(folders):
-    """The files below some folders that git lists; none where the sources are in no repository, as in a release."""
+    """Returns the files below some folders that git lists; none if the sources are in no repository, as in a release."""
     if not (ROOT / ".git").exists():
         return None
     words = ["git", "ls-files", "--cached", "--others", "--exclude-standard", "-z", *folders]
@@ -49,7 +52,7 @@ def listed_by_git(folders):
 
 
 def walked(folders):
-    """The files below some folders, without those that are built and those of hidden folders."""
+    """Yields the files below some folders, without built ones and those in hidden folders."""
     for folder in [ROOT / name for name in folders] or [ROOT]:
         for place, below, names in os.walk(folder):
             below[:] = sorted(name for name in below if name not in BUILT and not name.startswith("."))
@@ -57,7 +60,7 @@ def walked(folders):
 
 
 def sources(folders):
-    """The files below some folders that are looked at."""
+    """Returns the files below some folders that are checked."""
     listed = listed_by_git(folders)
     names = walked(folders) if listed is None else listed
     return [ROOT / name for name in names if Path(name).suffix in ENDINGS and (ROOT / name).is_file()]
@@ -101,7 +104,7 @@ def spelling(item):
 
 
 def module_names(file):
-    """What a file of definitions or proofs is called in imports of its own crate and of others."""
+    """Returns the names of a file of definitions or proofs in imports of the same crate and of other crates."""
     parts = file.relative_to(ROOT).with_suffix("").parts
     if len(parts) < 4 or parts[0] != "crates":
         return []
@@ -205,6 +208,8 @@ def idle(texts):
             cited |= tokens(text)
         elif file.suffix == ".md" and "history" not in file.parts:
             cited |= set(re.findall(r"[^\s`\[\]().,;:]+", text))
+        elif "proofs" in file.parts:
+            cited |= set(TAGGED.findall(text))
 
     def has_other_users(word, file, name):
         return word in cited or bool(users.get(word, set()) - {(file, name)})

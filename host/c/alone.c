@@ -1,8 +1,8 @@
 /*
- * The library without a C library: it links with these four functions alone,
- * which every compiler takes for granted. This is linked, and not run.
+ * The library without a C library: it links with only these four functions,
+ * which every compiler assumes. This host is linked, not run.
  */
-#define DELKUTHI_CHECKED // what is answered does not matter here
+#define DELKUTHI_CHECKED // the answers do not matter here
 #include "delkuthi.h"
 
 void *memcpy(void *to, const void *from, size_t length);

@@ -2,9 +2,8 @@
  * Every cut of a table and of a recording: every_cut TABLE RECORDING
  *
  * For each length of the table, then for each of the recording, it prints what
- * delkuthi_fresh_2 answers and the report. All that a call is lent lies in a
- * block that is just as long as it says, so that valgrind sees a byte read or
- * written outside.
+ * delkuthi_fresh_2 answers and the report. Every argument of a call is in a block
+ * of exactly its length, so that valgrind sees a byte read or written outside.
  */
 #include "delkuthi.h"
 #include "file.h"
@@ -13,7 +12,7 @@
 #include <stdlib.h>
 #include <string.h>
 
-/* Stops where something is not as it must be. */
+/* Ends the program if a check fails. */
 static void must(int yes, const char *what)
 {
     if (yes)
@@ -22,7 +21,7 @@ static void must(int yes, const char *what)
     exit(1);
 }
 
-/* The first bytes of a file, as a file of their own. */
+/* Returns the first bytes of a file, as a separate file. */
 static struct file cut(const struct file *file, size_t length)
 {
     struct file part;
@@ -33,14 +32,14 @@ static struct file cut(const struct file *file, size_t length)
     return part;
 }
 
-/* The report in a block of so many bytes: returns the bytes written. */
+/* Makes the report in a block of this length. Returns the number of bytes written. */
 static size_t report_in(const struct file *table, const struct file *recording, uint8_t *block, size_t length)
 {
     memset(block, '#', length);
     return delkuthi_report_2(table->bytes, table->length, recording->bytes, recording->length, block, length);
 }
 
-/* Prints the report, made in blocks that are long enough, just so, one byte short, and of length 0. */
+/* Prints the report, made in blocks that are too long, exactly long enough, one byte short, and of length 0. */
 static void print_report(const struct file *table, const struct file *recording)
 {
     uint8_t *large = block_of(DELKUTHI_REPORT_LIMIT), *just, *small, *none = block_of(0);

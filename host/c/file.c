@@ -2,7 +2,7 @@
 #include <stdio.h>
 #include <stdlib.h>
 
-/* What a block of length 0 points to where malloc gives none. */
+/* The address of a block of length 0 if malloc returns NULL. */
 static uint8_t nothing;
 
 uint8_t *block_of(size_t length)

@@ -1,4 +1,4 @@
-/* A file's bytes, in memory that is just as long as the file. */
+/* The bytes of a file, in memory of exactly its length. */
 #ifndef FILE_H
 #define FILE_H
 
@@ -6,23 +6,23 @@
 #include <stdint.h>
 
 struct file {
-    uint8_t *bytes; /* never NULL, also where length is 0 */
+    uint8_t *bytes; /* never NULL, even if length is 0 */
     size_t length;
 };
 
 /* Reads a whole file. Returns 0 if it cannot be read. */
 int read_file(const char *name, struct file *file);
 
-/* Lets go of its memory. */
+/* Frees its memory. */
 void free_file(struct file *file);
 
-/* So many bytes of memory of their own; never NULL, also where length is 0. */
+/* Returns a block of memory of this length; never NULL, even if length is 0. */
 uint8_t *block_of(size_t length);
 
-/* Lets go of memory that block_of gave. */
+/* Frees memory that block_of returned. */
 void free_block(uint8_t *block);
 
-/* The time in eight bytes of a file, the highest first. */
+/* Returns the time in eight bytes of a file, the most significant byte first. */
 uint64_t time_of(const uint8_t *bytes);
 
 #endif

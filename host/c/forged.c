@@ -1,16 +1,16 @@
 /*
  * Every call ends soon, whatever the memory holds: forged ROUNDS TABLE..
  *
- * For each table it makes a monitor, steps it, and forges its memory: one word
- * after the other is set to each of the worst numbers; every word is, and then
- * one of them to a small number, as a type's is; and, in ROUNDS rounds, some
- * words are, at random. On each such memory it makes every call. A call that
- * takes more than LIMIT seconds of processor time, of which none takes a
- * thousandth, ends the program: it says which call that was, and the exit
- * status is 1. Prints how many calls it made.
+ * For each table it makes a monitor, steps it, and forges its memory in three
+ * ways: it sets one word after the other to each of the worst numbers; it sets
+ * all words, and then one of them to a small number, as the number of a type is;
+ * and, in ROUNDS rounds, it sets some words at random. On each such memory it
+ * makes every call. A correct call takes less than a thousandth of LIMIT seconds
+ * of processor time. If one takes more than LIMIT, the program says which, and
+ * ends with status 1. It prints how many calls it made.
  */
 #define _XOPEN_SOURCE 600
-#define DELKUTHI_CHECKED // what is answered does not matter here
+#define DELKUTHI_CHECKED // the answers do not matter here
 #include "delkuthi.h"
 #include "file.h"
 #include <signal.h>
@@ -24,7 +24,7 @@
 #define WORDS (sizeof(delkuthi_monitor) / sizeof(uint64_t))
 #define COUNT(list) (sizeof(list) / sizeof (list)[0])
 
-/* The words of the first row, and those behind all rows, which are the monitor's own. */
+/* The words of the first row, and those of the monitor behind all rows. */
 #define FIRST 128
 #define OWN   384
 
@@ -38,7 +38,7 @@ static uint64_t state = 88172645463325252u;
 static unsigned long made;
 static const char *call;
 
-/* The next random number below a limit. */
+/* Returns the next random number below a limit. */
 static uint64_t below(uint64_t limit)
 {
     state ^= state << 13;
@@ -59,7 +59,7 @@ static void too_long(int signal)
     _exit(1);
 }
 
-/* The next call is this one; its time starts. */
+/* Starts the time of the next call. */
 static void begins(const char *name)
 {
     const struct itimerval limit = {{0, 0}, {LIMIT, 0}};
@@ -70,7 +70,7 @@ static void begins(const char *name)
         exit(3);
 }
 
-/* Every call, each on a copy of the forged memory. */
+/* Makes every call, each on a copy of the forged memory. */
 static void every_call(const delkuthi_monitor *forged)
 {
     static delkuthi_monitor monitor;
@@ -117,7 +117,7 @@ static void every_call(const delkuthi_monitor *forged)
     (void)delkuthi_rows(forged);
 }
 
-/* A monitor over a table that has taken some steps. */
+/* Makes a monitor over a table that has taken some steps. */
 static int stepped(const struct file *table, delkuthi_monitor *monitor)
 {
     uint64_t time;
@@ -129,7 +129,7 @@ static int stepped(const struct file *table, delkuthi_monitor *monitor)
     return 1;
 }
 
-/* One word after the other set to each of the worst numbers. */
+/* Sets one word after the other to each of the worst numbers. */
 static void one_word(const delkuthi_monitor *good)
 {
     delkuthi_monitor forged = *good;
@@ -144,7 +144,7 @@ static void one_word(const delkuthi_monitor *good)
     }
 }
 
-/* Every word set to one of the worst numbers, and then each word of the first row and of the monitor's own to a small number. */
+/* Sets every word to one of the worst numbers, and then each word of the first row and of the monitor to a small number. */
 static void every_word(void)
 {
     static delkuthi_monitor forged;
@@ -164,7 +164,7 @@ static void every_word(void)
     }
 }
 
-/* Some words of a monitor set at random. */
+/* Sets some words of a monitor at random. */
 static void some_words(const delkuthi_monitor *good, long rounds)
 {
     delkuthi_monitor forged;

@@ -1,11 +1,10 @@
 /*
- * Tables of rows by their fields' names, in the edition that they need:
- * make_table ROWS
+ * Writes tables of rows, in the edition that they need: make_table ROWS
  *
- * ROWS is a text file of numbers: for each table how many rows it has and how
- * long the buffer is, then for each row its type, five bytes and four times, as
- * many as the longest have. For each table it prints the number and the length
- * that the library answers with, and every byte of the buffer.
+ * ROWS is a text file of numbers. For each table it has the number of rows and
+ * the length of the buffer, then for each row its type, five bytes and four
+ * times, as many as the longest rows have. For each table the program prints the
+ * number and the length that the library answers, and every byte of the buffer.
  */
 #include "delkuthi.h"
 #include <inttypes.h>
@@ -13,7 +12,7 @@
 #include <stdlib.h>
 #include <string.h>
 
-/* The row of a type, by its bytes b and its times t. */
+/* Returns the row of a type, from its bytes b and its times t. */
 static delkuthi_row row_of(unsigned type, const uint8_t *b, const uint64_t *t)
 {
     switch (type) {

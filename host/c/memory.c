@@ -1,13 +1,13 @@
 /*
  * The monitor's memory: memory ROUNDS
  *
- * Prints the size and the alignment of delkuthi_monitor, then makes calls on
+ * Prints the size and the alignment of delkuthi_monitor. Then it makes calls on
  * monitors in static memory, on the stack, in a struct and on the heap, filled
- * with any bytes. They need only return, leave the memory around alone, and
- * say no more than 32 rows. On static memory, which is all zeros, a monitor is
- * closed and has no rows.
+ * with arbitrary bytes. These calls must return, leave the memory around the
+ * monitor alone, and report at most 32 rows. Static memory, which is all zeros,
+ * is a closed monitor without rows.
  */
-#define DELKUTHI_CHECKED // what is answered does not matter here
+#define DELKUTHI_CHECKED // the answers do not matter here
 #include "delkuthi.h"
 #include "file.h"
 #include <stdio.h>
@@ -31,7 +31,7 @@ struct fenced {
 static delkuthi_monitor in_static;
 static uint64_t state = 88172645463325252u;
 
-/* The next random number. */
+/* Returns the next random number. */
 static uint64_t number(void)
 {
     state ^= state << 13;
@@ -40,7 +40,7 @@ static uint64_t number(void)
     return state;
 }
 
-/* Fills memory with random bytes, of all bits or of few. */
+/* Fills memory with random bytes, with many bits set or few. */
 static void fill(delkuthi_monitor *monitor)
 {
     uint64_t shift = number() % 2 ? 0 : 64;
@@ -50,7 +50,7 @@ static void fill(delkuthi_monitor *monitor)
         monitor->words[i] = number() >> (shift ? number() % shift : 0);
 }
 
-/* Calls of every sort, on whatever the memory holds. */
+/* Makes calls of every sort, whatever the memory holds. */
 static void calls(delkuthi_monitor *monitor)
 {
     uint8_t page[DELKUTHI_PAGE_LIMIT];
@@ -83,7 +83,7 @@ static void calls(delkuthi_monitor *monitor)
     }
 }
 
-/* Says whether a fresh monitor on this memory is fresh. */
+/* Returns whether a fresh monitor in this memory is fresh. */
 static int fresh(delkuthi_monitor *monitor)
 {
     return delkuthi_fresh(monitor, table, sizeof table) == DELKUTHI_TAKEN && delkuthi_rows(monitor) == 1
@@ -93,7 +93,7 @@ static int fresh(delkuthi_monitor *monitor)
         && delkuthi_row_step(monitor, 1) == 0 && delkuthi_close(monitor) == DELKUTHI_CLOSED;
 }
 
-/* Says whether memory of zeros is a monitor that is closed and has no rows, and stays as it is. */
+/* Returns whether memory of zeros is a closed monitor without rows and stays as it is. */
 static int closed(delkuthi_monitor *zeros)
 {
     uint8_t page[DELKUTHI_PAGE_LIMIT];
@@ -115,7 +115,7 @@ static int closed(delkuthi_monitor *zeros)
     return well;
 }
 
-/* Calls on a monitor with a fence on both sides, which must stand. */
+/* Makes calls on a monitor with a fence on both sides, which must not change. */
 static int stands(struct fenced *fenced)
 {
     struct fenced like;
@@ -130,7 +130,7 @@ static int stands(struct fenced *fenced)
         && memcmp(fenced->after, like.after, sizeof like.after) == 0;
 }
 
-/* Calls on memory of its own, at an address that is a multiple of 8, and of 16 or not. */
+/* Makes calls on a heap block, at an address that is a multiple of 8, and of 16 or not. */
 static int stands_alone(size_t shift)
 {
     uint8_t *block = block_of(sizeof(delkuthi_monitor) + shift);

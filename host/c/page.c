@@ -1,13 +1,13 @@
 /*
  * The page of a monitor after each length of a recording: page TABLE RECORDING
  *
- * Gives the records to a fresh monitor, one after the other, and closes it; a
- * record that is refused is passed over. Prints the page that it has fresh,
- * after every tenth record, before the close and after it. Each page is asked
- * for in blocks of its very length, of one byte less and of one more; the exit
- * status is 1 where an answer, or a byte behind a page, is not as it has to be.
+ * Gives the records to a fresh monitor, one after the other, and closes it. A
+ * refused record is skipped. Prints the page of the fresh monitor, after every
+ * tenth record, before the close and after it. Each page is written to blocks of
+ * exactly its length, of one byte less and of one byte more. The exit status is 1
+ * if an answer, or a byte behind a page, is wrong.
  */
-#define DELKUTHI_CHECKED // what is answered does not matter here
+#define DELKUTHI_CHECKED // the answers do not matter here
 #include "delkuthi.h"
 #include "file.h"
 #include <stdio.h>
@@ -17,13 +17,13 @@
 
 static delkuthi_monitor monitor;
 
-/* The bytes of the page of so many rows. */
+/* Returns the length of the page of this many rows. */
 static size_t page_size(uint64_t rows)
 {
     return 73 * (size_t)(rows + (rows == 0 ? 1 : (rows + 15) / 16));
 }
 
-/* Whether bytes are as they were. */
+/* Returns whether bytes are as they were. */
 static int untouched(const uint8_t *bytes, size_t length)
 {
     while (length > 0 && bytes[length - 1] == FILL)
@@ -31,7 +31,7 @@ static int untouched(const uint8_t *bytes, size_t length)
     return length == 0;
 }
 
-/* Asks for the page in a block of some bytes more or less than it has, and prints it; returns whether all is well. */
+/* Writes the page to a block of this length, and prints it. Returns whether answer and bytes are right. */
 static int asked(size_t size, size_t length, int print)
 {
     uint8_t *block = block_of(length);
@@ -47,7 +47,7 @@ static int asked(size_t size, size_t length, int print)
     return well;
 }
 
-/* Prints the page; returns whether all is well. */
+/* Prints the page. Returns whether every answer is right. */
 static int page(void)
 {
     size_t size = page_size(delkuthi_rows(&monitor));

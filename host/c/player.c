@@ -1,20 +1,18 @@
 /*
  * Plays a script of calls and prints each answer: player SCRIPT [words]
  *
- * Of two libraries that are played the same script, on machines alike or not,
- * the texts are the same exactly when all answers are. Behind a call on the
- * monitor stands what each row reads: o open, k kept, b and a step broken; how
- * many wait in it and its deadline; and then the numbers of the monitor; behind
- * an event that is refused with 12 the row that is crowded, behind a close the
+ * If two libraries play the same script, on the same or different machines, the
+ * texts are equal exactly if all answers are. After a call on the monitor the
+ * line has what each row reads: o open, k kept, b and a step broken; how many
+ * wait in it and its deadline; and then the numbers of the monitor. After an
+ * event that is refused with 12 it has the crowded row, and after a close the
  * report. A buffer that a call writes is printed whole. With `words`, for
- * machines with sizes of 64 bits, a sum of the monitor's bytes stands there too.
- * A call that is refused and yet changed the monitor or a buffer is an exit
- * status of 1.
+ * machines with sizes of 64 bits, the line also has a sum of the monitor's
+ * bytes. The exit status is 1 if a refused call changed the monitor or a buffer.
  *
  * A line of the script is a call and its arguments: numbers, bytes in
- * hexadecimal, and for a buffer its length. An empty stretch of bytes is a "-".
- * A call that takes a table has behind its name a "_2" where it is the form for
- * both editions.
+ * hexadecimal, and the length of a buffer. "-" stands for no bytes. The name of a
+ * call that takes a table ends with "_2" for the form for both editions.
  */
 #include "delkuthi.h"
 #include <inttypes.h>
@@ -33,7 +31,7 @@ static size_t lengths[3];
 static uint8_t buffer[BUFFER_LIMIT];
 static int with_words, well = 1, both; /* both: the call is the form for both editions */
 
-/* The next word of the line. */
+/* Returns the next word of the line. */
 static const char *word(void)
 {
     const char *found = strtok(NULL, " \n");
@@ -51,7 +49,7 @@ static uint8_t byte(void)
     return (uint8_t)number();
 }
 
-/* Reads bytes in hexadecimal to a place of their own, which is given. */
+/* Reads bytes in hexadecimal to the given place. */
 static const uint8_t *stretch(int place)
 {
     const char *text = word();
@@ -64,7 +62,7 @@ static const uint8_t *stretch(int place)
     return bytes[place];
 }
 
-/* Whether so many bytes from a place on are as they were. */
+/* Returns whether this many bytes from a place on are as they were. */
 static int untouched(size_t from, size_t length)
 {
     while (from < length && buffer[from] == FILL)
@@ -72,7 +70,7 @@ static int untouched(size_t from, size_t length)
     return from >= length;
 }
 
-/* The length of the buffer that a call is lent, filled so that a byte that is written is seen. */
+/* Returns the length of the buffer for a call, and fills the buffer so that a written byte shows. */
 static size_t lent(void)
 {
     uint64_t length = number();
@@ -81,7 +79,7 @@ static size_t lent(void)
     return length < BUFFER_LIMIT ? (size_t)length : BUFFER_LIMIT;
 }
 
-/* Prints an answer and the bytes that were written; nothing behind them may have been. */
+/* Prints an answer and the written bytes, and checks that nothing behind them was written. */
 static void wrote(uint64_t answer, size_t written)
 {
     size_t i;
@@ -92,7 +90,7 @@ static void wrote(uint64_t answer, size_t written)
     well &= untouched(written, sizeof buffer);
 }
 
-/* A sum of the monitor's bytes (FNV-1a). */
+/* Returns a sum of the monitor's bytes (FNV-1a). */
 static uint64_t sum(void)
 {
     const uint8_t *place = (const uint8_t *)&monitor;
@@ -104,7 +102,7 @@ static uint64_t sum(void)
     return result;
 }
 
-/* Prints what waits in each row and its deadline, where there is one, and the numbers of the monitor. */
+/* Prints what waits in each row and its deadline, if it has one, and the numbers of the monitor. */
 static void numbers(uint64_t count)
 {
     uint64_t row, waiting, deadline;
@@ -121,7 +119,7 @@ static void numbers(uint64_t count)
            delkuthi_steps(&monitor), delkuthi_closed(&monitor), delkuthi_broken_rows(&monitor), delkuthi_deadline(&monitor));
 }
 
-/* Prints what the rows read, and some that are not there. */
+/* Prints what the rows read, and some rows that do not exist. */
 static void rows(void)
 {
     static const uint64_t behind[] = {32, 33, 64, UINT64_C(4294967296), UINT64_C(4294967297), UINT64_MAX};
@@ -144,7 +142,7 @@ static void rows(void)
         printf(" %016" PRIx64, sum());
 }
 
-/* Prints the answer of a call on the monitor. One that is refused has changed nothing. */
+/* Prints the answer of a call on the monitor, and checks that a refused call changed nothing. */
 static void stepped(uint64_t answer)
 {
     printf(" %" PRIu64, answer);

@@ -1,10 +1,10 @@
 /*
  * What every number of a refusal says: refusals
  *
- * A line for each number from 0 to 255. Before that it has every macro of the
- * header stand where a host would have it, so that a compiler can complain; and
- * it compares every byte of a monitor before and after a refusal of each number
- * that a call on a monitor can be refused with, but for the end of the count.
+ * Prints a line for each number from 0 to 255. Before that it uses every macro of
+ * the header as a host would, so that a compiler can complain. It also compares
+ * every byte of a monitor before and after a refusal of each number that a call
+ * on a monitor can give, except 24.
  */
 #include "delkuthi.h"
 #include <stdio.h>
@@ -12,13 +12,13 @@
 
 static delkuthi_monitor monitor, before;
 
-/* Whether an answer has the number of a refusal, and all is as it was. */
+/* Returns whether an answer has the number of a refusal and nothing has changed. */
 static int left(uint64_t answer, uint8_t number)
 {
     return DELKUTHI_NUMBER(answer) == number && memcmp(&monitor, &before, sizeof monitor) == 0;
 }
 
-/* The same of a table: by fresh, and by the report on the monitor. */
+/* The same for a table, by delkuthi_fresh and by a report on the monitor. */
 static int table_left(const uint8_t *table, size_t length, uint8_t number)
 {
     static const uint8_t recording[1] = {1};
@@ -29,7 +29,7 @@ static int table_left(const uint8_t *table, size_t length, uint8_t number)
         && left(number, number);
 }
 
-/* Tables that are refused, each with its number. */
+/* Refused tables, each with its number. */
 static int tables_left(void)
 {
     /* 33 rows, each an Order of kinds 0 and 1 */
@@ -54,7 +54,7 @@ static int tables_left(void)
         && table_left(bounds, sizeof bounds, DELKUTHI_ROW_BOUNDS);
 }
 
-/* Steps that are refused, each with its number, where 64 wait, after a withdrawal, and after the close. */
+/* Refused steps, each with its number: with 64 waiting, after a withdrawal, and after the close. */
 static int steps_left(void)
 {
     /* a Delay from kind 0 to kind 1, 0 to 1,000 */
@@ -87,7 +87,7 @@ static int steps_left(void)
         && left(delkuthi_close(&monitor), DELKUTHI_CLOSED);
 }
 
-/* Every macro in use. Returns whether all is as the header says. */
+/* Uses every macro. Returns whether each gives what the header says. */
 static int macros(void)
 {
     static const uint8_t table[6] = {1, 0, 3, 6, 0, 1};

@@ -1,8 +1,8 @@
 /*
  * The library and the header: version
  *
- * Prints the version and the monitor's size as the library has them and as the
- * header has them. The exit status is 1 where they differ.
+ * Prints the version and the size of a monitor, first the library's and then the
+ * header's. The exit status is 1 if they do not match.
  */
 #include "delkuthi.h"
 #include <inttypes.h>

@@ -1,15 +1,15 @@
 /*
  * The slowest calls: worst
  *
- * Looks for situations in which a call takes long, over tables of 32 rows, and
- * prints for each sort of call the most cycles that it took and where. For each
- * type a table of 32 such rows, which share their kinds, and one of all types;
- * each is given events in several orders, up to as many as may wait; and then,
- * on a copy, one more event of each kind, soon and late, a tick past every
- * deadline, the close, and the withdrawal of each. A call is repeated on copies
- * of the same monitor, and the least of its times counts, so that what else the
- * machine does is not measured; "cold" is the same call, in the middle of its
- * times, with the monitor in no cache. Cycles are those of the time stamp
+ * Searches for situations in which a call takes long, over tables of 32 rows of
+ * edition 1, and prints for each sort of call the most cycles that it took and
+ * where. There is a table of 32 rows for each type, whose rows share their kinds,
+ * and one with all types. Each takes events in several orders, up to as many as
+ * may wait. Then, on a copy, it takes one more event of each kind, soon and late,
+ * a tick past every deadline, the close, and the withdrawal of each. A call is
+ * repeated on copies of the same monitor, and its shortest time counts, so that
+ * other work of the machine is not measured. "cold" is the median time of the
+ * same call with the monitor in no cache. Cycles are those of the time stamp
  * counter (x86-64).
  */
 #define _POSIX_C_SOURCE 199309L
@@ -27,7 +27,7 @@
 
 /* A call on a monitor. */
 struct call {
-    char sort; /* 'e' an event, 'c' one with a colour, 't' a tick, 'x' the close, 'w' the withdrawal of the last step */
+    char sort; /* 'e' an event, 'c' an event with a colour, 't' a tick, 'x' the close, 'w' the withdrawal of the last step */
     uint8_t kind;
     uint64_t time;
 };
@@ -49,7 +49,7 @@ static uint8_t table[DELKUTHI_TABLE_LIMIT];
 static size_t table_length;
 static volatile uint64_t sink;
 
-/* A row of a type over the kinds 0 to 3, or 48 and 49, which others of its type share; number tells rows apart. */
+/* Returns a row of a type over the kinds 0 to 3, or 48 and 49, as all rows of the type have; number tells rows apart. */
 static delkuthi_row row_of(int type, int number)
 {
     static const uint8_t kinds[4] = {0, 1, 2, 3};
@@ -79,7 +79,7 @@ static delkuthi_row row_of(int type, int number)
     }
 }
 
-/* Writes the table of 32 rows of a type, or of all types in turn where it is 0; returns whether it is accepted. */
+/* Writes the table of 32 rows of a type, or of all types in turn if it is 0. Returns whether it is accepted. */
 static int make_table(int type)
 {
     delkuthi_row rows[DELKUTHI_ROW_LIMIT];
@@ -109,7 +109,7 @@ static uint8_t take(delkuthi_monitor *monitor, struct call call)
     }
 }
 
-/* Puts the monitor out of every cache. */
+/* Removes the monitor from every cache. */
 static void flush(delkuthi_monitor *monitor)
 {
     size_t i;
@@ -137,7 +137,7 @@ static int by_size(const void *one, const void *other)
     return a < b ? -1 : a > b;
 }
 
-/* The cycles of a call after a step that is to be withdrawn or of sort 0: the least of its times, or, cold, the one in the middle. */
+/* Returns the cycles of a call after a first step (none if its sort is 0): the shortest time, or, cold, the median. */
 static uint64_t cycles_of(struct call first, struct call call, int cold)
 {
     uint64_t times[REPEATS], start;
@@ -158,7 +158,7 @@ static uint64_t cycles_of(struct call first, struct call call, int cold)
     return times[cold ? REPEATS / 2 : 0];
 }
 
-/* Says where a call was slow: the rows, how many events were given before it and in which order of kinds, and the event itself. */
+/* Notes where a call was slow: the rows, how many events came before it and in which order of kinds, and the event. */
 static void say_where(char *text, size_t room, struct call call, int type, const char *order, int fill)
 {
     char rows[24], event[40] = "";
@@ -179,7 +179,7 @@ static void measure(enum sort sort, struct call first, struct call call, int typ
     struct slowest *found = &slowest[sort];
     int i;
 
-    /* and again, so that a time that was long by chance is not kept */
+    /* again, so that a time that was long by chance does not count */
     for (i = 0; i < 10 && cycles > found->cycles; i++) {
         again = cycles_of(first, call, 0);
         cycles = again < cycles ? again : cycles;
@@ -191,7 +191,7 @@ static void measure(enum sort sort, struct call first, struct call call, int typ
     say_where(found->where, sizeof found->where, first.sort ? first : call, type, order, fill);
 }
 
-/* Measures every call on the monitor as it is filled. */
+/* Measures every call on the filled monitor. */
 static void measure_all(int type, const char *order, int fill, uint64_t clock)
 {
     static const struct call none = {0, 0, 0};
@@ -223,7 +223,7 @@ static void measure_all(int type, const char *order, int fill, uint64_t clock)
     }
 }
 
-/* Fills a monitor over the table by events in an order of kinds, and measures on the way. */
+/* Fills a monitor over the table with events in an order of kinds, and measures while it fills. */
 static void fill_and_measure(int type, const char *order)
 {
     int i, length = (int)strlen(order);
@@ -244,7 +244,7 @@ static void fill_and_measure(int type, const char *order)
     }
 }
 
-/* How many nanoseconds a cycle of the counter takes. */
+/* Returns how many nanoseconds a cycle of the counter takes. */
 static double nanoseconds(void)
 {
     struct timespec start, end;

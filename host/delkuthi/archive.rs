@@ -8,9 +8,9 @@ use std::process::{Command, Stdio, exit};
 
 /// Has cargo link the archive of a proved library, and gives the folder that it is in.
 ///
-/// The archive is the one in the folder that the environment variable `DELKUTHI_LIB` names, or else it is built from
-/// `crates/`. It is copied to the build's own folder, so that the build still has it when `target/` at the
-/// repository's root is removed. Where there is no archive the build ends, with a line that says what to do.
+/// The archive is the one in the folder that the environment variable `DELKUTHI_LIB` names; without the variable it is built
+/// from `crates/`. It is copied to the folder of this build, so that the build still has it after `target/` at the
+/// repository's root is removed. If there is no archive, the build ends with a line that says what to do.
 pub fn link(name: &str) -> PathBuf {
     let file = format!("lib{name}.a");
     println!("cargo:rerun-if-env-changed=DELKUTHI_LIB");
@@ -24,12 +24,12 @@ pub fn link(name: &str) -> PathBuf {
     folder
 }
 
-/// The proved libraries that an archive is put together of: those of the `Makefile`.
+/// The proved libraries that make up an archive, as in the `Makefile`.
 fn parts(name: &str) -> Vec<&str> {
-    if name == "delkuthi" { vec!["delkuthi", "stretch_host", "status"] } else { vec![name] }
+    if name == "delkuthi" { vec!["delkuthi", "stretch_ffi", "queries"] } else { vec![name] }
 }
 
-/// Copies an archive that is there.
+/// Copies an archive.
 fn copy(archive: &Path, to: &Path) {
     if let Err(error) = fs::copy(archive, to) {
         let (archive, file) = (archive.display(), to.file_name().unwrap_or_default().to_string_lossy());
@@ -37,7 +37,7 @@ fn copy(archive: &Path, to: &Path) {
     }
 }
 
-/// Builds the parts of an archive and puts them together.
+/// Builds the parts of an archive and joins them.
 fn put_together(parts: &[&str], archive: &Path) {
     let added = parts.iter().map(|part| format!("addlib {}/lib{part}.a\n", built(part).display())).collect::<String>();
     let script = format!("create {}\n{added}save\nend\n", archive.display());
@@ -47,7 +47,7 @@ fn put_together(parts: &[&str], archive: &Path) {
         ar.wait()
     });
     if !matches!(written, Ok(status) if status.success()) {
-        give_up("ar, of binutils, did not put the archive together");
+        give_up("ar, of binutils, did not join the parts of the archive");
     }
 }
 
@@ -58,7 +58,7 @@ fn built(name: &str) -> PathBuf {
     changing(&root.join("crates"));
     match Command::new("rt").args(["staticlib", name]).current_dir(&root).status() {
         Ok(status) if status.success() => root.join("target/staticlib"),
-        Ok(status) => give_up(&format!("rt staticlib {name} failed ({status}): what it says stands above")),
+        Ok(status) => give_up(&format!("rt staticlib {name} failed ({status}); its output is above")),
         Err(error) => give_up(&format!(
             "rt, of the Rattle kit, cannot be run ({error}): set DELKUTHI_LIB to the folder of lib{name}.a, \
              or put rt in the PATH to have it proved and built"
@@ -66,13 +66,13 @@ fn built(name: &str) -> PathBuf {
     }
 }
 
-/// Ends the build with a line for whoever started it.
+/// Ends the build with a line of text.
 fn give_up(text: &str) -> ! {
     eprintln!("error: {text}");
     exit(1)
 }
 
-/// The path, with which cargo runs the build script again if something changes there.
+/// Returns the path, and has cargo run the build script again if something changes there.
 fn changing(path: &Path) -> PathBuf {
     println!("cargo:rerun-if-changed={}", path.display());
     path.to_path_buf()

@@ -1,7 +1,7 @@
 """A host in Python: report.py LIBRARY TABLE RECORDING
 
-Loads the shared library, prints the report on a recording, and gives the same records to a monitor, one call after the
-other, to see that it says the same.
+Loads the shared library and prints the report on a recording. It also gives the same records to a monitor, one call after
+the other, and checks that the monitor says the same.
 """
 import ctypes
 import sys
@@ -11,7 +11,7 @@ REPORT_LIMIT = 1024
 
 
 def load(path):
-    """The library, with the types of its calls as include/delkuthi.h declares them."""
+    """Returns the library, with the types of its calls as include/delkuthi.h declares them."""
     library = ctypes.CDLL(path)
     data, length, monitor, number = ctypes.c_char_p, ctypes.c_size_t, ctypes.c_void_p, ctypes.c_uint64
     calls = {

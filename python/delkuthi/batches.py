@@ -45,10 +45,6 @@ class Batch(NamedTuple):
         """How many lines they are."""
         return len(self.codes) if self.places is None else self.places[-1] - self.place + 1
 
-    def place_of(self, entry: int) -> int:
-        """The place of an entry."""
-        return self.place + entry if self.places is None else self.places[entry]
-
     def moved(self, places: int) -> Batch:
         """The same lines so many places further on."""
         return Batch(self.times, self.codes, self.place + places, None if self.places is None else [place + places for place in self.places])
@@ -186,23 +182,16 @@ def rising(times: Sequence[int], clock: int) -> bool:
     return times[0] > clock and all(map(lt, times, islice(times, 1, None)))
 
 
-def level(times: list[int], codes: bytes, clock: int, taken: set[int]) -> tuple[list[int], bytes]:
-    """Lines of which some share a stamp, without those that are no event and do not move the clock. ``taken`` are the codes of the events
-    at the clock. :class:`NeedsSlowPath` where two events of one code share a stamp, or a stamp is before another."""
+def level(times: list[int], codes: bytes, clock: int, taken: set[int]) -> list[int]:
+    """The entries that are kept of lines of which some share a stamp: without those that are no event and do not move the clock. ``taken`` are
+    the codes of the events at the clock. :class:`NeedsSlowPath` where two events of one code share a stamp, or a stamp is before another."""
     if any(map(gt, times, islice(times, 1, None))):
         raise NeedsSlowPath
-    kept = [(time, code) for time, before, code in zip(times, chain((clock,), times), codes) if code != OTHER or time > before]
-    if len(set(kept)) != len(kept) or any(code in taken for _, code in takewhile(lambda one: one[0] == clock, kept)):
+    kept = [at for at, (time, before, code) in enumerate(zip(times, chain((clock,), times), codes)) if code != OTHER or time > before]
+    pairs = [(times[at], codes[at]) for at in kept]
+    if len(set(pairs)) != len(pairs) or any(code in taken for _, code in takewhile(lambda one: one[0] == clock, pairs)):
         raise NeedsSlowPath
-    return [time for time, _ in kept], bytes([code for _, code in kept])
-
-
-def last_kept(times: list[int], codes: bytes) -> int:
-    """The place of the last line that :func:`level` keeps."""
-    place = len(codes) - 1
-    while place and codes[place] == OTHER and times[place] == times[place - 1]:
-        place -= 1
-    return place
+    return kept
 
 
 def ends(times: Sequence[int], codes: bytes) -> Iterator[tuple[int, int]]:

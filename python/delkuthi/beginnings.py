@@ -30,7 +30,7 @@ class Beginning:
 
     ``count`` gives the number of instances that the events left out belong to. ``online`` says that one past does, as what is left
     out later leaves the row in the same state. ``lone`` is for a type in which every event may have had its partners before the
-    beginning: it counts those before a time that have none in the log.
+    beginning: it counts those up to a time that have none in the log.
     """
 
     began: Began = never

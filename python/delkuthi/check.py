@@ -5,7 +5,7 @@ import time as clock
 from collections import Counter, deque
 from contextlib import AbstractContextManager, contextmanager, nullcontext
 from dataclasses import asdict, dataclass, field, replace
-from datetime import datetime, timezone
+from functools import partial
 from itertools import islice
 from operator import itemgetter
 from typing import Callable, Iterable, Iterator, Sequence
@@ -13,7 +13,8 @@ from typing import Callable, Iterable, Iterator, Sequence
 from .batches import Codes, NeedsSlowPath
 from .library import Refused
 from .logs import Counts, Log, LogError, Policy, Step
-from .judge import Judging, RowVerdict, ScopedMeasuring, StepRefused
+from .instances import widened
+from .judge import Judging, RowVerdict, ScopedMeasuring, StepRefused, together
 from .measure import Measure, Measuring
 from .measured import Described, described
 from .explain import Explanation, reasons_of
@@ -22,6 +23,7 @@ from .unseen_events import warnings
 from .monitor import Monitor
 from .monitors import Monitors, Recorder, monitor_of
 from .rowtypes import judged
+from .run_date import run_date
 from .table import Row, Table
 from .violations import Spool, Violations
 from .window_text import window_text
@@ -68,6 +70,16 @@ class RowOutcome:
     #: Of a row with a ``while`` window in how many stretches of the log it was judged.
     stretches: int | None = None
 
+    @property
+    def words(self) -> str:
+        """What it reads, with what is not yet due, what was left out, and over how many stretches."""
+        if not self.verdict.startswith(SO_FAR):
+            return self.verdict
+        found = [self.verdict, *([] if self.verdict.endswith(IDLE) else [f"{self.not_yet_due:,} not yet due"])]
+        found += [f"{self.left_out:,} that began before left out"] if self.left_out else []
+        found += [] if self.stretches is None else [f"in {self.stretches:,} stretch{'' if self.stretches == 1 else 'es'}"]
+        return ", ".join(found)
+
 
 @dataclass
 class Outcome:
@@ -91,6 +103,9 @@ class Outcome:
     files: str | tuple[str, ...] = ""
     #: Which part of the log was checked, and how its beginning and its end were taken, in words.
     scope: str = ""
+    #: Is that something else than the whole log, closed or left open at its end? Is one of its ends cut?
+    scope_chosen: bool = False
+    cut: bool = False
     #: Every instance that is outside or missing, where that was asked for.
     violations: Violations | None = None
     #: When the check began (ISO 8601, universal time), and how many seconds it took.
@@ -126,7 +141,7 @@ class Outcome:
 
     def as_dict(self) -> dict[str, object]:
         """For JSON: the fields by their names, times as the log's stamps."""
-        hidden = ("counts", "time_format", "exercised", "files", "violations", "started", "seconds")
+        hidden = ("counts", "time_format", "exercised", "files", "violations", "started", "seconds", "scope_chosen")
         found = {name: value for name, value in asdict(replace(self, violations=None)).items() if name not in hidden}
         return {**found, **asdict(self.counts), "offset": self.time_format.shift, "status": self.status}
 
@@ -165,27 +180,30 @@ def run(monitor: Monitor | Monitors, steps: Iterable[Step], close: bool) -> Run:
     return found
 
 
-def run_log(table: Table, log: Log, close: bool) -> tuple[Run, Monitor | Monitors]:
-    """Gives a log to the monitors of a table, many steps in one call where they are all alike; what the steps were that broke rows is
-    found when the log is read again. :class:`StepRefused` at the first step that is refused."""
+def run_log(table: Table, log: Log, close: bool, measured: bool = False) -> tuple[Run, Monitor | Monitors, Measuring | None]:
+    """Gives a log to the monitors of a table, many steps in one call where they are all alike, and measures its rows if asked; what the steps
+    were that broke rows is found when the log is read again. :class:`StepRefused` at the first step that is refused."""
     try:
-        return _run_chunks(table, log, close)
+        measuring = Measuring(table) if measured else None
+        return *_run_chunks(table, log, close, measuring), measuring
     except NeedsSlowPath:
-        monitor = monitor_of(table)
-        return run(monitor, log.steps(), close), monitor
+        monitor, measuring = monitor_of(table), Measuring(table) if measured else None
+        return run(monitor, log.steps() if measuring is None else measuring.taking(log.steps()), close), monitor, measuring
 
 
-def _run_chunks(table: Table, log: Log, close: bool) -> tuple[Run, Monitor | Monitors]:
+def _run_chunks(table: Table, log: Log, close: bool, measuring: Measuring | None) -> tuple[Run, Monitor | Monitors]:
     """The same by chunks; :class:`NeedsSlowPath` where they do not do."""
     codes, found, whole = Codes(table), Run(), table.single
     tally = [0] * len(codes.numbers)
     recorders = [Recorder(Monitor(table if whole else part.data), codes, None if whole else part, len(table.parts)) for part in table.parts]
     try:
-        for times, events, last in log.chunks(codes):
+        for times, events, places, last in log.chunks(codes):
             for recorder in recorders:
                 recorder.take(times, events)
+            if measuring is not None:
+                measuring.take_all(times, list(map(codes.signals.__getitem__, events)), places)
             tally = [count + events.count(code) for code, count in enumerate(tally)]
-            found.steps, found.last = found.steps + len(events), last
+            found.steps, found.last = found.steps + len(events), last if events else found.last
     except LogError:
         _flush(log, recorders)
         raise
@@ -258,10 +276,11 @@ def check(table: Table, path: str | Sequence[str], policy: Policy = Policy(), pr
     a row is broken, or for measuring, it is read a second time. ``violations`` is a file for every instance that is not as asked."""
     log, started = Log(path, table, policy), clock.perf_counter()
     outcome = Outcome(log.path, log.word, closed=policy.close and not policy.scope.cut_end, exercised=exercised, files=log.files)
-    outcome.started = datetime.now(timezone.utc).strftime("%Y-%m-%dT%H:%M:%S")
+    outcome.started = run_date().strftime("%Y-%m-%dT%H:%M:%S")
     partly = policy.scope.cut_begin or policy.scope.cut_end or any(row.window is not None for row in table.rows)
     try:
-        found = (_check_scoped if partly else _check_whole)(table, log, outcome, progress or _without, measured, violations)
+        how = partial(_check_scoped if partly else _check_whole, outcome=outcome, bar=progress or _without, measured=measured, violations=violations)
+        log, found = _told_apart(table, log, how)
         _fill(table, log, outcome, found)
     except LogError as error:
         outcome.error = str(error)
@@ -274,21 +293,49 @@ def check(table: Table, path: str | Sequence[str], policy: Policy = Policy(), pr
     return outcome
 
 
+def _told_apart(table: Table, log: Log, how: Callable[[Table, Log], _Checked]) -> tuple[Log, _Checked]:
+    """What a log gives; where runs overlap it is read again, with a row for each that runs at once."""
+    asked, at_once = table, dict[tuple[str, str], int]()
+    while True:
+        error, found = None, None
+        try:
+            found = how(asked, log)
+        except (LogError, StepRefused) as wrong:
+            error = wrong
+        more = {target: max(count, at_once.get(target, 1)) for target, count in log.at_once.items()}
+        wide = widened(table, more) if more != at_once else None
+        if wide is None:
+            if found is None:
+                raise error or AssertionError
+            return log, found if asked is table else _narrowed(table, asked, found)
+        asked, at_once, log = wide, more, Log(log.files, wide, log.policy)
+
+
+def _narrowed(table: Table, wide: Table, found: _Checked) -> _Checked:
+    """What the rows of a table read whose runs that overlap were told apart in another one."""
+    words = [*found.words[: len(table.rows)]]
+    for row, word in zip(wide.rows, found.words):
+        if row.same_as is not None and word == "broken":
+            words[row.same_as] = word
+    return replace(found, verdicts=together(found.verdicts, wide.rows)[: len(words)], words=words, page=None)
+
+
 def _check_whole(table: Table, log: Log, outcome: Outcome, bar: Progress, measured: bool, violations: str | None) -> _Checked:
     """A log whose end is closed or left open, and whose beginning is taken as it is."""
     close, why = log.policy.close, {}
     with bar(log):
-        found, monitor = run_log(table, log, close)
+        found, monitor, measuring = run_log(table, log, close, measured and violations is None)
     _note_read(table, log, outcome, found.seen)
-    measuring = Measuring(table) if measured or violations is not None else None
-    with _spooled(table, log, outcome, measuring, violations):
-        if found.broken or measuring is not None:
+    noting = Measuring(table) if violations is not None else None
+    measuring = noting or measuring
+    with _spooled(table, log, outcome, noting, violations):
+        if found.broken or noting is not None:
             with bar(log):
                 # A log that has grown since is read as far as before.
                 again = _noted(islice(log.steps(), found.steps - close), found, close)
-                steps = again if measuring is None else measuring.taking(again)
+                steps = again if noting is None else noting.taking(again)
                 why = reasons_of(table, steps, found.breaks, log.at, outcome.time_format, close)
-                deque(steps if measuring is not None else (), maxlen=0)
+                deque(steps if noting is not None else (), maxlen=0)
         measures = None if measuring is None else measuring.end(found.last.time, close)
     verdicts = [_verdict(row, found, number, why.get(number)) for number, row in enumerate(table.rows)]
     words = [monitor.verdict(number).word for number in range(len(table.rows))]
@@ -335,6 +382,8 @@ def _spooled(table: Table, log: Log, outcome: Outcome, measuring: Measuring | Sc
     spool = Spool(path, log.path, outcome.time_format.stamp, log.placed, log.reader.number)
     for number, measure in enumerate(measuring.measures):
         row = table.rows[number]
+        if row.same_as is not None:
+            continue
         measure.note = spool.row(number, row.name or f"row {number}", row.type.name, measure)
     try:
         yield
@@ -350,8 +399,11 @@ def _note_read(table: Table, log: Log, outcome: Outcome, seen: Counter[int | Non
         why = f"no {scope.begin.text} came" if scope.begin.kind is not None else f"the log ends before {scope.begin.text}"
         raise LogError(log.path, "", f"{why}, so nothing was checked (--from {scope.begin.text})")
     windows = dict.fromkeys(window_text(table, row) for row in table.rows if row.window is not None)
-    outcome.scope = scope.words(log.policy.close, windows, log.ended)
+    outcome.scope, outcome.scope_chosen = scope.words(log.policy.close, windows, log.ended), scope.chosen or bool(windows)
+    outcome.cut = scope.cut_begin or scope.cut_end
     outcome.warnings = warnings(table, log, seen)
+    if scope.begin is not None or scope.end is not None:
+        outcome.warnings = [line.replace(": the log has no ", ": this part of the log has no ", 1) for line in outcome.warnings]
 
 
 def _fill(table: Table, log: Log, outcome: Outcome, found: _Checked) -> None:

@@ -2,13 +2,16 @@
 from __future__ import annotations
 
 import argparse
+import gzip
 import json
 import math
 import os
 import sys
+import tempfile
 from concurrent.futures import ProcessPoolExecutor
 from contextlib import contextmanager
 from functools import partial
+from itertools import chain
 from pathlib import Path
 from typing import IO, Any, Iterator, Sequence
 
@@ -16,22 +19,24 @@ from . import library as lib
 from .autosar import is_arxml
 from .check import Outcome, check
 from .database import DatabaseError
-from .html_page import as_html, pictured
+from .evidence import evidence_of
+from .html_page import as_html
 from .library import LibraryMissing, Refused
 from .logs import Log, LogError, Policy
 from .measured import text_lines
 from .monitor import report
 from .log_commands import join_logs, late_stamps, record, shrink
-from .output import as_json, as_junit, as_text, overall
+from .output import COLUMNS, as_json, as_junit, as_text, overall, wrapped
 from .plot import PlotMissing, write_plot
 from .provenance import provenance
-from .options import add_databases, add_options, add_timing, policy, read_table, timing_table
+from .options import add_databases, add_edges, add_options, add_timing, policy, read_table, refuse_windows, timing_table
 from .readers.standard_input import NAME, kept
 from .table import Table, is_bytes
 from .text import TextError, grammar
-from .timeline import gather, overview
+from .scenes import gather, overview
 from .trace import write_trace
 from .units import UNITS
+from .violations import suffix_of, write_violations
 from .writing import NotWritten, complain, give_up_output, out, write
 
 KEPT, BROKEN, REFUSED, NOT_WRITTEN, INTERRUPTED = 0, 1, 2, 3, 130
@@ -44,6 +49,8 @@ examples:
   delkuthi check brake.txt drive.log --html drive.html  the same as a page, with pictures
   delkuthi check brake.txt drive.asc --dbc car.dbc --measure   signals by name; what rows measure beside what they ask
   delkuthi check brake.txt part_*.log --as-one          a drive in several files
+  delkuthi check brake.txt drive.csv --cut              a log that is a part of something longer
+  delkuthi check brake.txt drive.csv --from ignition_on --to +90s --violations all.csv
   delkuthi check tasks.txt trace.btf --trace out.json   a scheduler trace; a file for Perfetto
   delkuthi check brake.txt logs/*.blf --jobs 4 --junit result.xml --exercised
   delkuthi watch brake.txt socketcan:can0               says a broken row while frames come
@@ -89,24 +96,44 @@ def progress_bar(log: Log) -> Iterator[None]:
 def _check(given: argparse.Namespace) -> int:
     table = read_table(given)
     how = policy(given, table)
+    if given.page and (how.scope.cut_begin or how.scope.cut_end or any(row.window is not None for row in table.rows)):
+        raise LogError("--page", "", "the library's page is of one monitor over a whole log: not with a log that is cut, nor with windows (while)")
+    # The violations of each log wait in a file of their own.
+    with tempfile.TemporaryDirectory(prefix="delkuthi-") as folder:
+        return _check_into(given, table, how, folder if given.violations or given.html else None)
+
+
+def _check_into(given: argparse.Namespace, table: Table, how: Policy, folder: str | None) -> int:
+    """Checks the logs, with files for their violations in a folder, and writes what is asked for."""
     outcomes: list[Outcome] = []
-    measured = bool(given.measure or given.json or given.junit or given.html)
     logs: list[str | list[str]] = [given.log] if given.as_one else list(given.log)
+    spools = [None if folder is None else os.path.join(folder, str(number)) for number in range(len(logs))]
     if len(logs) == 1 or given.jobs == 1:
-        for path in logs:
-            outcomes.append(check(table, path, how, progress_bar, given.exercised, measured))
+        for path, spool in zip(logs, spools):
+            outcomes.append(check(table, path, how, progress_bar, given.exercised, _measured(given), spool))
             _tell(given, table, outcomes[-1])
     else:
         if NAME in given.log:
             kept()
         with ProcessPoolExecutor(given.jobs) as pool:
-            found = pool.map(partial(_check_one, given, how, measured), logs)
+            found = pool.map(partial(_check_one, given, how), logs, spools)
             bar_of = _tqdm()
             for outcome in found if bar_of is None else bar_of(found, total=len(given.log), unit="log", leave=False):
                 outcomes.append(outcome)
                 _tell(given, table, outcome)
+    _write_outputs(given, table, how, outcomes)
+    return max(outcome.status for outcome in outcomes)
+
+
+def _measured(given: argparse.Namespace) -> bool:
+    """Does an output want what rows measure?"""
+    return bool(given.measure or given.json or given.junit or given.html)
+
+
+def _write_outputs(given: argparse.Namespace, table: Table, how: Policy, outcomes: Sequence[Outcome]) -> None:
+    """What is asked for besides the messages."""
     if len(outcomes) > 1 and not (given.json or given.page or given.quiet):
-        out(overall(outcomes) + "\n")
+        out(wrapped(overall(outcomes), given.width))
     if given.json:
         out(as_json(table, outcomes, given.takeover))
     if given.junit:
@@ -114,17 +141,28 @@ def _check(given: argparse.Namespace) -> int:
     if given.html:
         made = provenance(table, given.table, [outcome.files for outcome in outcomes], given.words,
                           [*given.note, *(given.takeover.notes() if given.takeover else ())])
-        write(given.html, as_html(table, given.table, [pictured(table, how, outcome) for outcome in outcomes], made))
+        write(given.html, as_html(table, given.table, [evidence_of(table, how, outcome) for outcome in outcomes], made))
     if given.plot:
         _plot(given.plot, table, how, outcomes)
     if given.trace:
         _trace(given.trace, table, how, outcomes)
-    return max(outcome.status for outcome in outcomes)
+    if given.violations:
+        _violations(given.violations, table, outcomes)
 
 
-def _check_one(given: argparse.Namespace, how: Policy, measured: bool, path: str | list[str]) -> Outcome:
+def _check_one(given: argparse.Namespace, how: Policy, path: str | list[str], spool: str | None) -> Outcome:
     """One of many logs, in a process of its own."""
-    return check(read_table(given), path, how, exercised=given.exercised, measured=measured)
+    return check(read_table(given), path, how, exercised=given.exercised, measured=_measured(given), violations=spool)
+
+
+def _violations(path: str, table: Table, outcomes: Sequence[Outcome]) -> None:
+    """One file with the violations of all logs."""
+    found = chain.from_iterable(outcome.violations for outcome in outcomes if outcome.violations is not None)
+    try:
+        with open(path, "wb") as file:
+            write_violations(file, suffix_of(path), table.unit, found)
+    except OSError as error:
+        raise NotWritten(f"{path}: {error.strerror or error}") from None
 
 
 def _tell(given: argparse.Namespace, table: Table, outcome: Outcome) -> None:
@@ -132,9 +170,9 @@ def _tell(given: argparse.Namespace, table: Table, outcome: Outcome) -> None:
     for line in [outcome.error] if outcome.error is not None else outcome.warnings:
         complain(line)
     if outcome.error is None and not given.json:
-        out(as_text(outcome, given.page, given.quiet))
+        out(as_text(outcome, given.page, given.quiet, given.width))
         rows = [(table.row_name(row.number), row.measured) for row in outcome.rows if row.measured is not None]
-        out("".join(f"  {line}\n" for line in text_lines(rows, table.unit)) if given.measure else "")
+        out("".join(wrapped(f"  {line}", given.width, "        ") for line in text_lines(rows, table.unit)) if given.measure else "")
 
 
 def _files(path: str, outcomes: Sequence[Outcome]) -> Iterator[tuple[str, Outcome]]:
@@ -166,7 +204,7 @@ def _trace(path: str, table: Table, how: Policy, outcomes: Sequence[Outcome]) ->
     """A trace for each log."""
     for name, outcome in _files(path, outcomes):
         try:
-            with open(name, "w", encoding="utf-8") as file:
+            with gzip.open(name, "wt", encoding="utf-8") if name.endswith(".gz") else open(name, "w", encoding="utf-8") as file:
                 write_trace(file, table, Log(outcome.files, table, how), outcome)
         except OSError as error:
             raise NotWritten(f"{name}: {error.strerror or error}") from None
@@ -194,6 +232,8 @@ def _table(given: argparse.Namespace) -> int:
             raise LogError(given.table, "", f"the table has the unit {table.unit} already")
         table = Table(table.rows, table.events, given.unit, table.databases, table.folder)
     to_text = given.text or not given.bytes and (is_bytes(begin) or given.takeover is not None or given.output is None)
+    if not to_text:
+        refuse_windows(table, given.table, range(len(table.rows)), "the bytes of a table do not take it")
     write(given.output, table.text() if to_text else table.bytes())
     return KEPT
 
@@ -221,6 +261,22 @@ def _positive(text: str) -> int:
     if not (text.isascii() and text.isdecimal() and len(text) < 10 and int(text) > 0):
         raise argparse.ArgumentTypeError(f"expected a whole number from 1 on, found {text}")
     return int(text)
+
+
+def _width(text: str) -> int:
+    """A number of columns, or 0."""
+    if text != "0" and not (text.isascii() and text.isdecimal() and len(text) < 6 and int(text) >= 40):
+        raise argparse.ArgumentTypeError(f"expected 0, or a number of columns from 40 on, found {text}")
+    return int(text)
+
+
+def _violations_file(text: str) -> str:
+    """A file whose name says how violations are written."""
+    try:
+        suffix_of(text)
+    except ValueError as error:
+        raise argparse.ArgumentTypeError(str(error)) from None
+    return text
 
 
 def _note(text: str) -> tuple[str, str]:
@@ -260,15 +316,20 @@ def _add_check(commands: Any) -> None:
     one.add_argument("--exercised", action="store_true", help="a row that the log never exercises is a failure: status 1")
     one.add_argument("--measure", action="store_true", help="what each row measures beside what it asks, and the margin to its limit")
     one.add_argument("--as-one", action="store_true", help="the logs are one drive, one behind the other")
+    one.add_argument("--violations", metavar="FILE", type=_violations_file,
+                     help="every instance that is outside its limits or missing, with its place and by how much: .csv or .json")
     one.add_argument("--json", action="store_true", help="all of it as JSON on standard output")
     one.add_argument("--junit", metavar="FILE", help="a JUnit file for all logs")
     one.add_argument("--page", action="store_true", help="the library's printed page instead of the messages")
     one.add_argument("--html", metavar="FILE", help="a page with pictures that needs no network")
     one.add_argument("--note", metavar="NAME=TEXT", type=_note, action="append", default=[], help="say this on the page, such as build=1234")
     one.add_argument("--plot", metavar="FILE", help="a picture: SVG, or PNG by matplotlib")
-    one.add_argument("--trace", metavar="FILE", help="a trace for Perfetto or chrome://tracing")
+    one.add_argument("--trace", metavar="FILE", help="a trace for Perfetto or chrome://tracing; .json.gz is packed")
     one.add_argument("--jobs", metavar="N", type=_positive, default=1, help="check so many logs at a time")
     one.add_argument("--quiet", action="store_true", help="messages only, no last line")
+    one.add_argument("--width", metavar="COLUMNS", type=_width, default=COLUMNS,
+                     help=f"text has so many columns ({COLUMNS}); with 0 each message is one line")
+    add_edges(one)
     add_options(one)
     one.set_defaults(run=_check)
 

@@ -80,7 +80,7 @@ class RowHistory:
         return self.row.type.pending(self._case)
 
     def lone(self, until: int) -> int:
-        """How many events before a time have no partners in the log, of a type that can say so."""
+        """How many events up to a time have no partners in the log, of a type that can say so."""
         found = self.row.type.beginning.lone
         return 0 if found is None else found(self._case, until)
 

@@ -13,7 +13,7 @@ from typing import Callable, Iterable, Iterator
 from .explain import Explanation, RowHistory
 from .library import Refused
 from .logs import Step
-from .measure import Measure, RowMeasuring, Taker
+from .measure import Measure, RowMeasuring, Taker, share_measures
 from .monitor import Monitor
 from .rowtypes import judged
 from .scope import Scope
@@ -72,15 +72,12 @@ class RowJudge:
         self.pasts = [Past(monitor, history)]
         self.broken, self.due = False, NEVER
         self._clock = -1
-        #: How far the monitor's times are ahead: by one where it is told of events right before the beginning.
-        self._ahead = 0
-        #: The first events, while those are counted that may have had their partners before.
+        #: The first events, while those are counted that may have had their partners before; and whether the monitor has none yet.
         self._first: RowHistory | None = None
         self._lone = 0
-        if begin is not None and self.row.type.beginning.lone is not None:
-            self._ahead, self._first = 1, history.anew()
-            for kind in self.row.kinds:
-                monitor.take(signal(kind), begin)
+        self._alone = begin is not None and self.row.type.beginning.lone is not None
+        if self._alone:
+            self._first = history.anew()
 
     @property
     def best(self) -> Past:
@@ -125,12 +122,12 @@ class RowJudge:
         self._tick(past, step)
 
     def _tick(self, past: Past, step: Step) -> None:
-        if step.time + self._ahead > past.monitor.clock():
+        if step.time > past.monitor.clock():
             self._step(past, None, step)
 
     def _step(self, past: Past, signal: int | None, step: Step) -> None:
         try:
-            past.monitor.take(signal, step.time + self._ahead)
+            past.monitor.take(signal, step.time)
         except Refused as refusal:
             raise StepRefused(step, refusal) from None
 
@@ -144,13 +141,23 @@ class RowJudge:
         """The clock moves on: is the row broken by that?"""
         if step.time <= self._clock:
             return
+        if self._alone and self._begin is not None and step.time > self._begin:
+            self._add_partners()
         self._clock = step.time
         for past in self.pasts:
-            if len(self.pasts) > 1 or past.deadline < step.time + self._ahead:
+            if len(self.pasts) > 1 or past.deadline < step.time:
                 self._tick(past, step)
         self._drop_broken(step.time)
         if self.row.type.beginning.online:
             self.pasts = [self.best]
+
+    def _add_partners(self) -> None:
+        """Before the beginning each kind may have had an event, at the same time as the first ones: so the monitor is told of one."""
+        assert self._begin is not None
+        self._alone = False
+        for kind in self.row.kinds:
+            if not self.best.taken[kind]:
+                self.best.monitor.take(self._signal(kind), self._begin)
 
     def _drop_broken(self, time: int) -> None:
         """Without the pasts in which the row is broken; if there is no other, the row is broken."""
@@ -164,15 +171,17 @@ class RowJudge:
     def _look(self, time: int) -> None:
         """The state after a step."""
         self._drop_broken(time)
-        self.due = NEVER if self.broken else min(past.deadline for past in self.pasts) - self._ahead
+        self.due = NEVER if self.broken else min(past.deadline for past in self.pasts)
 
     def _count_lone(self, time: int) -> None:
         """Counts the first events that have no partners in the log, once no later event can be one."""
-        if self._first is not None and self._begin is not None and time >= self._begin + 2 * self.row.number("tolerance"):
+        if self._first is not None and self._begin is not None and time > self._begin + 2 * self.row.number("tolerance"):
             self._lone, self._first = self._first.lone(self._begin + self.row.number("tolerance")), None
 
     def close(self, time: int) -> None:
         """The end of the stretch, closed: what had to come and has not is missing."""
+        if self._alone:
+            self._add_partners()
         if not self.broken:
             for past in self.pasts:
                 past.monitor.close()
@@ -181,12 +190,13 @@ class RowJudge:
             if self.broken:
                 self.best.history.break_at(time, True)
 
-    @property
     def waiting(self) -> int:
         """How much had not come yet and was not due yet, in a row that is not broken: what the library says waits, or what it asks
         for by a deadline or at the close."""
         if self.broken:
             return 0
+        if self._alone:
+            self._add_partners()
         past = self.best
         waiting = past.monitor.row_waiting(0) if self.row.type.waits else past.history.pending()
         return waiting or int(past.deadline != NEVER)
@@ -211,6 +221,18 @@ class RowVerdict:
     left_out: int = 0
     #: The events that are left out at the beginning of a stretch, by its number.
     left: dict[int, Counter[int]] = field(default_factory=dict)
+
+
+def together(verdicts: list[RowVerdict], rows: Iterable[Row]) -> list[RowVerdict]:
+    """The verdicts of a table's rows, each with those of the rows that are part of it: broken by the first that is."""
+    found = list(verdicts)
+    for row, verdict in zip(rows, verdicts):
+        if row.same_as is not None:
+            first, other = sorted((found[row.same_as], verdict), key=lambda one: NEVER if one.broken is None else one.broken[0])
+            found[row.same_as] = RowVerdict(first.broken, first.by_close, first.why, first.events + other.events,
+                                            first.instances + other.instances, max(first.stretches, other.stretches),
+                                            first.not_yet_due + other.not_yet_due, first.left_out + other.left_out)
+    return found
 
 
 class Stretches:
@@ -346,7 +368,7 @@ class Judging(Stretches):
             self._look(number, self.last, True)
         if found.broken is not None and found.why is None:
             found.why = judge.best.history.explanation(closed)
-        found.not_yet_due += judge.waiting if cut else 0
+        found.not_yet_due += judge.waiting() if cut else 0
         self._count(number, judge)
         del self._judges[number]
 
@@ -371,6 +393,7 @@ class ScopedMeasuring(Stretches):
         super().__init__(table)
         self._scope, self._close, self._verdicts = scope, close, verdicts
         self.rows = [row.type.measuring(row) for row in table.rows]
+        share_measures(table, self.rows)
         self._numbers = [0] * len(table.rows)
         self._takers: list[dict[int, Taker]] = [{} for _ in table.rows]
         self._left: list[Counter[int]] = [Counter() for _ in table.rows]

@@ -103,7 +103,7 @@ CALLS: dict[str, tuple[Any, list[Any]]] = {
     "delkuthi_report_of": (_LENGTH, [_MONITOR, _DATA, _LENGTH]),
 }
 #: The calls that are used where the library has them.
-FURTHER: dict[str, tuple[Any, list[Any]]] = {
+OPTIONAL_CALLS: dict[str, tuple[Any, list[Any]]] = {
     "delkuthi_deadline": (_NUMBER, [_MONITOR]),
     "delkuthi_row_deadline": (_NUMBER, [_MONITOR, _NUMBER]),
     "delkuthi_row_waiting": (_NUMBER, [_MONITOR, _NUMBER]),
@@ -148,7 +148,7 @@ def library() -> ctypes.CDLL:
             raise LibraryMissing(f"{path} has no call {name}: it is not a library of version {INTERFACE}; install both anew")
         call = getattr(found, name)
         call.restype, call.argtypes = result, arguments
-    for name, (result, arguments) in FURTHER.items():
+    for name, (result, arguments) in OPTIONAL_CALLS.items():
         if hasattr(found, name):
             call = getattr(found, name)
             call.restype, call.argtypes = result, arguments

@@ -27,6 +27,9 @@ def accepted(log: Log, steps: Iterable[Step]) -> Iterator[Step]:
         yield from chunk[:taken]
         if refusal:
             raise _refused(log, chunk[taken], refusal)
+    for (target, name), most in log.at_once.items():
+        if most > 1:
+            raise LogError(log.path, "", f"{most} instances of the {target} {name} run at once, which only delkuthi check tells apart")
 
 
 def _refused(log: Log, step: Step, number: int) -> LogError:

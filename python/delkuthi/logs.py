@@ -12,7 +12,7 @@ from operator import itemgetter
 from pathlib import Path
 from typing import Callable, Generator, Iterable, Iterator, NamedTuple, Sequence
 
-from .batches import OTHER, Batch, Codes, NeedsSlowPath, ends, last_kept, level, rising
+from .batches import OTHER, Batch, Codes, NeedsSlowPath, ends, level, rising
 from .time_format import TimeFormat
 from .readers import Lines, LogError, Policy, Stamped, reader
 from .scope import Edge
@@ -32,11 +32,12 @@ class Step(NamedTuple):
 
 
 class Chunk(NamedTuple):
-    """Steps side by side: their times, the codes of their signals, :data:`~delkuthi.batches.OTHER` for a tick; and the time and the
-    place of the last one."""
+    """Steps side by side: their times, the codes of their signals, :data:`~delkuthi.batches.OTHER` for a tick, their places; and the time
+    and the place of the last one."""
 
     times: Sequence[int]
     codes: bytes
+    places: Sequence[int]
     last: Step
 
 
@@ -69,6 +70,7 @@ class Log:
         self.path = self.reader.path
         self.word = self.reader.word
         self.counts, self.time_format = Counts(), TimeFormat(table.unit)
+        self._before: dict[tuple[str, str], int] = {}
         #: Was the beginning of the scope found, and its end?
         self.begun, self.ended = True, False
         #: Called with the number of bytes of each line, where they are known, for a progress bar.
@@ -89,6 +91,12 @@ class Log:
     def error(self, place: int, message: str) -> LogError:
         """An error at a place."""
         return self.reader.error(place, message)
+
+    @property
+    def at_once(self) -> dict[tuple[str, str], int]:
+        """How many instances at once it has of what the table's rows name, as far as it was read."""
+        now = self.reader.at_once
+        return {target: max(count, now.get(target, 1)) for target, count in (self._before or now).items()}
 
     @property
     def buses(self) -> set[str]:
@@ -187,6 +195,7 @@ class Log:
     def _begun(self) -> Ordering:
         """The log from its beginning."""
         self.counts, self.time_format = Counts(), TimeFormat(self.table.unit)
+        self._before = self.at_once
         self.reader = reader(self.files, self.table, self.policy)
         self.reader.progress = self.progress
         return Ordering(self)
@@ -284,17 +293,18 @@ class Ordering:
 
     def chunk(self, batch: Batch, codes: Codes) -> Chunk:
         """The steps of a batch; :class:`NeedsSlowPath` where the policy on equal stamps may have something to say."""
-        first, events, place = batch.times[0], batch.codes, batch.place + batch.lines - 1
+        first, events = batch.times[0], batch.codes
+        places: Sequence[int] = batch.places or range(batch.place, batch.place + batch.lines)
         add = self._start(first) if self.add is None else self.add
         times = [time + add for time in batch.times] if add else batch.times
         # Where each line is an event that the one monitor takes, the library itself asks whether they are in order.
         if (OTHER in events or not self.log.table.single) and not rising(times, self.clock):
             if times[0] < self.stamp or times[0] < self.clock:
                 raise NeedsSlowPath
-            place = batch.place_of(last_kept(times, events))
-            times, events = level(times, events, self.clock, {codes.of[kind] for kind, time in self.last.items() if time == self.clock})
+            kept = level(times, events, self.clock, {codes.of[kind] for kind, time in self.last.items() if time == self.clock})
+            times, events, places = [times[at] for at in kept], bytes([events[at] for at in kept]), [places[at] for at in kept]
         self._advance(batch, times, events, codes)
-        return Chunk(times, events, Step(None, self.clock, place))
+        return Chunk(times, events, places, Step(None, self.clock, places[-1] if places else self.place))
 
     def end(self) -> Iterator[Step]:
         """The step that takes the clock on to where it is asked to go."""
@@ -329,6 +339,6 @@ def _chunks(steps: Iterable[Step], codes: Codes) -> Iterator[Chunk]:
         except KeyError:
             raise NeedsSlowPath from None
         if some:
-            yield Chunk([step.time for step in some], events, some[-1])
+            yield Chunk([step.time for step in some], events, [step.place for step in some], some[-1])
     if wrong is not None:
         raise wrong

@@ -6,11 +6,14 @@ Once something is missing, the count of instances begins anew behind it, so that
 """
 from __future__ import annotations
 
-from collections import deque
+from collections import Counter, deque
 from dataclasses import dataclass, field
 from fractions import Fraction
-from typing import TYPE_CHECKING, Any, Callable, Iterable, Iterator, NamedTuple, TypeVar
+from itertools import islice
+from operator import le, lt
+from typing import TYPE_CHECKING, Any, Callable, Iterable, Iterator, Mapping, NamedTuple, Sequence, TypeVar
 
+from .fifo import Fifo
 from .library import NO_LIMIT
 
 if TYPE_CHECKING:
@@ -37,6 +40,17 @@ class Histogram:
         self.counts[place] = self.counts.get(place, 0) + 1
         if outside:
             self.outside.add(place)
+        self._widen()
+
+    def add_all(self, values: Sequence[int]) -> None:
+        """Many more values."""
+        width = self.width
+        for place, count in Counter([value // width for value in values] if width > 1 else values).items():
+            self.counts[place] = self.counts.get(place, 0) + count
+        self._widen()
+
+    def _widen(self) -> None:
+        """Doubles the width as often as is needed."""
         while len(self.counts) > BINS:
             self.width *= 2
             wider: dict[int, int] = {}
@@ -159,6 +173,26 @@ class Measure:
         self.greatest = value if self.greatest is None else max(self.greatest, value)
         self.histogram.add(value, outside)
 
+    def add_all(self, values: Sequence[int], lower: int, upper: int | None, ends: Sequence[int], place: Callable[[int], int]) -> bool:
+        """Instances with values that are all within their limits, each with the time and the place that it ends at; nothing is added, and the
+        answer is no, where one is not. Afterwards all is as if they had been added one by one."""
+        least, greatest = min(values), max(values)
+        if least < lower or upper is not None and greatest > upper:
+            return False
+        self.judged += len(values)
+        self.measured += len(values)
+        self.total += sum(values)
+        self.least = least if self.least is None else min(self.least, least)
+        self.greatest = greatest if self.greatest is None else max(self.greatest, greatest)
+        self.histogram.add_all(values)
+        margins = ([least - lower] if lower else []) + ([] if upper is None else [upper - greatest])
+        margin = min(margins, default=None)
+        if self.worst is None or margin is not None and (self.worst.margin is None or margin < self.worst.margin):
+            near = [] if margin is None else ([lower + margin] if lower else []) + ([] if upper is None else [upper - margin])
+            at = min((values.index(value) for value in near if least <= value <= greatest and value in values), default=0)
+            self.worst = Instance(values[at], ends[at], place(at), margin)
+        return True
+
     def miss(self, moment: Moment, what: str, due: int | None = None, now: int | None = None) -> None:
         """One instance that has no partner, or is out of order, by the event of this moment; ``now`` is when that is certain."""
         self.judged += 1
@@ -208,6 +242,11 @@ class RowMeasuring:
         """What takes the events of each signal."""
         raise NotImplementedError
 
+    def take_all(self, times: Mapping[int, list[int]], place: Callable[[int, int], int]) -> bool:
+        """Takes events of its signals, many at a time, where all of them are as asked and none is missing; the answer is no, and nothing is
+        taken, where they are to be taken one by one. ``place`` gives the place of an event by its signal and its index."""
+        return False
+
     def end(self, clock: int, closed: bool) -> None:
         """The end of the steps: what is missing now."""
 
@@ -255,15 +294,54 @@ class HiddenPoints(RowMeasuring):
         raise NotImplementedError
 
 
+def in_turn(waiting: Fifo, sources: list[int], targets: list[int], after: int) -> list[int] | None:
+    """The sources of the targets, where they come in turn: a source, which may be one that waits, its target, the next source, and so on, each
+    source later than the target before it; ``after`` is the time of the last target. ``None`` where they do not."""
+    given = [waiting.first[0], *sources] if len(waiting) == 1 else sources
+    if len(waiting) > 1 or not 0 <= len(given) - len(targets) <= 1 or not given or sources and sources[0] <= after:
+        return None
+    if not all(map(le, given, targets)) or not all(map(lt, targets, islice(given, 1, None))):
+        return None
+    return given
+
+
+def share_measures(table: Table, rows: list[RowMeasuring]) -> None:
+    """Gives a row that is part of another one the measure of that."""
+    for row, measuring in zip(table.rows, rows):
+        if row.same_as is not None:
+            measuring.measure = rows[row.same_as].measure
+
+
 class Measuring:
     """Measures the rows of a table over the steps of a log: :meth:`take` each event, then :meth:`end`."""
 
     def __init__(self, table: Table):
         self._rows = [row.type.measuring(row) for row in table.rows]
+        share_measures(table, self._rows)
         self._takers: dict[int | None, list[Taker]] = {}
-        for row in self._rows:
-            for number, taker in row.takers().items():
-                self._takers.setdefault(number, []).append(taker)
+        #: The takers of each measure; with the row that has it alone, if one has.
+        self._apart: list[tuple[RowMeasuring | None, dict[int, Taker]]] = []
+        for number, (row, measuring) in enumerate(zip(table.rows, self._rows)):
+            takers = measuring.takers()
+            for signal, taker in takers.items():
+                self._takers.setdefault(signal, []).append(taker)
+            if row.same_as is None:
+                self._apart.append((measuring, takers))
+            else:
+                self._apart[row.same_as] = None, {**self._apart[row.same_as][1], **takers}
+
+    def take_all(self, times: Sequence[int], numbers: Sequence[int | None], places: Sequence[int]) -> None:
+        """Takes steps, many at a time."""
+        found: dict[int | None, list[int]] = {number: [] for number in self._takers}
+        for at, number in enumerate(numbers):
+            if number in found:
+                found[number].append(at)
+        moments = {number: [times[at] for at in some] for number, some in found.items()}
+        for row, takers in self._apart:
+            mine = {number: moments[number] for number in takers if moments[number]}
+            if mine and (row is None or not row.take_all(mine, lambda number, at: places[found[number][at]])):
+                for at, number in sorted((at, number) for number in mine for at in found[number]):
+                    takers[number](times[at], places[at])
 
     def take(self, number: int | None, time: int, place: int) -> None:
         """Takes an event by the number of its signal; a tick measures nothing."""
@@ -290,7 +368,15 @@ class Measuring:
 
 def measure(table: Table, steps: Iterable[tuple[int | None, int, int]], closed: bool = True) -> list[Measure]:
     """What each row of a table measures over the steps of a log: of each its signal or ``None`` for a tick, its time, its place."""
+    return measure_noting(table, steps, closed, lambda number: None)
+
+
+def measure_noting(table: Table, steps: Iterable[tuple[int | None, int, int]], closed: bool,
+                   note: Callable[[int], Callable[[Finding], None] | None]) -> list[Measure]:
+    """The same; ``note`` gives for the number of a row what takes each of its instances that is not as asked."""
     measuring, clock = Measuring(table), 0
+    for row, measure in enumerate(measuring.measures):
+        measure.note = note(row)
     for number, clock, place in steps:
         measuring.take(number, clock, place)
     return measuring.end(clock, closed)

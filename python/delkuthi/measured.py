@@ -26,14 +26,16 @@ def described(found: Measure, stamp: Callable[[int], int], where: Callable[[int]
 
 
 def mean_text(mean: float | None, unit: str | None) -> str:
-    """A mean with its unit, to a thousandth of the table's unit at most."""
+    """A mean with its unit, to three digits behind the point."""
     if mean is None:
         return ""
     exact = Fraction(mean)
-    finer = {"us": "ns", "ms": "us", "s": "ms"}.get(unit or "")
-    if finer is not None:
-        return shown(round(exact * (UNITS[unit or ""] // UNITS[finer])), finer)
-    return f"{round(float(exact), 2):g} {unit or ''}".strip()
+    if unit is None or unit in ("min", "h"):
+        return f"{round(float(exact), 3):g} {unit or ''}".strip()
+    nanoseconds = exact * UNITS[unit]
+    name = shown(round(nanoseconds), "ns").split()[1]
+    digit = max(UNITS[name] // 1000, 1)
+    return shown(round(nanoseconds / digit) * digit, "ns")
 
 
 def _amount(value: int | None, unit: str | None) -> str:
@@ -66,12 +68,16 @@ def cells(name: str, found: Described, unit: str | None) -> tuple[str, ...]:
 
 
 def text_lines(rows: Sequence[tuple[str, Described]], unit: str | None) -> list[str]:
-    """All rows in columns, under their headings; numbers stand at the right."""
-    lines = [HEADINGS, *(cells(name, found, unit) for name, found in rows)]
-    widths = [max(map(len, column)) for column in zip(*lines)]
-    right = ("judged", "outside", "missing", "least", "mean", "greatest", "margin")
-    return ["  ".join(cell.rjust(width) if heading in right else cell.ljust(width)
-                      for cell, width, heading in zip(line, widths, HEADINGS)).rstrip() for line in lines]
+    """For each row what it measures and asks; how many instances are as asked, and where the worst is; and the values."""
+    lines = []
+    for name, found in rows:
+        least, mean, greatest, asked, margin, worst = cells(name, found, unit)[5:]
+        lines.append(f"{name}: {found['quantity']}, {asked} is asked")
+        counts = ", ".join(f"{found[word]:,} {word}" for word in ("judged", "outside", "missing"))
+        lines.append(f"    {counts}" + (f"; margin {margin}" if margin else "") + (f" ({worst})" if worst else ""))
+        if found["measured"]:
+            lines.append(f"    least {least}, mean {mean}, greatest {greatest}")
+    return lines
 
 
 def properties(found: Described, unit: str | None) -> list[tuple[str, str]]:

@@ -5,7 +5,7 @@ from dataclasses import replace
 from typing import Iterator
 
 from .library import FIRST_COLOURED, LAST_KIND
-from .signals import FURTHER, is_coloured
+from .signals import FIRST_EXTRA_KIND, is_coloured
 from .sources import TaskSource
 from .rows import Event, Executed, Row
 
@@ -25,7 +25,8 @@ def numbered(rows: list[Row], events: list[Event]) -> tuple[list[Row], list[Even
     for event in events:
         if event.kind < 0:
             kinds[event.kind] = next(colours if event.kind in coloured else plain)
-    return ([replace(row, values=row.with_kinds(kinds), window=row.window and (kinds[row.window[0]], kinds[row.window[1]])) for row in rows], [_renumbered(event, kinds[event.kind]) for event in events])
+    return ([replace(row, values=row.with_kinds(kinds), window=row.window and (kinds[row.window[0]], kinds[row.window[1]])) for row in rows],
+            [_renumbered(event, kinds[event.kind]) for event in events])
 
 
 def _free(taken: set[int], coloured: bool) -> Iterator[int]:
@@ -33,7 +34,7 @@ def _free(taken: set[int], coloured: bool) -> Iterator[int]:
     yield from (kind for kind in range(LAST_KIND + 1) if is_coloured(kind) == coloured and kind not in taken)
     if coloured:
         raise TooMany(f"more than {LAST_KIND + 1 - FIRST_COLOURED} events with colours")
-    kind = FURTHER
+    kind = FIRST_EXTRA_KIND
     while True:
         yield kind
         kind += 1

@@ -2,14 +2,17 @@
 from __future__ import annotations
 
 import json
+import re
+import textwrap
 from collections import Counter
 from dataclasses import asdict
+from functools import partial
 from html import escape
 from typing import Sequence
 from xml.sax.saxutils import quoteattr
 
 from .autosar import Takeover
-from .check import Outcome, RowOutcome
+from .check import IDLE, SO_FAR, Outcome, RowOutcome
 from .library import VERSION, library_version
 from .measured import properties
 from .table import Table
@@ -17,18 +20,42 @@ from .text import row_text
 from .units import shown
 
 
-def as_text(outcome: Outcome, page: bool, quiet: bool) -> str:
-    """For a person: a line for each row that is broken or was never exercised, and a last one; or the library's page."""
+#: How many columns text has, unless that is said.
+COLUMNS = 80
+
+
+def as_text(outcome: Outcome, page: bool, quiet: bool, columns: int = COLUMNS) -> str:
+    """For a person: a line for each row that is broken, was never exercised, or has something left out or not yet due, and a last
+    one; or the library's page. Lines are at most so many columns wide; with 0 each is one line."""
     idle = [row.number for row in outcome.unexercised]
     if page:
         return (outcome.page or "") + (f"never exercised: {', '.join(map(str, idle))}\n" if idle else "")
-    lines = [*outcome.messages]
-    for row in outcome.unexercised:
-        name = f'"{row.name}"' if row.name != f"row {row.number}" else row.name
-        lines.append(f"{outcome.log}: {name} ({row.type}) {row.verdict}: {number_of(row.events, 'event')} of its kinds, nothing to judge")
+    lines = [*outcome.messages, *map(partial(_row_line, outcome), outcome.rows)]
     if not quiet:
         lines.append(f"{outcome.log}: {_summary(outcome)}")
-    return "".join(line + "\n" for line in lines)
+    return "".join(wrapped(line, columns) for line in lines if line)
+
+
+def _row_line(outcome: Outcome, row: RowOutcome) -> str:
+    """The line of a row that is not broken, if there is something to say of it."""
+    name = f'"{row.name}"' if row.name != f"row {row.number}" else row.name
+    said = f"{outcome.log}: {name} ({row.type}) {row.words}"
+    if row.verdict.endswith(IDLE):
+        return f"{said}: {number_of(row.events, 'event')} of its kinds, nothing to judge"
+    return said if row.not_yet_due or row.left_out or row.stretches is not None and row.verdict != "broken" else ""
+
+
+#: Blanks at which a line is not broken: between a number and its unit, and between a line and its number.
+_KEPT = re.compile(r"(?<=\d) (?=(?:ns|us|ms|s|min|h)\b)|(?<=line) (?=\d)")
+
+
+def wrapped(line: str, columns: int, indent: str = "    ") -> str:
+    """A line, broken at blanks where it is wider than so many columns; what follows is indented."""
+    if not columns or len(line) <= columns:
+        return line + "\n"
+    parts = textwrap.wrap(_KEPT.sub("\x1f", line), columns, subsequent_indent=indent, break_long_words=False, break_on_hyphens=False,
+                          expand_tabs=False, replace_whitespace=False)
+    return "".join(part.replace("\x1f", " ") + "\n" for part in parts)
 
 
 def number_of(count: int, word: str) -> str:
@@ -37,13 +64,14 @@ def number_of(count: int, word: str) -> str:
 
 
 def _summary(outcome: Outcome) -> str:
-    """How many rows read what, and what was read."""
-    words = [number_of(len(outcome.rows), "row")]
-    words.append(f"{len(outcome.of('kept'))} kept" if outcome.closed else f"{len(outcome.of('open'))} open")
+    """How many rows read what, what was read, and of which part of the log."""
+    usual = SO_FAR if outcome.cut else "kept" if outcome.closed else "open"
+    words = [number_of(len(outcome.rows), "row"), f"{len(outcome.of(usual))} {usual}"]
+    words += [f"{len(outcome.of(word))} {word}" for word in ("kept", SO_FAR, "open") if word != usual and outcome.of(word)]
     if outcome.unexercised:
         words.append(f"{len(outcome.unexercised)} never exercised")
     words.append(f"{len(outcome.broken)} broken")
-    return f"{', '.join(words)}; {', '.join(notes(outcome))}"
+    return "; ".join([", ".join(words), ", ".join(notes(outcome)), *([outcome.scope] if outcome.scope_chosen else [])])
 
 
 def notes(outcome: Outcome, start: bool = True) -> list[str]:
@@ -69,7 +97,7 @@ def overall(outcomes: Sequence[Outcome]) -> str:
     found = Counter(_word(outcome) for outcome in outcomes)
     words = [number_of(len(outcomes), "log"), *(f"{found[word]} {word}" for word in ("kept", "broken", "refused"))]
     idle = sum(bool(outcome.unexercised) and _word(outcome) != "never exercised" for outcome in outcomes)
-    words += [f"{found[word]} {word}" for word in ("open", "never exercised") if found[word]]
+    words += [f"{found[word]} {word}" for word in (SO_FAR, "open", "never exercised") if found[word]]
     return ", ".join(words) + (f"; {idle} with rows never exercised" if idle else "")
 
 
@@ -77,7 +105,7 @@ def _word(outcome: Outcome) -> str:
     """What a log is as a whole: as bad as the worst of its rows, and kept only if a row of it was exercised."""
     if outcome.error is not None:
         return "refused"
-    return next((word for word in ("broken", "open", "kept") if outcome.of(word)), "never exercised")
+    return next((word for word in ("broken", "open", SO_FAR, "kept") if outcome.of(word)), "never exercised")
 
 
 def as_json(table: Table, outcomes: Sequence[Outcome], takeover: Takeover | None = None) -> str:
@@ -97,11 +125,13 @@ def as_junit(table: Table, outcomes: Sequence[Outcome]) -> str:
     """All outcomes as one JUnit file: a suite for each log, a test for each row. A row that is open, or was never exercised, is
     skipped; where exercise is asked for it is a failure."""
     suites = [_suite(table, outcome) for outcome in outcomes]
-    total = {name: sum(counts[name] for counts, _ in suites) for name in ("tests", "failures", "errors", "skipped")}
-    out = ['<?xml version="1.0" encoding="UTF-8"?>', f'<testsuites name="delkuthi"{_attributes(total)}>']
+    total = {name: sum(counts[name] for counts, _ in suites) for name in ("tests", "failures", "errors")}
+    seconds = sum(outcome.seconds for outcome in outcomes)
+    out = ['<?xml version="1.0" encoding="UTF-8"?>', f'<testsuites name="delkuthi"{_attributes(total)} time="{seconds:.3f}">']
     for outcome, (counts, cases) in zip(outcomes, suites):
-        out.append(f"  <testsuite name={quoteattr(_xml(outcome.log))}{_attributes(counts)}>")
-        out += [*cases, "  </testsuite>"]
+        out.append(f'  <testsuite name={quoteattr(_xml(outcome.log))}{_attributes(counts)} time="{outcome.seconds:.3f}" '
+                   f'timestamp="{outcome.started}">')
+        out += [*_properties(outcome), *cases, "  </testsuite>"]
     return "\n".join([*out, "</testsuites>"]) + "\n"
 
 
@@ -109,33 +139,47 @@ def _attributes(counts: dict[str, int]) -> str:
     return "".join(f' {name}="{count}"' for name, count in counts.items())
 
 
+def _properties(outcome: Outcome) -> list[str]:
+    """What was checked, as properties of a suite."""
+    found = [("file", file) for file in ([outcome.files] if isinstance(outcome.files, str) else outcome.files)]
+    found += [("scope", outcome.scope)] if outcome.error is None else []
+    lines = [f"      <property name={quoteattr(name)} value={quoteattr(_xml(value))}/>" for name, value in found]
+    return ["    <properties>", *lines, "    </properties>"]
+
+
 def _suite(table: Table, outcome: Outcome) -> tuple[dict[str, int], list[str]]:
-    """How many tests of a log went how, and the tests."""
+    """How many tests of a log went how, and the tests. Rows are judged together: each has an equal share of the time."""
     name = quoteattr(_xml(outcome.log))
     if outcome.error is not None:
-        error = f'    <testcase classname={name} name="log"><error message={quoteattr(_xml(outcome.error))}/></testcase>'
-        return {"tests": 1, "failures": 0, "errors": 1, "skipped": 0}, [error]
-    counts = {"tests": len(outcome.rows), "failures": 0, "errors": 0, "skipped": 0}
-    cases = []
+        error = f"<error type=\"refused\" message={quoteattr(_xml(outcome.error))}/>"
+        return {"tests": 1, "failures": 0, "errors": 1, "skipped": 0}, [
+            f'    <testcase classname={name} name="log" time="{outcome.seconds:.3f}">{error}</testcase>']
+    counts, cases = {"tests": len(outcome.rows), "failures": 0, "errors": 0, "skipped": 0}, []
     for row in outcome.rows:
-        inner = _properties(table, row)
+        inner = ""
         if row.verdict == "broken" or row in outcome.unexercised and outcome.exercised:
             counts["failures"] += 1
             asked, text = escape(_xml(row_text(table, table.rows[row.number]))), quoteattr(_xml(row.message or row.verdict))
-            inner += f"<failure type={quoteattr(row.type)} message={text}>{asked}</failure>"
-        elif row.verdict != "kept":
+            inner = f"<failure type={quoteattr(row.type)} message={text}>{asked}</failure>"
+        elif row.verdict not in ("kept", SO_FAR):
             counts["skipped"] += 1
-            inner += f"<skipped message={quoteattr(row.verdict)}/>"
-        cases.append(f"    <testcase classname={name} name={quoteattr(_xml(row.name))}{f'>{inner}</testcase>' if inner else '/>'}")
+            inner = f"<skipped message={quoteattr(row.words)}/>"
+        inner += f"<system-out>{escape(_xml(_told(table, outcome, row)))}</system-out>"
+        cases.append(f'    <testcase classname={name} name={quoteattr(_xml(row.name))} time="{outcome.seconds / len(outcome.rows):.3f}">'
+                     f"{inner}</testcase>")
     return counts, cases
 
 
-def _properties(table: Table, row: RowOutcome) -> str:
-    """What a row measured, as properties of its test."""
-    if row.measured is None:
-        return ""
-    found = "".join(f"<property name={quoteattr(name)} value={quoteattr(_xml(value))}/>" for name, value in properties(row.measured, table.unit))
-    return f"<properties>{found}</properties>"
+def _told(table: Table, outcome: Outcome, row: RowOutcome) -> str:
+    """What a test says of its row: the file and the line of a break, the verdict, and what was measured. The usual schema has no
+    attributes for these."""
+    found = [("verdict", row.words)]
+    if row.verdict == "broken" and row.where is not None:
+        file = row.where.removesuffix(f":{row.place}").removesuffix(f": {outcome.word} {row.place}")
+        found += [("file", file), (outcome.word, str(row.place))]
+    if row.measured is not None:
+        found += properties(row.measured, table.unit)
+    return "\n".join(f"{name}: {value}" for name, value in found)
 
 
 def _xml(text: str) -> str:

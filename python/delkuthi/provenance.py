@@ -1,4 +1,4 @@
-"""What a page was made from: when, by which command and versions, of which files, and what the user notes beside."""
+"""Where a page comes from: the date, the command, the files with their digests, the versions, and notes of the user."""
 from __future__ import annotations
 
 import hashlib
@@ -7,22 +7,21 @@ import platform
 import shlex
 import sys
 from dataclasses import dataclass
-from datetime import datetime, timezone
 from pathlib import Path
 from typing import Iterable, Sequence
 
 from .library import VERSION, library_version
-from .readers.base import LogError
 from .readers.standard_input import NAME, kept
+from .run_date import run_date
 from .table import Table
 
-#: Other packages that a log may be read by, with the names that people know them by.
+#: Modules that may have read a log, and the names of their packages.
 _PACKAGES = {"can": "python-can", "canmatrix": "canmatrix", "openpyxl": "openpyxl"}
 
 
 @dataclass(frozen=True)
 class File:
-    """A file that was read: what it is for, its name, its size in bytes and its SHA-256; these are ``None`` where it cannot be read."""
+    """A file that was read, with its size in bytes and its SHA-256. Both are ``None`` if it could not be read."""
 
     what: str
     name: str
@@ -32,7 +31,7 @@ class File:
 
 @dataclass(frozen=True)
 class Provenance:
-    """When a page was made, by which command line, of which files, with which versions, and the user's notes."""
+    """Where a page comes from."""
 
     date: str
     command: str
@@ -43,16 +42,16 @@ class Provenance:
 
 def provenance(table: Table, table_name: str, logs: Iterable[str | tuple[str, ...]], words: Sequence[str],
                notes: Iterable[tuple[str, str]] = ()) -> Provenance:
-    """The provenance of a check of these logs by the command of these words."""
+    """The provenance of a check of these logs. ``words`` are those of the command line."""
     files = [_file("Table", table_name, table_name)]
     files += [_file("Signals", Path(path).name, path) for path in table.database_paths]
     names = [name for log in logs for name in ([log] if isinstance(log, str) else log)]
     files += [_file("Log", "standard input" if name == NAME else name, kept() if name == NAME else name) for name in dict.fromkeys(names)]
-    return Provenance(_date(), shlex.join(["delkuthi", *words]), tuple(files), _versions(), tuple(notes))
+    return Provenance(run_date().strftime("%Y-%m-%d %H:%M:%S UTC"), shlex.join(["delkuthi", *words]), tuple(files), _versions(), tuple(notes))
 
 
 def _file(what: str, name: str, path: str) -> File:
-    """A file with its digest; what is no plain file could not be read twice, and has none."""
+    """A file with its digest. Only a regular file has one: others cannot be read twice."""
     try:
         if os.path.isfile(path):
             with open(path, "rb") as file:
@@ -62,18 +61,8 @@ def _file(what: str, name: str, path: str) -> File:
     return File(what, name, None, None)
 
 
-def _date() -> str:
-    """Now, or the time that ``SOURCE_DATE_EPOCH`` says, in UTC."""
-    given = os.environ.get("SOURCE_DATE_EPOCH")
-    try:
-        moment = datetime.now(timezone.utc) if given is None else datetime.fromtimestamp(int(given), timezone.utc)
-    except (ValueError, OverflowError, OSError):
-        raise LogError("SOURCE_DATE_EPOCH", "", f"expected seconds since 1970, found {given}") from None
-    return moment.strftime("%Y-%m-%d %H:%M:%S UTC")
-
-
 def _versions() -> str:
-    """This package, the library, Python, and the packages that logs were read by."""
+    """The versions of this package, the library, Python, and packages that may have read a log."""
     found = [f"Delkuthi {VERSION}", f"library {library_version()}", f"Python {platform.python_version()}"]
     found += [f"{name} {getattr(sys.modules[module], '__version__', 'of unknown version')}"
               for module, name in _PACKAGES.items() if module in sys.modules]

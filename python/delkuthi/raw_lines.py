@@ -1,20 +1,20 @@
-"""The lines of a log as they stand in the file, around the step that broke a row and at the events that its reason is about."""
+"""Lines as they stand in a log: those around the step that broke a row, and those of the events that the reason names."""
 from __future__ import annotations
 
 from typing import Iterator, NamedTuple
 
 from .check import Outcome, RowOutcome
 from .logs import Log, LogError
-from .timeline import Gathered
+from .scenes import Gathered
 
-#: So many lines before the step that broke a row, and after it.
+#: The number of lines before and after the step that broke a row.
 BEFORE, AFTER = 3, 2
-#: The longest part of a line that is shown, in letters.
+#: Longer lines are cut.
 LONGEST = 400
 
 
 class RawLine(NamedTuple):
-    """A line of a log: its place, its text, and whether it is the one that ``broke`` a row or what the reason is ``about``."""
+    """A line of a log. Its ``role`` is ``broke`` if it broke the row, ``about`` if the reason names it, or empty."""
 
     place: int
     text: str
@@ -22,7 +22,7 @@ class RawLine(NamedTuple):
 
 
 def raw_lines(log: Log, gathered: Gathered, outcome: Outcome) -> dict[int, list[RawLine]]:
-    """For each broken row the lines that matter; of a log that is no text what its lines were read as."""
+    """The lines for each broken row. If the log is not text, they say what its frames or records were read as."""
     wanted = {row.number: _wanted(gathered, outcome, row) for row in outcome.broken}
     texts = _texts(log, {place for places in wanted.values() for place in places})
     return {number: [RawLine(log.reader.number(place), texts[place], role) for place, role in sorted(places.items()) if place in texts]
@@ -30,7 +30,7 @@ def raw_lines(log: Log, gathered: Gathered, outcome: Outcome) -> dict[int, list[
 
 
 def _wanted(gathered: Gathered, outcome: Outcome, row: RowOutcome) -> dict[int, str]:
-    """The places of the lines of a row, and what each is."""
+    """The places of the lines for a row, and their roles."""
     broke = gathered.broke[row.step or 0]
     found = {place: "" for place in range(broke - BEFORE, broke + AFTER + 1)}
     found.update((gathered.places[signal, stamp + outcome.time_format.shift], "about") for signal, stamp in row.about)
@@ -38,7 +38,7 @@ def _wanted(gathered: Gathered, outcome: Outcome, row: RowOutcome) -> dict[int, 
 
 
 def _texts(log: Log, wanted: set[int]) -> dict[int, str]:
-    """The texts of the lines at these places; none where the file cannot be read as text any more."""
+    """The texts of the lines at these places, as far as the file can be read."""
     found: dict[int, str] = {}
     last = max(wanted, default=0)
     try:
@@ -54,6 +54,6 @@ def _texts(log: Log, wanted: set[int]) -> dict[int, str]:
 
 
 def _read(log: Log) -> Iterator[tuple[int, str]]:
-    """What the frames or records of a log were read as."""
+    """What the frames or records of a log were read as, by their places."""
     for signal, time, place in log.steps():
         yield place, f"{'no event of the table' if signal is None else log.table.event_name(signal)} at {log.time_format.at(time)}"

@@ -47,6 +47,8 @@ class Row:
     executed: Executed | None = None
     #: The kinds of the events with which its window opens and closes, if it has one: it is judged in each stretch between them.
     window: tuple[int, int] | None = None
+    #: The number of the row that this one is part of, where it takes runs of that which overlap others.
+    same_as: int | None = None
 
     @staticmethod
     def of(type_name: str, name: str | None = None, **values: Value) -> Row:

@@ -9,7 +9,7 @@ from .library import FIRST_COLOURED, LAST_COLOUR, LAST_KIND
 #: What stands for a colour that is none.
 NO_COLOUR = 255
 #: Where plain kinds go on that the tool numbers, in a table that has more of them than a monitor.
-FURTHER = 1 << 20
+FIRST_EXTRA_KIND = 1 << 20
 
 
 def signal(kind: int, colour: int | None) -> int:
@@ -19,7 +19,7 @@ def signal(kind: int, colour: int | None) -> int:
 
 def parts(number: int) -> tuple[int, int | None]:
     """Kind and colour of a signal."""
-    return (number, None) if number < 256 or number >= FURTHER else (number % 256, number // 256 - 1)
+    return (number, None) if number < 256 or number >= FIRST_EXTRA_KIND else (number % 256, number // 256 - 1)
 
 
 def is_coloured(kind: int) -> bool:

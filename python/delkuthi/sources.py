@@ -60,12 +60,14 @@ class ColumnSource:
 
 @dataclass(frozen=True)
 class TaskSource:
-    """What happens to a task, an interrupt routine or a runnable: an event of a scheduler trace."""
+    """What happens to a task, an interrupt routine or a runnable: an event of a scheduler trace. ``lane`` says which of the instances that
+    run at once it is about, ``None`` all of them."""
 
     target: str
     name: str
     action: str
     colour: int | None = None
+    lane: int | None = None
 
 
 Source = CanSource | SignalSource | ColumnSource | TaskSource | CsvSource | KeySource

@@ -1,7 +1,7 @@
 """A table of any number of rows and kinds, split into parts that a monitor takes: at most 32 rows each, with kinds of their own.
 
 A kind that the text numbers is from 0 to 63, as in the library. Where the tool numbers them and those do not last, plain kinds go on
-from :data:`~delkuthi.signals.FURTHER` on, and each part gives its own the library's numbers.
+from :data:`~delkuthi.signals.FIRST_EXTRA_KIND` on, and each part gives its own the library's numbers.
 """
 from __future__ import annotations
 

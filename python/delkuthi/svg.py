@@ -1,4 +1,4 @@
-"""Pictures as SVG, which need nothing else: light, and dark where the reader's screen is."""
+"""Pictures as SVG that loads nothing. On a dark screen they are dark."""
 from __future__ import annotations
 
 from html import escape
@@ -8,25 +8,25 @@ from typing import NamedTuple
 from .timeline import BINS, BROKEN, COLOURS, Mark, Scene, Shade, Strip, View
 
 _WIDTH, _LANE, _LETTER, _BOLD = 1000, 26, 6.4, 7.7
-#: Lanes begin so long before the first time and end so long after the last, so that rings are whole. Right of them there is so much
-#: room; an overview has the number of events there.
+#: The room at both ends of a lane, so that rings are not cut; the room right of the lanes, where an overview has the number of events;
+#: and the height of a lane in an overview.
 _PAD, _RIGHT, _RIGHT_OF_STRIP, _STRIP_LANE = 12, 20, 80, 15
-#: The widest that names may be before they are cut in the middle, in letters.
+#: Longer names are cut in the middle.
 _NAME = 44
-#: Of so many breaks each has its row's name in the picture; of more the row's number.
+#: Up to six breaks have a label with the name of their row. If there are more, labels have numbers.
 NAMED = 6
-#: Breaks have one label where they are nearer than this.
+#: Numbered breaks that are closer than this share a label.
 _NEAR = 60
-#: How many shades of grey an overview has.
+#: The number of shades of grey in an overview.
 _LEVELS = 4
-#: What the classes of the drawing look like on a dark screen; on a light one their attributes say it.
+#: The colours on a dark screen. Attributes have those for a light one.
 STYLE = ("@media screen and (prefers-color-scheme: dark) { .dk-back { fill: #16181d } .dk-grid { stroke: #3a3f47 } .dk-line { stroke: #6b7280 } "
          ".dk-text { fill: #d7dbe2 } .dk-event { stroke: #f3f4f6 } .dk-many { fill: #d7dbe2 } .dk-broken { stroke: #ff6b7d } "
          ".dk-say { fill: #ff8a98; stroke: #16181d } .dk-ring { stroke: #ff6b7d } }")
 
 
 def short(name: str, most: int = _NAME) -> str:
-    """A name of at most so many letters, cut in the middle."""
+    """A name that is cut in the middle if it is longer than ``most``."""
     return name if len(name) <= most else f"{name[: most * 2 // 3]}\u2026{name[-(most - most * 2 // 3 - 1):]}"
 
 
@@ -36,7 +36,7 @@ def colour_of(row: int) -> str:
 
 
 class _Label(NamedTuple):
-    """A label of breaks: its text, whether it is left of its line, and how many others are above it."""
+    """A label for some breaks. ``left`` says that it stands left of their line, ``level`` in which line of labels."""
 
     marks: list[Mark]
     text: str
@@ -45,7 +45,7 @@ class _Label(NamedTuple):
 
 
 class _Canvas:
-    """The measures of a picture: names at the left, lanes, above them the breaks and below them the axis."""
+    """What all pictures have: lanes with their names at the left, labels of the breaks above and the axis below."""
 
     def __init__(self, view: View, names: list[str], lane: int, right: int, links: str):
         self.view, self.names, self.lane, self.links = view, names, lane, links
@@ -59,7 +59,7 @@ class _Canvas:
         self.height = self.bottom + 44
 
     def x(self, time: float) -> float:
-        """Where a time is, within the lanes."""
+        """The horizontal place of a time."""
         inner = self.inner - 2 * _PAD
         scale = inner / (self.view.end - self.view.begin)
         return round(self.left + _PAD + min(max((time - self.view.begin) * scale, 0), inner), 1)
@@ -92,7 +92,7 @@ class _Canvas:
         return out
 
     def _groups(self, marks: list[Mark]) -> list[list[Mark]]:
-        """The breaks that have one label: each its own where they are few, else those that are close together."""
+        """The breaks in groups that share a label. If there are few breaks, each has its own."""
         groups: list[list[Mark]] = []
         for mark in marks:
             if len(marks) > NAMED and groups and self.x(mark.time) - self.x(groups[-1][0].time) < _NEAR:
@@ -102,7 +102,7 @@ class _Canvas:
         return groups
 
     def _placed(self, marks: list[Mark]) -> list[_Label]:
-        """The labels of the breaks, none of which covers another."""
+        """The labels of the breaks, placed so that none covers another."""
         found: list[_Label] = []
         taken: list[list[tuple[float, float]]] = []
         for group in self._groups(marks):
@@ -118,14 +118,14 @@ class _Canvas:
         return found
 
     def _text(self, group: list[Mark], named: bool, room: float) -> str:
-        """What is said of the breaks of a label, in so much room."""
+        """The text of a label that fits the room."""
         if not named:
             return f"row {group[0].row}" if len(group) == 1 else f"{len(group)} rows"
         time = f", {self.view.time_format.at(group[0].time)}"
         return short(group[0].label, max(int(room / _BOLD) - len(time), 12)) + time
 
     def marks(self) -> list[str]:
-        """The steps that broke a row: all lines, and then all labels before them."""
+        """The breaks: first all lines, then all labels on top of them."""
         lines, labels = [], []
         for group, text, left, level in self.labels:
             at, y = self.x(group[0].time), 18 + 15 * level
@@ -137,14 +137,14 @@ class _Canvas:
         return lines + labels
 
     def _tip(self, group: list[Mark]) -> str:
-        """What the pointer says on breaks."""
+        """The tooltip of some breaks."""
         return "<title>" + escape("\n".join(f"{mark.label}, {self.view.time_format.at(mark.time)}" for mark in group)) + "</title>"
 
     def _linked(self, mark: Mark, drawn: str) -> str:
         return f"<a href='{escape(self.links)}{mark.row}'>{drawn}</a>" if self.links else drawn
 
     def drawn(self, parts: list[list[str]], style: bool) -> str:
-        """The whole as one SVG element, of the title and these parts."""
+        """The SVG element with these parts."""
         head = (f"<svg xmlns='http://www.w3.org/2000/svg' viewBox='0 0 {_WIDTH} {self.height}' role='img' "
                 "font-family='DejaVu Sans, Verdana, sans-serif' font-size='11'>")
         out = [head, f"<title>{escape(self.view.title)}</title>", *([f"<style>{STYLE}</style>"] if style else [])]
@@ -153,7 +153,7 @@ class _Canvas:
 
 
 class _Drawing(_Canvas):
-    """A picture of lanes with events, and the stretches that rows ask for."""
+    """Events, and the stretches that rows ask for."""
 
     def __init__(self, picture: Scene, links: str, legend: bool):
         super().__init__(picture, [name for name, _ in picture.lanes], _LANE, _RIGHT, links)
@@ -162,10 +162,10 @@ class _Drawing(_Canvas):
         self.height += 16 * (self.legend[-1][1] + 1 if self.legend else 0)
 
     def events(self) -> list[str]:
-        """A stroke for each event; those that a reason is about have a ring."""
+        """A stroke for each event, with a ring if a reason names it."""
         out = []
         for lane, (name, times) in enumerate(self.picture.lanes):
-            # Events that are close together are thinner, so that each can be seen.
+            # If there are many events, their strokes are thinner.
             width = 1.8 if len(times) < self.inner / 5 else max(round(0.4 * self.inner / len(times), 1), 0.3)
             for time in times:
                 tip = escape(f"{name} at {self.picture.time_format.at(time)}")
@@ -176,7 +176,7 @@ class _Drawing(_Canvas):
         return out
 
     def shades(self) -> list[str]:
-        """The stretches that rows ask for, in a group for each row."""
+        """The stretches, in a group for each row."""
         out = []
         for row in self.picture.shaded:
             stretches = [self._shade(shade) for shade in self.picture.shades if shade.row == row]
@@ -189,7 +189,7 @@ class _Drawing(_Canvas):
         opacity = ".35" if shade.broken else ".08" if shade.end is None else ".22"
         width = max(round(self.x(end) - self.x(shade.begin), 1), 1.5)
         upto = " on" if shade.end is None else f" to {picture.time_format.at(shade.end)}"
-        # Dashed, where only the beginning of a stretch without an end is shown.
+        # Only the beginning of a stretch without an end is shown, with a dashed border.
         dashed = " stroke-dasharray='2 2'" if shade.end is None else ""
         tip = escape(f"{picture.rows[shade.row]}: from {picture.time_format.at(shade.begin)}{upto}{', nothing came' if shade.broken else ''}")
         return (f"<rect x='{self.x(shade.begin)}' y='{self.top + _LANE * shade.lane + 4}' width='{width}' height='{_LANE - 8}' "
@@ -197,7 +197,7 @@ class _Drawing(_Canvas):
                 f"<title>{tip}</title></rect>")
 
     def _legend(self) -> list[tuple[int, int, str, str]]:
-        """Of the legend: column, line, name and colour of each part."""
+        """The parts of the legend: column, line, name and colour."""
         parts = [(short(self.picture.rows[row], 30), colour_of(row)) for row in self.picture.shaded]
         if any(shade.broken for shade in self.picture.shades):
             parts.append(("nothing came", BROKEN))
@@ -221,14 +221,14 @@ class _Drawing(_Canvas):
 
 
 class _StripDrawing(_Canvas):
-    """A whole log: the darker, the more events."""
+    """An overview of a whole log. Darker bins have more events."""
 
     def __init__(self, strip: Strip, links: str):
         super().__init__(strip, [name for name, _, _ in strip.lanes], _STRIP_LANE, _RIGHT_OF_STRIP, links)
         self.strip = strip
 
     def bins(self) -> list[str]:
-        """The bins of each lane, in levels of grey beside the fullest of the lane, and the number of its events."""
+        """The bins of each lane, black for the fullest one, and the number of its events."""
         out = []
         for lane, (name, events, counts) in enumerate(self.strip.lanes):
             levels = [-(-_LEVELS * count // max(counts)) for count in counts]
@@ -240,7 +240,7 @@ class _StripDrawing(_Canvas):
         return out
 
     def _runs(self, lane: int, levels: list[int], level: int) -> str:
-        """Bins of one level, those side by side as one."""
+        """The path of all bins of one level."""
         width, y, place, out = (self.inner - 2 * _PAD) / BINS, self.middle(lane) - 5, 0, ""
         for one, group in groupby(levels):
             length = len(list(group))
@@ -252,14 +252,14 @@ class _StripDrawing(_Canvas):
 
 
 def svg(picture: Scene, style: bool = True, links: str = "", legend: bool = True) -> str:
-    """The picture as one SVG element, which needs nothing else. A page has the style and the legend itself, and ``links`` from the
-    breaks to its rows: what stands before a row's number."""
+    """The picture as one SVG element. A page leaves out the style and the legend, which it has itself, and gives ``links``, the address of
+    a row without its number."""
     drawing = _Drawing(picture, links, legend)
     parts = [drawing.axis(), drawing.lanes(), drawing.shades(), drawing.events(), drawing.marks(), drawing.legend_parts()]
     return drawing.drawn(parts, style)
 
 
 def strip_svg(strip: Strip, links: str = "") -> str:
-    """The overview of a whole log as one SVG element of a page."""
+    """The overview as one SVG element for a page."""
     drawing = _StripDrawing(strip, links)
     return drawing.drawn([drawing.axis(), drawing.lanes(), drawing.bins(), drawing.marks()], False)

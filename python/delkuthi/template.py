@@ -1,4 +1,4 @@
-"""Templates of HTML: parts of a file, filled with values. Every value is escaped, unless it was made by a template itself."""
+"""HTML from a template file. Every value is escaped unless a template made it."""
 from __future__ import annotations
 
 import re
@@ -13,7 +13,7 @@ _PART = re.compile(r"^<!-- part (\w+) -->\n", re.MULTILINE)
 
 
 class Markup(str):
-    """Text that is HTML already."""
+    """Text that is already HTML."""
 
 
 #: What a template can be filled with.
@@ -21,17 +21,17 @@ Value = Union[str, int, Iterable[Markup]]
 
 
 def joined(parts: Iterable[Markup]) -> Markup:
-    """Several pieces of HTML, one behind the other."""
+    """Pieces of HTML, one after the other."""
     return Markup("".join(parts))
 
 
 def fill(part: str, **values: Value) -> Markup:
-    """The part of this name, with a value for each of its names."""
+    """A part of the template, with a value for each ``$name`` in it."""
     return Markup(_parts()[part].substitute({name: _html(value) for name, value in values.items()}))
 
 
 def file_text(name: str) -> Markup:
-    """A style or a script of the page's folder, for its element of the page."""
+    """The style or the script of the page."""
     return Markup((_FOLDER / name).read_text(encoding="utf-8"))
 
 
@@ -45,6 +45,6 @@ def _html(value: Value) -> str:
 
 @lru_cache(maxsize=None)
 def _parts() -> dict[str, Template]:
-    """The parts of the page, by their names."""
+    """The parts of the template, by name."""
     _, *found = _PART.split((_FOLDER / "page.html").read_text(encoding="utf-8"))
     return {name: Template(text.rstrip("\n")) for name, text in zip(found[::2], found[1::2])}

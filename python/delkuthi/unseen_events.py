@@ -14,11 +14,14 @@ def warnings(table: Table, log: Log, seen: Iterable[int | None]) -> list[str]:
     """A line for each event of the table's rows and their windows that is not among the signals that were seen."""
     kinds = {parts(number)[0] for number in seen if number is not None}
     named = {event.kind: event for event in table.events}
+    names = {table.event_name(kind) for kind in kinds}
     lines = [] if table.rows else [f"{log.path}: the table has no rows, so nothing is checked"]
     for kind in sorted({kind for row in table.rows for kind in (*row.kinds, *(row.window or ()))} - kinds):
+        if table.event_name(kind) in names:
+            continue  # another lane of the same event
         why = _why(named[kind], log) if kind in named else ""
         lines.append(f"{log.path}: the log has no {table.event_name(kind)}{why and f': {why}'}")
-    return lines
+    return list(dict.fromkeys(lines))
 
 
 def _why(event: Event, log: Log) -> str:

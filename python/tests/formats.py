@@ -16,7 +16,8 @@ def frames_of(path):
 
 
 def write_formats(folder, table, frames, name="drive"):
-    """The frames as CSV, candump, ASC and a recording, and where python-can is there as BLF and TRC."""
+    """The frames as CSV, candump, ASC and a recording, and where openpyxl and python-can are there as a workbook, BLF, TRC and
+    SQLite."""
     frames = list(frames)
     mapping, steps, clock = CanMapping(table), [], 0
     for time, identifier, data in frames:
@@ -32,7 +33,20 @@ def write_formats(folder, table, frames, name="drive"):
     for ending, lines in texts.items():
         (folder / f"{name}.{ending}").write_text("\n".join(lines) + "\n")
     (folder / f"{name}.bin").write_bytes(recording_bytes(steps))
-    return [*(folder / f"{name}.{ending}" for ending in (*texts, "bin")), *_by_python_can(folder, frames, name)]
+    return [*(folder / f"{name}.{ending}" for ending in (*texts, "bin")), *_workbook(folder, texts["csv"], name), *_by_python_can(folder, frames, name)]
+
+
+def _workbook(folder, lines, name):
+    try:
+        import openpyxl
+    except ImportError:
+        return []
+    book = openpyxl.Workbook()
+    for line in lines:
+        time, event = line.split(",")
+        book.active.append([int(time) if time.isdigit() else time, event or None])
+    book.save(folder / f"{name}.xlsx")
+    return [folder / f"{name}.xlsx"]
 
 
 def drive_in_all_formats(folder):
@@ -55,8 +69,9 @@ def _by_python_can(folder, frames, name):
         import can
     except ImportError:
         return []
-    paths = [folder / f"{name}.{ending}" for ending in ("blf", "trc")]
+    paths = [folder / f"{name}.{ending}" for ending in ("blf", "trc", "db")]
     for path in paths:
+        path.unlink(missing_ok=True)
         with can.Logger(str(path)) as writer:
             for time, identifier, data in frames:
                 writer(can.Message(timestamp=time / 10**6, arbitration_id=int(identifier, 16), is_extended_id=len(identifier) > 3, data=data,

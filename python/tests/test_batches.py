@@ -10,7 +10,7 @@ import pytest
 from delkuthi import Row, Table, batches, monitors
 from delkuthi.check import check
 from delkuthi.logs import Log, LogError, Policy
-from delkuthi.measure import measure
+from delkuthi.measure import Measuring, measure
 from delkuthi.monitors import Monitors, monitor_of
 from delkuthi.readers import READERS, Reader
 from delkuthi.rowtypes import TYPES
@@ -94,7 +94,15 @@ def as_candump(rng, lines):
 
 def as_asc(rng, lines):
     text = f"date today\nbase hex  timestamps {rng.choice(['absolute', 'absolute', 'relative'])}\n0.0 Start of measurement\n"
+    flexible, named = rng.choice([0, 0, 0.5, 1]), rng.random() < 0.3
     for time, kind, bus, data in lines:
+        if rng.random() < flexible:
+            data = data * rng.choice([1, 1, 2, 8])
+            octets = data.hex(" ").upper() if rng.random() < 0.99 else "01 0"
+            name = " Name" if named and rng.random() < 0.99 else ""
+            way = "Rx" if rng.random() < 0.99 else rng.choice(["TxRq", "Tx", "Rz"])
+            text += f"   {time // 10**6}.{time % 10**6:06d} CANFD   {bus[-1]} {way}   {0x100 + kind:X}{name}  1 0 9 {len(data)} {octets} 1 2 3 {0:X}\n"
+            continue
         bytes_of = data.hex(" ").upper()
         rest = rng.choice(["", "  Length = 5 BitCount = 4"]) if rng.random() < 0.9 else rng.choice([" 0", " AB", "A"])
         text += f"   {time // 10**6}.{time % 10**6:06d} {bus[-1]}  {0x100 + kind:X}       Rx   d {len(data)} {bytes_of}{rest}\n"
@@ -330,3 +338,29 @@ def test_a_step_that_one_monitor_refuses_is_taken_by_none():
         monitor.take(2, 64)
     assert ([str(verdict) for verdict in monitor.verdicts], monitor.steps) == before
     monitor.take(0, 64)
+
+
+def test_measures_of_many_steps():
+    """Events taken many at a time, cut anywhere, measure what they measure one by one: regular ones, and some with faults among them."""
+    rng, regular = random.Random(21), 0
+    for number in range(300):
+        rows = [random_row(rng, rng.choice(TYPES)) for _ in range(2)]
+        rows += [Row.of(name, source=0, target=1, lower=rng.choice([0, 0, 2]), upper=rng.choice([5, 9])) for name in ("Delay", "StrongDelay")]
+        rows += [Row.of("Repeat", event=0, span=rng.choice([1, 2, 3]), lower=rng.choice([0, 3]), upper=rng.choice([30, 2**64 - 1]))]
+        table, steps, time, faults = Table(rows), [], 0, rng.choice([0, 0, 0.02, 0.2])
+        for _ in range(rng.randint(0, 60)):
+            for kind in (0, 1):
+                time += rng.randint(0 if kind else 1, 4)
+                if rng.random() >= faults:
+                    steps.append((kind if rng.random() >= faults else rng.choice([0, 1, 2, 3, None]), time, len(steps)))
+        one, many, at = Measuring(table), Measuring(table), 0
+        for step in steps:
+            one.take(*step)
+        while at < len(steps):
+            some = steps[at : at + rng.choice([1, 2, 7, 50])]
+            many.take_all([time for _, time, _ in some], [kind for kind, _, _ in some], [place for _, _, place in some])
+            at += len(some)
+        assert one.measures == many.measures
+        assert one.end(time + 9, number % 2 == 0) == many.end(time + 9, number % 2 == 0)
+        regular += one.measures[2].judged > 10 and not one.measures[2].missing
+    assert regular > 100

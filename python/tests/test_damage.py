@@ -3,11 +3,13 @@
 ``DAMAGE=10000 pytest python/tests/test_damage.py`` tries as many.
 """
 import contextlib
+import gzip
 import io
 import os
 import random
 import shutil
 
+import can
 import pytest
 
 from delkuthi.command import main
@@ -52,8 +54,10 @@ def options(chance):
     """Some options of a log."""
     found = []
     for some in (["--equal", "drop"], ["--equal", "later"], ["--unsorted", "sort"], ["--round"], ["--from-zero"], ["--as-stamped"],
-                 ["--no-close"], ["--until", chance.choice(["300 ms", "9" * 30, "1152921504606846976", "1.5", "-1", "x"])]):
-        if chance.randrange(4) == 0:
+                 ["--no-close"], ["--from", chance.choice(["brake_pedal", "wheel_speed", "100 ms", "+1 ms", "-5", "x", ""])],
+                 ["--to", chance.choice(["camera_frame", "200 ms", "+9 s", "9" * 30])], ["--encoding", chance.choice(["cp1252", "utf-16", "ascii"])], ["--time-unit", "ms"],
+                 ["--format", chance.choice(["csv", "asc", "blf", "btf", "trc", "log", "xlsx", "bin", "db"])], ["--until", chance.choice(["300 ms", "9" * 30, "1152921504606846976", "1.5", "-1", "x"])]):
+        if chance.randrange(24 if some[0] in ("--format", "--encoding") else 4) == 0:
             found += some
     return found
 
@@ -73,7 +77,8 @@ def command(chance, table, log):
     if what == 4:
         return ["stamps", table, log, row, chance.choice(["1 ms", "0", "9" * 30, "-1", "1.0000001 s"]), *options(chance)]
     shown = chance.choice(([], [], ["--json"], ["--junit", "out.xml"], ["--html", "out.html"], ["--plot", "out.svg"], ["--page"],
-                           ["--exercised"], ["--measure"],
+                           ["--exercised"], ["--measure"], ["--cut"], ["--close"], ["--cut", "--measure"],
+                           ["--violations", "out.csv"], ["--violations", "out.json", "--cut"],
                            ["--trace", "out.json"], ["--measure", "--html", "out.html"], ["--as-one", log]))
     return ["check", table, log, *shown, *options(chance)]
 
@@ -94,7 +99,15 @@ def pairs(folder):
     found = [(table, log) for table in ("drive.txt", "drive.txt", "table.bin") for log in logs]
     for path in (EXAMPLES / "bench").iterdir():
         shutil.copy(path, folder)
-    return found + 3 * [("bus.txt", "bus.log"), ("tasks.txt", "tasks.btf"), ("samples.txt", "samples.csv")]
+    bench = [("bus.txt", "bus.log"), ("tasks.txt", "tasks.btf"), ("samples.txt", "samples.csv")]
+    for ending in ("asc", "blf", "trc", "csv"):
+        with can.LogReader(str(folder / "bus.log")) as reader, can.Logger(str(folder / f"bus.{ending}")) as writer:
+            for frame in reader:
+                frame.is_fd = ending in ("asc", "blf") and frame.dlc == 8
+                writer(frame)
+        bench.append(("bus.txt", f"bus.{ending}"))
+    (folder / "drive.csv.gz").write_bytes(gzip.compress((folder / "drive.csv").read_bytes()))
+    return found + 3 * bench + [("drive.txt", "drive.csv.gz")]
 
 
 def test_damaged_files(tmp_path, monkeypatch):

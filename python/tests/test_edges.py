@@ -335,3 +335,106 @@ def test_formats_on_the_standard_input(tmp_path, ending, pack):
     for more in ([], ["--format", ending]) if ending != "db" else (["--format", "db"],):
         done = subprocess.run([*words, *more], input=data, capture_output=True, cwd=tmp_path)
         assert done.returncode == 0 and b"-: 1 row, 1 kept, 0 broken; 5 events in 5" in done.stdout, done.stderr
+
+
+# instances of a task
+
+APART = """unit us
+"net" ExecutionTime task "T10", 2 us .. 5 us
+"gross" ExecutionTime task "T10" without waiting, 0 us .. 9 us
+"other" ExecutionTime runnable "Filter", 1 us .. 3 us
+event started from task "T10" start
+Repeat started span 1, 0 us .. 1 s
+"""
+
+
+def trace(*lines):
+    """A BTF trace of tasks and runnables: time, target, instance, what happens."""
+    rows = (f"{time},C,0,{'R' if name == 'Filter' else 'T'},{name},{instance},{action}\n" for time, name, instance, action in lines)
+    return "#version 2.1.5\n#timeScale=us\n" + "".join(rows)
+
+
+def test_instances_are_kept_apart(tmp_path):
+    """Two runs at once, each of 3 us; as one stream they would be runs of another length, or out of order."""
+    path = tmp_path / "a.btf"
+    path.write_text(trace((1, "T10", 0, "start"), (3, "T10", 0, "preempt"), (3, "T10", 1, "start"), (4, "Filter", 0, "start"), (5, "Filter", 1, "start"),
+                          (6, "T10", 1, "terminate"), (6, "Filter", 0, "terminate"), (7, "T10", 0, "resume"), (7, "Filter", 1, "terminate"),
+                          (8, "T10", 0, "terminate")))
+    found = check(Table.from_text(APART), str(path), measured=True)
+    assert found.error is None and [row.verdict for row in found.rows] == ["kept"] * 4
+    assert [(row.instances, row.events, row.measured["judged"], row.measured["least"], row.measured["greatest"]) for row in found.rows[:3]] == [
+        (2, 6, 2, 3, 3), (2, 6, 2, 3, 3), (2, 4, 2, 2, 2)]
+    path.write_text(path.read_text().replace("8,C,0,T,T10,0,terminate", "12,C,0,T,T10,0,terminate"))
+    found = check(Table.from_text(APART), str(path), measured=True, violations=str(tmp_path / "v"))
+    assert [row.verdict for row in found.rows] == ["broken", "kept", "kept", "kept"] and found.rows[0].place == 12
+    assert [(one.row, one.value) for one in found.violations] == [(0, 7)]
+
+
+def test_instances_that_start_at_once_and_too_many(tmp_path):
+    path = tmp_path / "a.btf"
+    path.write_text(trace(*((1, "T10", number, "start") for number in range(3)), *((4, "T10", number, "terminate") for number in range(3))))
+    found = check(Table.from_text(APART.replace("event started", "# event").replace("Repeat", "# Repeat")), str(path))
+    assert found.error is None and [row.verdict for row in found.rows][:2] == ["kept", "kept"] and found.rows[0].instances == 3
+    path.write_text(trace(*((number, "T10", number, "start") for number in range(30))))
+    assert check(Table.from_text(APART), str(path)).error.endswith(":19: more than 16 instances of the task T10 run at once")
+    path.write_text(trace((1, "T10", 0, "start"), (2, "T10", 1, "start")))
+    (tmp_path / "t.txt").write_text(APART)
+    assert main(["record", str(tmp_path / "t.txt"), str(path), "-o", str(tmp_path / "out.bin")]) == 2
+
+
+def test_instances_by_brute_force(tmp_path):
+    """Random runs at once: the row is kept where each run by itself is, and what it measures is what each run measures."""
+    rng, path, table = random.Random(3), tmp_path / "a.btf", Table.from_text('unit us\nExecutionTime task "T10", 2 us .. 6 us\n')
+    kept = 0
+    for _ in range(120):
+        runs, lines = [], []
+        for instance in range(rng.randint(1, 6)):
+            begin = rng.randrange(30)
+            times = sorted(begin + later for later in rng.sample(range(8), rng.choice([2, 2, 2, 4])))
+            actions = ["start", "terminate"] if len(times) == 2 else ["start", "preempt", "resume", "terminate"]
+            lines += [(time, at, "T10", instance, action) for at, (time, action) in enumerate(zip(times, actions))]
+            runs.append(times[-1] - times[0] - (times[2] - times[1] if len(times) == 4 else 0))
+        path.write_text(trace(*((time, name, instance, action) for time, _, name, instance, action in sorted(lines))))
+        found = check(table, str(path), measured=True)
+        good = all(2 <= run <= 6 for run in runs)
+        kept += good
+        assert found.error is None and (found.rows[0].verdict == "kept") == good, (runs, path.read_text())
+        measured = found.rows[0].measured
+        assert (measured["least"], measured["greatest"], measured["outside"]) == (min(runs), max(runs), sum(not 2 <= run <= 6 for run in runs))
+    assert 5 < kept < 110
+
+
+# what other programs write
+
+PAYLOADS = [random.Random(9).randbytes(length) for length in range(65)]
+BY_LENGTH = Table.from_text("unit us\n" + "".join(
+    f"event e{length} from can 0x{0x100 + length:X}{f' data {data.hex()}' if data else ''}\n"
+    f"event more{length} from can 0x{0x100 + length:X} data {data.hex()}..\n" for length, data in enumerate(PAYLOADS)))
+
+
+@pytest.mark.parametrize("ending, longest", [("asc", 64), ("blf", 64), ("log", 64), ("csv", 64), ("db", 64), ("trc", 8)])
+def test_every_payload_that_python_can_writes(tmp_path, ending, longest):
+    """Frames of 0 to 64 bytes, standard and extended, on two channels: each is read with just its data. Its TRC has no CAN FD."""
+    path = tmp_path / f"a.{ending}"
+    with can.Logger(str(path)) as writer:
+        for length in range(longest + 1):
+            for extended in (False, True):
+                writer(can.Message(timestamp=1.5e9 + length, arbitration_id=0x100 + length, is_extended_id=extended, data=PAYLOADS[length],
+                                   is_fd=length > 8, channel=length % 2))
+    assert len(BY_LENGTH.rows) == 0
+    found = [[BY_LENGTH.event_name(kind) for kind in kinds] for _, kinds, _ in read(path, table=BY_LENGTH, round=True)]
+    assert found == [names for length in range(longest + 1) for names in ([f"e{length}"], [])]
+    log = Log(path, BY_LENGTH, Policy(round=True, equal="later"))
+    steps = [step.signal for step in log.steps() if step.signal is not None]
+    assert [BY_LENGTH.event_name(number) for number in steps] == [f"e{length}" for length in range(longest + 1)]
+    assert ending == "csv" or log.buses == {"asc": {"1", "2"}, "blf": {"1", "2"}, "trc": {"1", "2"}}.get(ending, log.buses)
+
+
+@pytest.mark.parametrize("ending", ["asc", "blf", "log", "csv", "db"])
+def test_remote_and_error_frames_that_python_can_writes(tmp_path, ending):
+    """They move the clock and are no events."""
+    path, table = tmp_path / f"a.{ending}", Table.from_text("unit us\nevent a from can 0x100\n")
+    with can.Logger(str(path)) as writer:
+        for number, more in enumerate([{}, {"is_remote_frame": True, "dlc": 4}, {"is_error_frame": True}, {"data": b"\1"}]):
+            writer(can.Message(timestamp=float(number), arbitration_id=0x100, is_extended_id=False, channel=0, **more))
+    assert [kinds for _, kinds, _ in read(path, table=table, round=True)] == [(0,), (), (), (0,)]

@@ -13,19 +13,20 @@ from conftest import EXAMPLES
 from formats import drive_in_all_formats, write_formats
 
 #: The line of the first frame in each format, and what a line is called there.
-FIRST = {"csv": 2, "log": 1, "asc": 4, "bin": 1, "blf": 1, "trc": 19}
+FIRST = {"csv": 2, "log": 1, "asc": 4, "bin": 1, "xlsx": 2, "blf": 1, "trc": 19, "db": 1}
 
 
 def said(table, path, **policy):
     """Everything that a check says, without the names of files and with the frames counted from 1."""
-    outcome = check(table, str(path), Policy(round=True, **policy))
+    outcome = check(table, str(path), Policy(round=True, **policy), measured=True)
     first = FIRST[path.suffix[1:]]
 
     def plain(text):
         text = re.sub(r"\b(?:line|record|frame) (\d+)", lambda match: f"frame {int(match[1]) - first + 1}", (text or "").replace(str(path), "log"))
         return re.sub(r"^log(?::(\d+)|: (?=frame))", lambda match: f"log: frame {int(match[1]) - first + 1}" if match[1] else "log: ", text)
 
-    rows = [(row.verdict, row.step, row.time, row.events, row.instances, plain(row.message), row.about) for row in outcome.rows]
+    rows = [(row.verdict, row.step, row.time, row.events, row.instances, plain(row.message), row.about, row.violations,
+             {name: row.measured[name] for name in ("judged", "outside", "missing", "least", "greatest")}) for row in outcome.rows]
     counts = (outcome.counts.lines, outcome.counts.events, outcome.steps, outcome.clock, outcome.time_format)
     # What a log has in the place of an event that never came is not the same in each format.
     missing = [re.sub(r"(the log has no \S+?):.*", r"\1", plain(warning)) for warning in outcome.warnings]
@@ -35,7 +36,7 @@ def said(table, path, **policy):
 def test_the_drive(tmp_path):
     table = Table.read(EXAMPLES / "drive.txt")
     paths = drive_in_all_formats(tmp_path)
-    assert len(paths) == 6
+    assert len(paths) == 8
     found = {path.suffix: said(table, path) for path in paths}
     assert all(one == found[".csv"] for one in found.values())
     assert sum(row[0] == "broken" for row in found[".csv"][0]) == 3
@@ -88,7 +89,7 @@ def test_a_bus_is_what_the_log_says(tmp_path):
                             "event c = 2 from can 0x102 bus vcan0.1-x\nOrder a -> b\nOrder a -> c\n")
     assert Table.from_text(table.text()).events == table.events
     for path in write_formats(tmp_path, table, [(1000, "100", b""), (2000, "101", b"")]):
-        if path.suffix in (".csv", ".bin"):
+        if path.suffix in (".csv", ".bin", ".xlsx", ".db"):
             continue
         outcome = check(table, str(path), Policy(round=True))
         assert outcome.counts.events == 1 and outcome.rows[0].events == 1, path

@@ -5,25 +5,30 @@ import hashlib
 import os
 import random
 import re
+from html import escape
 from html.parser import HTMLParser
 
 import openpyxl
 import pytest
-from hypothesis import given
+from hypothesis import given, settings
 from hypothesis import strategies as st
 
 from delkuthi import Table
 from delkuthi.check import check
 from delkuthi.histogram import histogram_svg
-from delkuthi.html_page import as_html, mean_text, pictured
+from delkuthi.evidence import evidence_of
+from delkuthi.html_page import as_html
+from delkuthi.html_rows import mean_number
 from delkuthi.logs import Policy
 from delkuthi.measure import Histogram, measure
 from delkuthi.measured import described
 from delkuthi.provenance import provenance
+from delkuthi.recording import recording_bytes
 from delkuthi.scope import Scope
 from delkuthi.template import Markup, fill
 
 from conftest import EXAMPLES
+from strategies import played
 from test_examples import WHEN
 
 #: Elements that have no end.
@@ -67,7 +72,7 @@ def page_of(table, *paths, policy=Policy(), name="table.txt", notes=(), violatio
     """The page of some logs, as the command gives it."""
     outcomes = [check(table, path if isinstance(path, list) else str(path), policy, measured=True, violations=violations) for path in paths]
     made = provenance(table, name, [outcome.files for outcome in outcomes], ["check", name], notes)
-    return as_html(table, name, [pictured(table, policy, outcome) for outcome in outcomes], made)
+    return as_html(table, name, [evidence_of(table, policy, outcome) for outcome in outcomes], made)
 
 
 def drive_page():
@@ -181,16 +186,17 @@ def test_numbers_can_be_pasted(tmp_path):
     log.write_text("time,event\n" + "".join(f"{10_000 * n},a\n{10_000 * n + 1500},b\n" for n in range(1, 4000)) + "90000000,a\n")
     page = page_of(table, log)
     text = seen_of(page).text
-    assert not re.search(r"\d[,\u2009\u202f\u00a0' ]\d{3}(?!\d)(?! rows)", re.sub(r"SHA-256 \w+|How this page.*", "", text, flags=re.S)), "no thousands"
+    result = text.split("How this page")[0]
+    assert not re.search(r"\d[,\u2009\u202f\u00a0' ]\d{3}(?!\d)(?! rows)", result), "no sign between thousands"
     assert "7999 events in 7999 lines" in text and "7998 of 7998" not in text
     cells = re.findall(r'<td class="n time[ \w]*" data-label="\w+ \[ms\]">(.*?)</td>', page)
     assert cells and all(re.fullmatch(r"-?\d+(\.\d+)?|", cell) for cell in cells)
 
 
 def test_means_have_three_digits():
-    assert [mean_text(mean, 1000) for mean in (10001.646, 44700.0, 0.0, None, 412.3456, 1.23456, 0.0123456, 123456780.0)] == [
+    assert [mean_number(mean, 1000) for mean in (10001.646, 44700.0, 0.0, None, 412.3456, 1.23456, 0.0123456, 123456780.0)] == [
         "10.002", "44.7", "0", "", "0.412", "0.00123", "0.0000123", "123456.78"]
-    assert mean_text(10001.6466, 1) == "10001.647"
+    assert mean_number(10001.6466, 1) == "10001.647"
 
 
 def test_a_bar_with_a_value_outside_is_red():
@@ -227,6 +233,13 @@ def test_the_limits_are_within_the_histogram():
         drawn = histogram_svg(described(measure(table, [(0, time, 0) for time in times])[0], lambda time: time, str), "us")
         lines = [float(x) for x in re.findall(r'class="limit" d="M([\d.]+) ', drawn)]
         assert len(lines) == 2 and all(4 < x < 136 for x in lines), "not at the edge, where it would be cut"
+
+
+def test_a_value_at_its_limit_is_drawn_at_the_limit():
+    table = Table.from_text("unit us\nevent a\nRepeat a span 1, 1000 .. 1000\n")
+    drawn = histogram_svg(described(measure(table, [(0, time, 0) for time in (0, 1000, 2000)])[0], lambda time: time, str), "us")
+    [(left, width)] = re.findall(r'class="inside" x="([\d.]+)" y="[\d.]+" width="([\d.]+)"', drawn)
+    assert [float(x) for x in re.findall(r'class="limit" d="M([\d.]+) ', drawn)] == [float(left) + float(width) / 2] * 2
 
 
 SHORT = Table.from_text('unit ms\nevent a\nevent b\n"answer" Delay a -> b, 0 .. 5\n')
@@ -266,6 +279,32 @@ def test_lines_of_several_files_and_of_recordings(tmp_path, command):
     assert (3, "a at 10 ms", "named in the reason") in shown_lines(page) and (4, "no event of the table at 11 ms", "") in shown_lines(page)
 
 
+@given(played(), st.sampled_from(["", "cut"]))
+@settings(max_examples=60)
+def test_any_log_has_a_page(tmp_path, case, edges):
+    """Whole, with the evidence of each broken row: its reason and the line that broke it."""
+    table, steps = case
+    path, policy = tmp_path / "a.bin", Policy(scope=Scope(edges=edges))
+    path.write_bytes(recording_bytes(steps))
+    outcome = check(table, str(path), policy)
+    page = page_of(table, path, policy=policy, violations=str(tmp_path / "spool"))
+    text = seen_of(page).text
+    for row in outcome.broken:
+        beside = page.split(f'id="log1-row{row.number}"')[1].split("</tbody>")[0]
+        assert escape(row.reason) in beside and beside.count("broke the row") == (not row.by_close)
+    assert page.count('class="evidence"') == len(outcome.broken) and f"{len(table.rows)} row" in text or not table.rows
+
+
+def test_a_log_that_has_grown_since(tmp_path):
+    log = tmp_path / "a.csv"
+    log.write_text("time,event\n1,a\n2,b\n10,a\n")
+    outcome = check(SHORT, str(log))
+    with log.open("a") as file:
+        file.write("11,b\n12,a\n13,b\n")
+    found = evidence_of(SHORT, Policy(), outcome)
+    assert found.picture.lanes == [("a", [1, 10]), ("b", [2])] and [line.role for line in found.lines[0]].count("broke") == 0
+
+
 def test_long_lines_are_cut(tmp_path):
     (tmp_path / "a.csv").write_text(f"time,event,note\n1,a,{'x' * 5000}\n20,c,\n")
     assert max(len(text) for _, text, _ in shown_lines(page_of(SHORT, tmp_path / "a.csv"))) == 401
@@ -293,7 +332,8 @@ def test_many_broken_rows(tmp_path):
     page = page_of(many_rows(40), tmp_path / "a.csv")
     assert page.count('<details class="proof" open>') == 8 and page.count('<details class="proof">') == 32
     links = re.findall(r"<a href='#log1-row(\d+)'><path", page)
-    assert [int(row) for row in links] == list(range(40)) and re.search(r"<a href='#log1-row0'><text[^>]*>\d rows<title>row 0 broken, 10 ms\nrow 1", page)
+    assert [int(row) for row in links] == list(range(40))
+    assert re.search(r"<a href='#log1-row0'><text[^>]*>\d rows<title>row 0 broken, 10 ms\nrow 1", page)
     seen_of(page)
 
 
@@ -333,8 +373,8 @@ def test_the_scope_is_said(tmp_path):
     text = seen_of(page).text
     assert "Checked: the whole log, cut at both ends, while on .. off and while off .. on: each stretch by itself, cut at both ends." in text
     cells = dict(re.findall(r'id="log1-row(\d)".*?<td class="verdict [\w-]+" data-value="\d+">(.*?)</td>', page, re.S))
-    assert cells["0"] == "broken <small>at 40 ms</small> <small>line 10</small><small>2 windows</small>"
-    assert cells["2"].startswith("kept so far<small>") and "not yet due" in cells["2"]
+    assert cells["0"] == "broken <small>at 40 ms</small> <small>line 10</small> <small>2 windows</small>"
+    assert cells["2"].startswith("kept so far <small>") and "not yet due" in cells["2"]
     assert '<span class="tile so-far"><b>2</b> kept so far</span>' in page and "<h1 class=\"broken\">2 of 4 rows broken</h1>" in page
     whole = seen_of(page_of(Table.read(EXAMPLES / "drive.txt"), EXAMPLES / "drive.csv")).text
     assert "Checked: the whole log, closed at its end." in whole
@@ -343,7 +383,7 @@ def test_the_scope_is_said(tmp_path):
 def test_the_pictures_of_a_row_with_a_window(tmp_path):
     """Only what comes within a window is asked for, and the events that open and close it have lanes."""
     outcome = check(WINDOWS, str(windows_log(tmp_path)))
-    log = pictured(WINDOWS, Policy(), outcome)
+    log = evidence_of(WINDOWS, Policy(), outcome)
     answer = log.close_ups[0]
     assert [name for name, _ in answer.lanes] == ["on", "off", "a", "b"]
     assert [(shade.begin, shade.broken) for shade in log.picture.shades if shade.row == 0] == [(11, False), (31, True)]
@@ -357,8 +397,18 @@ def test_every_violation_is_listed(tmp_path):
     page = page_of(table, tmp_path / "a.csv", violations=str(tmp_path / "spool"))
     assert page.count('<details class="violations">') == 2 and "<summary>2499 violations</summary>" in page
     assert page.count("<td>distance too long</td>") == 2000 and "499 more are not listed here" in page and "500 more are not listed here" in page
-    first = re.search(r'<tr><td class="n">1</td><td>distance too long</td>(.*?)</tr>', page)[1]
+    first = re.search(r'<tr><td class="n">1</td>\s*<td>distance too long</td>(.*?)</tr>', page, re.S)[1]
     assert re.findall(r"<td.*?>(.*?)</td>", first)[1:] == ["0", "12.345", "12.345", "1.345", ""]
     (tmp_path / "b.csv").write_text("time,event\n0,a\n1000,b\n12000,a\n13000,b\n")
     page = page_of(table, tmp_path / "b.csv", violations=str(tmp_path / "spool"))
     assert page.count('<details class="violations" open>') == 1 and "<summary>1 violation</summary>" in page
+
+
+def test_the_command_lists_violations_and_scope(command, tmp_path):
+    (tmp_path / "w.txt").write_text(WINDOWS.text())
+    windows_log(tmp_path)
+    for more in ([], ["--jobs", "2"]):
+        assert command("check", "w.txt", "w.csv", "w.csv", "--cut", "--html", "a.html", *more)[0] == 1
+        page = (tmp_path / "a.html").read_text(encoding="utf-8")
+        assert page.count("<summary>1 violation</summary>") == 4 and page.count("cut at both ends, while on .. off") == 2
+        assert re.findall(r"<th scope=\"col\" class=\"n\">([\w ]+)</th>", page)[:4] == ["kept", "kept so far", "broken", "never exercised"]

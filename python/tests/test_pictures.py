@@ -9,9 +9,10 @@ from delkuthi.check import check
 from delkuthi.logs import Log
 from delkuthi.plot import PlotMissing, write_plot
 from delkuthi.recording import recording_bytes
+from delkuthi.scenes import close_up, gather, overview, strip
 from delkuthi.signals import signal
 from delkuthi.svg import svg
-from delkuthi.timeline import BINS, close_up, gather, overview, strip, ticks
+from delkuthi.timeline import BINS, ticks
 
 from conftest import EXAMPLES
 from strategies import played

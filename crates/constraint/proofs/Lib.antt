@@ -16,7 +16,6 @@ pub mod LastQuestion
 pub mod FittingKinds
 pub mod FieldByField
 pub mod Rows
-pub mod Records
 pub mod Accepted
 pub mod Editions
 pub mod Runs

@@ -1,11 +1,11 @@
 -- What the code's tests and records say: a test of a question, the rows of a table record, one row more, and a row's fields as numbers. No
 -- definition of the contract rests on these.
-use Prim.Native.Nat.{ℕ, _+_, _-_, _≤_, _<_, max}
+use Prim.Native.Nat.{ℕ, _+_, _≤_, _<_, max}
 use mathlib.Core.Path.{_≡_}
 use mathlib.Core.Bool.{Bool, true, false, cond, _||_}
 use mathlib.Core.List.{List, [], _∷_, _++_, map}
 use mathlib.Core.Logic.{_≢_}
-use lib.ListN.{length, set, take, drop, replicate}
+use lib.ListN.{length, take, drop, replicate}
 use lib.Dec.{eqb}
 use Rattle.constraint.specs.Limits.{rowLimit}
 use Rattle.constraint.specs.Bytes.{bytesOf}
@@ -14,7 +14,6 @@ use Rattle.constraint.specs.Types.{Plain, jitter, minimum, len, toleranc
 use Rattle.constraint.specs.Types.{Field, byte, time, typeOf, fieldsOf}
 use Rattle.constraint.specs.declared.Constraint.{Constraint}
 use Rattle.constraint.specs.declared.Constraint.the-variants.{Order}
-use Rattle.constraint.specs.declared.Entry.{Entry}
 use Rattle.constraint.specs.declared.Table.{Table}
 use Rattle.constraint.specs.declared.fields.Fields.{Fields}
 
@@ -35,21 +34,9 @@ filler = Order 0 0
 unfoldable pub rowsOf : Table → List Constraint
 rowsOf table = take (table .count) (map (λ entry. entry .constraint) (table .rows) ++ replicate (table .count) filler)
 
--- the entry of a row
-abbrev pub entryOf : Constraint → Entry
-entryOf c = record { constraint = c }
-
--- the table record of some rows: they stand in the first entries, and the filler in the others
-unfoldable pub tableOf : List Constraint → Table
-tableOf rows = record { rows = map entryOf (rows ++ replicate (rowLimit - length rows) filler); count = length rows }
-
--- the row is put in the entry that the count says
-abbrev pub withOneMore : Table → Constraint → Table
-withOneMore table c = record { rows = set (table .rows) (table .count) (entryOf c); count = table .count + 1 }
-
 -- r is the table with one row more; one for which there is no entry makes the count at least 33, so that the table is refused with 3
 pub record Adds (table : Table) (c : Constraint) (r : Table) : Type 0 where
-  pub room : table .count < rowLimit → r ≡ withOneMore table c
+  pub room : table .count < rowLimit → rowsOf r ≡ rowsOf table ++ (c ∷ [])
   pub full : rowLimit ≤ table .count → r ≡ record { rows = table .rows; count = max (table .count) (rowLimit + 1) }
 
 -- A row's fields as numbers: values, and the numbers of their roles, of which 0 is no field
@@ -115,7 +102,7 @@ timesBytes (x ∷ xs) = bytesOf 8 x ++ timesBytes xs
 
 -- the numbers are those of a row, and stand first in their arrays
 pub record HoldsRow (c : Constraint) (fields : Fields) : Type 0 where
-  pub typed : fields .line .form ≡ typeOf c
+  pub typed : fields .line .tag ≡ typeOf c
   pub all : bytesFrom (fields .line .bytes) (fields .bytes) 0 ++ timesFrom (fields .line .times) (fields .times) 0 ≡ fieldsOf c
   pub bytes : take (length (bytesIn (fieldsOf c))) (fields .bytes) ≡ bytesIn (fieldsOf c)
   pub times : take (length (timesIn (fieldsOf c))) (fields .times) ≡ timesIn (fieldsOf c)

@@ -1,7 +1,8 @@
 -- §16.6: of a table of the first edition the calls for both editions promise just what those for the first do, since they read it alike.
-use Rattle.delkuthi.proofs.Names.{Begins, BeginsUpTo, LeftBy, List, NumbersStamps, NumbersStampsUpTo, ReadAnswer, ReadsTableUpTo, ReportOfUpTo}
-use Rattle.delkuthi.proofs.Names.{Reports, ReportsOn, ReportsOnUpTo, ReportsUpTo, StampedAnswer, TableRead, Words, _↔_, _≡_, _≤_, all-taken}
-use Rattle.delkuthi.proofs.Names.{arith, at, begun, no-recording, no-table, reads-same, refused, unused, used, ℕ}
+use Rattle.delkuthi.proofs.Names.{AnswersStampsUpTo, Begins, BeginsUpTo, LeftBy, List, NumbersStamps, NumbersStampsUpTo, ReadAnswer}
+use Rattle.delkuthi.proofs.Names.{ReadsTableUpTo, ReportOfUpTo, Reports, ReportsOn, ReportsOnUpTo, ReportsUpTo, StampedAnswer, TableRead}
+use Rattle.delkuthi.proofs.Names.{Words, _↔_, _≡_, _≤_, after, all-taken, arith, at, begun, no-recording, no-table, reads-same, refused}
+use Rattle.delkuthi.proofs.Names.{unused, used, ℕ}
 use Rattle.constraint.specs.Report.{too-short, written}
 use Rattle.constraint.specs.Stamps as Stamps
 
@@ -26,7 +27,7 @@ module _ (one other : ℕ) (table : List ℕ) (known : at table 0 ≤ one) (know
   left-same : {before : Words} {recording : List ℕ} {answer : ReadAnswer} {after : Words} → LeftBy one before table recording answer after
       → LeftBy other before table recording answer after
   left-same (unused n place read) = unused n place (same read)
-  left-same (used rows answer after m read taken holds) = used rows answer after m (same read) taken holds
+  left-same (used rows answer after read begins left) = used rows answer after (same read) (begins-same begins) left
 
   on-same : {before : Words} {recording buffer : List ℕ} {number : ℕ} {text : List ℕ} {after : Words}
       → ReportsOnUpTo one before table recording buffer number text after → ReportsOnUpTo other before table recording buffer number text after
@@ -53,17 +54,21 @@ module _ (table : List ℕ) (first : at table 0 ≡ 1) where
   to-2 : at table 0 ≤ 2
   to-2 = omega (arith, first)
 
+  -- §16.6
   pub fresh-as-before : (entry : Words) (number : ℕ) (exit : Words) → BeginsUpTo 2 table entry number exit ↔ Begins table entry number exit
   fresh-as-before entry number exit = (begins-same 2 1 table to-2 to-1, begins-same 1 2 table to-1 to-2)
 
+  -- §16.6
   pub report-as-before : (recording before : List ℕ) (number : ℕ) (after : List ℕ)
       → ReportsUpTo 2 table recording before number after ↔ Reports table recording before number after
   report-as-before recording before number after = (reports-same 2 1 table to-2 to-1, reports-same 1 2 table to-1 to-2)
 
+  -- §16.6
   pub report-on-as-before : (before : Words) (recording buffer : List ℕ) (number : ℕ) (text : List ℕ) (after : Words)
       → ReportsOnUpTo 2 before table recording buffer number text after ↔ ReportsOn before table recording buffer number text after
   report-on-as-before before recording buffer number text after = (on-same 2 1 table to-2 to-1, on-same 1 2 table to-1 to-2)
 
+  -- §16.6
   pub stamps-as-before : (recording : List ℕ) (i e number : ℕ)
       → NumbersStampsUpTo 2 table recording i e number ↔ NumbersStamps table recording i e number
   stamps-as-before recording i e number = (numbers-same 2 1 table to-2 to-1, numbers-same 1 2 table to-1 to-2)

@@ -1,10 +1,11 @@
 -- The laws of taking a recording and of telling its report.
 mod Names
+mod WordsRead
+pub mod Hosts
 pub mod Taking
 pub mod Progress
 pub mod Summaries
 pub mod Reports
-mod Lying
 mod Numbers
 pub mod Printing
 pub mod RecordNumbers
@@ -12,6 +13,5 @@ pub mod Refusals
 pub mod JoinNumbers
 pub mod StampWords
 pub mod Decoded
-pub mod LentExact
 pub mod Editions
 pub mod RoundTrip

@@ -1,8 +1,9 @@
 -- Where no stamp is late the number that answers for late stamps is that of the closed monitor's word: both read one list of steps.
-use Rattle.delkuthi.proofs.Names.{Constraint, Left, List, Monitor, NumbersStampsUpTo, Option, ReadAnswer, Reads, ReadsRow, ReadsTableUpTo}
-use Rattle.delkuthi.proofs.Names.{RecordingTakenAs, Repeat, RepeatRow, StampedAnswer, Step, Verdict, WordOfVerdict, [], _*_, _++_, _∙_, _∷_}
-use Rattle.delkuthi.proofs.Names.{_≡_, ap, arith, asks, both, close, closed-close, map, never, no-row, reads-open, row, run-once, run-valid}
-use Rattle.delkuthi.proofs.Names.{some, stampedNumber, stampedOf, stamps-agree, subst, sym, table-of, valid-none, wordOf, ℕ}
+use Rattle.delkuthi.proofs.Names.{Accepted, Call, Constraint, Left, List, NumbersStampsUpTo, Option, ReadAnswer, Reads, ReadsRow}
+use Rattle.delkuthi.proofs.Names.{ReadsTableUpTo, RecordingTakenAs, Repeat, RepeatRow, StampedAnswer, Step, Verdict, WordOfVerdict, [], _*_}
+use Rattle.delkuthi.proofs.Names.{_++_, _∙_, _∷_, _≡_, after, ap, arith, asks, both, close, closed-close, map, never, no-row, read-accepted}
+use Rattle.delkuthi.proofs.Names.{reads-open, refl, row, run-once, run-valid, some, stampedNumber, stampedOf, stamps-agree, subst, sym}
+use Rattle.delkuthi.proofs.Names.{table-of, valid-none, wordOf, ℕ}
 
 -- 1 for kept and 2 for broken are 256 and 512
 numbers-agree : (c : Constraint) (steps : List Step) (v : Verdict) → Reads c (steps ++ (close ∷ [])) v
@@ -11,13 +12,14 @@ numbers-agree c steps Verdict.Open (reads-open e o) = both (sym (closed-close st
 numbers-agree c steps Verdict.Kept reading = omega arith
 numbers-agree c steps (Verdict.Broken n) reading = omega arith
 
-pub stamps-as-the-monitor : {newest : ℕ} (table recording : List ℕ) (rows : List Constraint) (m : Monitor) (i k lower upper word number : ℕ)
-    → ReadsTableUpTo newest table (table-of rows) → RecordingTakenAs rows recording ReadAnswer.Accepted m → RepeatRow rows i k lower upper
-    → WordOfVerdict m i word → NumbersStampsUpTo newest table recording i 0 number → number ≡ word * 256
-stamps-as-the-monitor table recording rows m i k lower upper word number read taken there verdict numbers =
-    let steps = taken .0 in let took = taken .2 in
-    let says = verdict .says .means rows (map asks (took .calls)) (took .accepted) (took .made) in
-    of-row (says .2) (subst (λ (left : Left). ReadsRow rows (left .steps) i (says .2)) (run-once rows (says .1 .1) (took .all-taken .1) .1) (says .3))
+-- §12.4
+pub stamps-as-the-monitor : {newest : ℕ} (table recording : List ℕ) (rows : List Constraint) (calls : List Call)
+    (i k lower upper word number : ℕ) → ReadsTableUpTo newest table (table-of rows)
+    → RecordingTakenAs rows recording ReadAnswer.Accepted calls → RepeatRow rows i k lower upper
+    → WordOfVerdict (after rows (map asks calls)) i word → NumbersStampsUpTo newest table recording i 0 number → number ≡ word * 256
+stamps-as-the-monitor table recording rows calls i k lower upper word number read taken there verdict numbers =
+    let says = verdict .says .means rows (map asks calls) (_, read-accepted table rows read) refl in
+    of-row (says .2) (subst (λ (left : Left). ReadsRow rows (left .steps) i (says .2)) (run-once rows (says .1 .1) (taken .2 .1) .1) (says .3))
     (says .4)
   where
     of-row : (o : Option Verdict) → ReadsRow rows (taken .0 ++ (close ∷ [])) i o → word ≡ wordOf o → number ≡ word * 256
@@ -25,7 +27,7 @@ stamps-as-the-monitor table recording rows m i k lower upper word number read ta
         let same : c ≡ Repeat k 1 lower upper = cc in
         let reading : Reads (Repeat k 1 lower upper) (taken .0 ++ (close ∷ [])) v =
         subst (λ (x : Constraint). Reads x (taken .0 ++ (close ∷ [])) v) same r in
-        let closes = run-valid (taken .2 .all-taken .1) valid-none in
+        let closes = run-valid (taken .2 .1) valid-none in
         let agrees = stamps-agree table recording rows (taken .0) i k lower upper v (numbers .answer) read (taken .1) closes there reading
         (numbers .answers) in
         numbers .equals ∙ ap stampedNumber agrees ∙ numbers-agree (Repeat k 1 lower upper) (taken .0) v reading ∙ ap (λ (x : ℕ). x * 256) (sym w)

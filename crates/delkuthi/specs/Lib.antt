@@ -1,4 +1,5 @@
 -- What the parts of the report and the calls from C promise.
+pub mod Host
 pub mod Taking
 pub mod Reporting
 pub mod Summary
@@ -8,5 +9,4 @@ pub mod Tables
 pub mod Printed
 pub mod Stamps
 pub mod Joining
-pub mod LentExact
 pub mod Program

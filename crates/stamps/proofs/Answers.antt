@@ -1,8 +1,8 @@
 -- The answer is put together in the order of the questions: the table's, the recording's, the row's and that of the range.
-use Rattle.stamps.proofs.Names.{AnswersStampsUpTo, Asked, Constraint, Finds, InRange, KindsSuit, List, Passed, PassesStamps, ReadsTableUpTo}
-use Rattle.stamps.proofs.Names.{Refused, Repeat, RepeatRow, RowAsked, Sound, StampedAnswer, Table, [], _<_, _∷_, _≡_, _≤_, accepted-few}
+use Rattle.stamps.proofs.Names.{AnswersStampsUpTo, LateRow, Constraint, Finds, InRange, KindsSuit, List, Passed, PassesStamps, ReadsTableUpTo}
+use Rattle.stamps.proofs.Names.{Refused, Repeat, RepeatRow, FoundRow, RowIs, Sound, StampedAnswer, [], _<_, _∷_, _≡_, _≤_}
 use Rattle.stamps.proofs.Names.{accepted-sound, arith, firstColoured, getElem?, judged-no, judged-yes, lastTime, length, never, no-recording}
-use Rattle.stamps.proofs.Names.{not-asked, read-accepted, reads, some, sound-at, suc, table-of, tableOf, zero, ℕ}
+use Rattle.stamps.proofs.Names.{not-asked, read-accepted, reads, some, sound-at, suc, table-of, zero, ℕ}
 
 -- a row that is there has a number below theirs
 pub within : (rows : List Constraint) (i : ℕ) (c : Constraint) → getElem? rows i ≡ some c → i < length rows
@@ -19,25 +19,22 @@ unfolding KindsSuit
 event-plain k lower upper sound = sound .kinds-suit .0
 
 -- the row's fields and the range
-abbrev askedOf : RowAsked → ℕ → Asked
+abbrev askedOf : FoundRow → ℕ → LateRow
 askedOf found late = record { event = found .event; lower = found .lower; upper = found .upper; late = late }
 
 module _ {newest : ℕ} (bytes recording : List ℕ) (i late : ℕ) (rows : List Constraint) (read : ReadsTableUpTo newest bytes (table-of rows))
-    (table : Table) (holds : table ≡ tableOf rows)
-    (found : RowAsked) (finds : Finds table i found) (passed : Passed) (passes : PassesStamps recording (askedOf found late) passed) where
-  few : length rows ≤ 32
-  few = accepted-few rows (_, read-accepted bytes rows read)
-
+    (count : ℕ) (c : Constraint) (is : RowIs count i c rows) (found : FoundRow) (finds : Finds count i c found) (passed : Passed) (passes :
+    PassesStamps recording (askedOf found late) passed) where
   pub answer-recording : 0 < passed .number → AnswersStampsUpTo newest bytes recording i late (StampedAnswer.Refused (passed .number) (passed .place))
   answer-recording h = no-recording rows (passed .number) (passed .place) read (passes .refused h)
 
   module _ (taken : passed .number ≡ 0) where
     pub answer-row : 0 < found .number → AnswersStampsUpTo newest bytes recording i late (StampedAnswer.Refused (found .number) 0)
-    answer-row h = let steps = passes .taken taken in not-asked rows (steps .0) (found .number) read (steps .1) (finds .refused h rows holds few late)
+    answer-row h = let steps = passes .taken taken in not-asked rows (steps .0) (found .number) read (steps .1) (finds .refused h rows is late)
 
     module _ (there : found .number ≡ 0) where
       row : RepeatRow rows i (found .event) (found .lower) (found .upper)
-      row = finds .found there rows holds few
+      row = finds .found there rows is
 
       pub answer-range : lastTime < late → AnswersStampsUpTo newest bytes recording i late (StampedAnswer.Refused 10 0)
       answer-range h =

@@ -1,15 +1,16 @@
 -- The numbers of the starts say which stretches break the row, so the first that is as long as its start needs is the first that breaks it;
 -- and the answer is put together in the order of the questions.
 use Rattle.constraint.proofs.Judged.{judged-no, judged-none, judged-yes}
-use Rattle.constraint.proofs.Library.{Bool, List, [], _<_, _∷_, _≡_, _≤_, ap, arith, false, getD, getElem?, inl, le-leb, leb, leb-false, leb-true}
+use Rattle.constraint.proofs.Library.{Bool, List, [], _<_, _∷_, _≡_, _≤_, ap, arith, false, getElem?, inl, le-leb, leb, leb-false, leb-true}
 use Rattle.constraint.proofs.Library.{length, length-drop, lt-leb, min, refl, some, subst, sym, true, ℕ}
-use Rattle.constraint.proofs.{Accepted.alone-accepted, Records.record-count, Records.row-there}
+use Rattle.constraint.proofs.Accepted.{alone-accepted}
 use Rattle.constraint.specs.Stretches.{AnswersRow, Breaking, FirstAt, Some, Stretch, found, no-stretch, stretchOf, stretchQuestions, stretches}
-use Rattle.constraint.specs.{Accepted.Accepted, Questions.Judged, Recording.ReadsInOrder, Recording.recording-of, Records.Decides, Records.tableOf}
+use Rattle.constraint.specs.{Accepted.Accepted, Questions.Judged, Recording.ReadsInOrder, Recording.recording-of, Records.Decides}
 use Rattle.constraint.specs.{Steps.Step, Steps.at, declared.Answer.Answer, declared.Answer.the-variants.Refused, declared.Answer.the-variants.Taken}
-use Rattle.constraint.specs.{declared.Constraint.Constraint, declared.Entry.Entry, declared.StretchAnswer.StretchAnswer, declared.Table.Table}
+use Rattle.constraint.specs.{declared.Constraint.Constraint, declared.StretchAnswer.StretchAnswer}
+use Rattle.table.specs.Scan.{RowIs}
 use Rattle.stretch.proofs.{Places.Inside, Places.first-as, Places.some-as, Places.some-right, Places.stretches-inside, Taking.recording-taken}
-use Rattle.stretch.specs.Machine.{Asks, Enough, Kept, NeedsFrom, RunOf, Searches, Tries, TriesAll}
+use Rattle.stretch.specs.Machine.{AsksRow, Enough, Kept, NeedsFrom, RunOf, Searches, Tries, TriesAll}
 use Rattle.stretch.specs.declared.Found.{Found}
 
 -- ---- one row
@@ -43,12 +44,14 @@ module _ (c : Constraint) (streams times : List ℕ) (count : ℕ) (need : List 
     as-steps : stretches count ≡ stretches (length steps)
     as-steps = ap stretches (sym (run .counted))
 
+    -- §14.4
     pub tries-first : 0 < r .tried → FirstAt (Breaking c steps) (stretches (length steps)) (stretchOf (r .first) (r .size)) (r .tried)
     tries-first h =
         first-as (Enough need) (Breaking c steps) (Inside (length steps)) breaking enough
         (stretches (length steps)) (stretches-inside (length steps)) _ _
         (subst (λ (l : List Stretch). FirstAt (Enough need) l (stretchOf (r .first) (r .size)) (r .tried)) as-steps (searches .first-is h))
 
+    -- §8.23
     pub tries-none : r .tried ≡ 0 → ¬ Some (Breaking c steps) (stretches (length steps))
     tries-none e one =
         searches .none e
@@ -62,24 +65,20 @@ module _ (c : Constraint) (streams times : List ℕ) (count : ℕ) (need : List 
 some-first : (P : Stretch → Type 0) (list : List Stretch) (s : Stretch) (place : ℕ) → FirstAt P list s place → Some P list
 some-first P list s place f = subst (Some P) (sym (f .in-order)) (some-right P (f .before) (s ∷ f .later) (inl (f .has)))
 
-module _ (table : Table) (i : ℕ) (streams times : List ℕ) (count : ℕ) (few : count ≤ 256) where
-  pub asks-none : ((rows : List Constraint) → table ≡ tableOf rows → Accepted rows → length rows ≤ i)
-      → Asks table i streams times count (StretchAnswer.Refused 15 0)
-  asks-none past rows steps e accepted run =
+module _ (rowCount i : ℕ) (c : Constraint) (streams times : List ℕ) (count : ℕ) (few : count ≤ 256) where
+  pub asks-none : rowCount ≤ i → AsksRow rowCount i c streams times count (StretchAnswer.Refused 15 0)
+  asks-none past rows steps row accepted run =
       no-stretch 15 (judged-yes 22 _ _ (Refused 15) (omega (arith, run .counted, few))
-      (judged-no 15 _ _ (λ h. omega (arith, h, past rows e accepted))))
+      (judged-no 15 _ _ (λ h. omega (arith, h, row .counted, past))))
 
-  module _ (d : Entry) (there : i < table .count) where
-    abbrev c : Constraint
-    c = getD (table .rows) i d .constraint
-
-    module _ (rows : List Constraint) (steps : List Step) (e : table ≡ tableOf rows) (accepted : Accepted rows)
+  module _ (there : i < rowCount) where
+    module _ (rows : List Constraint) (steps : List Step) (row : RowIs rowCount i c rows) (accepted : Accepted rows)
         (run : RunOf steps streams times count) where
       within : i < length rows
-      within = omega (arith, record-count table rows e, there)
+      within = omega (arith, row .counted, there)
 
       is : getElem? rows i ≡ some c
-      is = row-there table rows i d e within
+      is = row .is within
 
       alone : Accepted (c ∷ [])
       alone = (accepted .0, alone-accepted (accepted .0) rows (accepted .1) i c is)
@@ -109,8 +108,9 @@ module _ (table : Table) (i : ℕ) (streams times : List ℕ) (count : ℕ) (few
               let same : d ≡ c = cc in
               subst (λ (x : Constraint). Some (Breaking x steps) (stretches (length steps))) same one
 
-    pub asks-row : (answer : StretchAnswer) → TriesAll c streams times count answer → Asks table i streams times count answer
-    asks-row answer tries rows steps e accepted run = by-answer rows steps e accepted run answer (tries steps run (alone rows steps e accepted run))
+    pub asks-row : (answer : StretchAnswer) → TriesAll c streams times count answer → AsksRow rowCount i c streams times count answer
+    asks-row answer tries rows steps row accepted run =
+        by-answer rows steps row accepted run answer (tries steps run (alone rows steps row accepted run))
 
 -- ---- a recording
 

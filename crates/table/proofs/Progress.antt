@@ -1,7 +1,7 @@
 -- Rows are read one after the other: what reading gives from a place on, behind the rows read before it, is what it gives from the start.
-use Rattle.table.proofs.Names.{Constraint, List, ReadsAt, ReadsRows, RowRead, Table, TableRead, [], _++_, _<_, _∙_, _∷_, _≡_, _≤_, ap, arith}
-use Rattle.table.proofs.Names.{length, length-append, no-more, record-count, record-more, record-rows, refl, row-refused, row-taken, rowThen}
-use Rattle.table.proofs.Names.{rowsOf, subst, subst₂, sym, table-of, table-refused, tableOf, withOneMore, ℕ}
+use Rattle.table.proofs.Names.{Constraint, List, ReadsAt, ReadsRows, RowRead, Table, TableRead, [], _++_, _<_, _∷_, _≡_, _≤_, ap, arith}
+use Rattle.table.proofs.Names.{length, length-append, no-more, refl, row-refused, row-taken, rowThen, rows-length}
+use Rattle.table.proofs.Names.{rowsOf, subst, subst₂, sym, table-of, table-refused, ℕ}
 use Rattle.table.proofs.Places.{place-taken}
 
 -- what is read behind some rows
@@ -57,34 +57,24 @@ pub rows-end : (edition : ℕ) (bytes : List ℕ) (rows : List Constraint) (plac
     → ReadsRows edition bytes 0 1 (table-of rows)
 rows-end edition bytes rows place before end = subst (ReadsRows edition bytes 0 1) (then-end rows) (before .whole (table-of []) (no-more end))
 
--- the table holds the rows before a place
-pub record ReadUpTo (edition : ℕ) (bytes : List ℕ) (table : Table) (place : ℕ) : Type 0 where
-  pub rows : List Constraint
-  pub holds : table ≡ tableOf rows
-  pub before : RowsUpTo edition bytes rows place
+-- the rows of the table stand before a place
+abbrev pub ReadUpTo : ℕ → List ℕ → Table → ℕ → Type 0
+ReadUpTo edition bytes table place = RowsUpTo edition bytes (rowsOf table) place
 
-pub up-to-start : (edition : ℕ) (bytes : List ℕ) (table : Table) → 0 < length bytes → table ≡ tableOf [] → ReadUpTo edition bytes table 1
-up-to-start edition bytes table there none = record { rows = []; holds = none; before = rows-start edition bytes there }
+pub up-to-start : (edition : ℕ) (bytes : List ℕ) (table : Table) → 0 < length bytes → rowsOf table ≡ [] → ReadUpTo edition bytes table 1
+up-to-start edition bytes table there none = rw none (rows-start edition bytes there)
 
-pub up-to-more : (edition : ℕ) (bytes : List ℕ) (table : Table) (place next : ℕ) (c : Constraint) → ReadUpTo edition bytes table place
+pub up-to-more : (edition : ℕ) (bytes : List ℕ) (table more : Table) (place next : ℕ) (c : Constraint) → ReadUpTo edition bytes table place
     → place < length bytes
-    → ReadsAt edition bytes (table .count) place (RowRead.Row c next) → ReadUpTo edition bytes (withOneMore table c) next
-up-to-more edition bytes table place next c up-to there read =
-    let taken = place-taken edition bytes (table .count) place c (read .1) in
-    let counted = record-count table (up-to .rows) (up-to .holds) in
-    record {
-      rows = up-to .rows ++ (c ∷ []);
-      holds = ap (λ (t : Table). withOneMore t c) (up-to .holds) ∙ record-more (up-to .rows) c (omega arith);
-      before = rows-more edition bytes (up-to .rows) (table .count) place next c counted (up-to .before) there read;
-    }
+    → ReadsAt edition bytes (table .count) place (RowRead.Row c next) → rowsOf more ≡ rowsOf table ++ (c ∷ []) → ReadUpTo edition bytes more next
+up-to-more edition bytes table more place next c up-to there read added =
+    rw added (rows-more edition bytes (rowsOf table) (table .count) place next c (sym (rows-length table)) up-to there read)
 
 pub up-to-refused : (edition : ℕ) (bytes : List ℕ) (table : Table) (place n : ℕ) → ReadUpTo edition bytes table place → place < length bytes
     → ReadsAt edition bytes (table .count) place (RowRead.Refused n) → ReadsRows edition bytes 0 1 (table-refused n place)
 up-to-refused edition bytes table place n up-to there read =
-    rows-refused edition bytes (up-to .rows) (table .count) place n (record-count table (up-to .rows) (up-to .holds)) (up-to .before) there read
+    rows-refused edition bytes (rowsOf table) (table .count) place n (sym (rows-length table)) up-to there read
 
 pub up-to-end : (edition : ℕ) (bytes : List ℕ) (table : Table) (place : ℕ) → ReadUpTo edition bytes table place → length bytes ≤ place
-    → ReadsRows edition bytes 0 1 (table-of (rowsOf table)) × (table ≡ tableOf (rowsOf table))
-up-to-end edition bytes table place up-to end =
-    let rows : rowsOf table ≡ up-to .rows = ap rowsOf (up-to .holds) ∙ record-rows (up-to .rows) in
-    (rw rows (rows-end edition bytes (up-to .rows) place (up-to .before) end), up-to .holds ∙ ap tableOf (sym rows))
+    → ReadsRows edition bytes 0 1 (table-of (rowsOf table))
+up-to-end edition bytes table place up-to end = rows-end edition bytes (rowsOf table) place up-to end

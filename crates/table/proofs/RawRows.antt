@@ -1,14 +1,15 @@
 -- A row's first bytes, as many as its type has, are a body of fitting shape, so they stand for the row that is read from them; and where the
 -- next row is a 33rd or of no known type, 3 and 4 are asked after the rows before it.
-use Rattle.table.proofs.Names.{Adds, Answer, Bool, Bytes, Constraint, Decides, Judged, KnownAt, List, List·getD-append, RawRows, RawTable}
-use Rattle.table.proofs.Names.{Refused, RowTaken, ShapeFits, StandsFor, Table, Taken, TypeKnown, WriteAnswer, Writes, WritesRaw, [], _*_, _++_}
-use Rattle.table.proofs.Names.{_+_, _-_, _<_, _∙_, _∷_, _≡_, _≤_, add-sub-cancel-left, add-zero, all-read, ap, ap₂, arith, at, constraintOf}
-use Rattle.table.proofs.Names.{drop, eq-eqb, eqb, eqb-false, eqb-true, filler, getD, getD-append-add, getD-drop, getD-take, judged-first}
-use Rattle.table.proofs.Names.{judged-later, judged-no, judged-yes, last-listed, length, length-append, length-drop, length-plain}
-use Rattle.table.proofs.Names.{length-short, length-take-le, lengthOf, lengths, ltb, ltb-false, ltb-true, rawBody, rawSize, read-back}
-use Rattle.table.proofs.Names.{record-count, record-more, record-rows, refl, rowLimit, rows-then, rowsOf, rowsQuestions, split, stopped-at}
-use Rattle.table.proofs.Names.{subst, sym, tableOf, take, takesCount, true, withOneMore, yes-of, ℕ}
-use Rattle.table.proofs.{Bodies.bytes-part, Shapes.shape-asked, Standing.row-stands}
+use Rattle.table.proofs.Names.{Bool, Bytes, Constraint, Decides, Judged, Known, KnownAt, List, RawRows, Refused, RowTaken, ShapeFits}
+use Rattle.table.proofs.Names.{StandsFor, Taken, TypeKnown, WriteAnswer, Writes, WritesRaw, [], _*_, _++_, _+_, _-_, _<_, _∙_, _∷_, _≡_, _≤_}
+use Rattle.table.proofs.Names.{add-zero, all-read, ap, ap₂, arith, at, bodyLength, constraintOf, drop, eq-eqb, eqb, eqb-false, eqb-true}
+use Rattle.table.proofs.Names.{filler, getD, getD-drop, getD-take, judged-first, judged-later, judged-no, judged-yes, last-listed, length}
+use Rattle.table.proofs.Names.{length-append, length-drop, length-plain, length-short, length-take-le, lengthOf, lengths, ltb, ltb-false}
+use Rattle.table.proofs.Names.{ltb-true}
+use Rattle.table.proofs.Names.{rawBody, rawRows, rawSize, read-back, refl, rowBody, rowBytes, rowLimit, rows-then, rowsBytes, rowsQuestions}
+use Rattle.table.proofs.Names.{sets, split}
+use Rattle.table.proofs.Names.{stopped-at, stores-append, suc, sym, takesCount, true, yes-of, zero, ℕ}
+use Rattle.table.proofs.{Bodies.bytes-part, Bodies.row-length, Shapes.shape-asked, BodyUnique.row-stands, Written.written-refused}
 
 -- The test of a row's type
 
@@ -38,6 +39,10 @@ known-length edition t n known =
       omega (arith, read-back n 0 0 0 0 0 0 0 0 t (known .type-known .0, listed) (known .n-known) .long),
       length-short t n listed (λ has. known .n-known has .1),
     )
+
+-- it is no longer than what a row is given
+pub body-short : (edition : ℕ) (bytes : List ℕ) (i : ℕ) → KnownAt edition bytes i → bodyLength bytes i ≤ rawSize
+body-short edition bytes i known = known-length edition (at bytes (i * rawSize)) (at bytes (i * rawSize + 1)) known .1
 
 module _ (edition : ℕ) (bytes : List ℕ) (i : ℕ) (known : KnownAt edition bytes i) (whole : (i + 1) * rawSize ≤ length bytes) where
   abbrev start : ℕ
@@ -84,79 +89,110 @@ module _ (edition : ℕ) (bytes : List ℕ) (i : ℕ) (known : KnownAt edition b
   pub raw-stands : Bytes bytes → StandsFor (rawBody bytes i) (constraintOf (rawBody bytes i))
   raw-stands each = row-stands (rawBody bytes i) (bytes-part bytes size start each) fits
 
--- The record of the first rows
+  -- so its bytes are those of the row
+  pub raw-bytes : Bytes bytes → rowBody (constraintOf (rawBody bytes i)) ≡ rawBody bytes i
+  raw-bytes each = raw-stands each .bytes
 
-raw-none : (bytes : List ℕ) → RawRows bytes []
-raw-none bytes = record { whole = omega arith; stand = λ i below. absurd (omega arith) }
+  pub raw-length : Bytes bytes → length (rowBody (constraintOf (rawBody bytes i))) ≡ size
+  raw-length each = ap length (raw-bytes each) ∙ body-length
 
-pub table-none : (bytes : List ℕ) (table : Table) → table ≡ tableOf [] → RawTable bytes 0 table
-table-none bytes table empty = record { rows = []; raw = raw-none bytes; counted = refl; holds = empty }
+-- The rows one after the other
 
-rows-more : (bytes : List ℕ) (rows : List Constraint) (c : Constraint) → RawRows bytes rows → (length rows + 1) * rawSize ≤ length bytes
-    → StandsFor (rawBody bytes (length rows)) c → RawRows bytes (rows ++ (c ∷ []))
-rows-more bytes rows c raw whole stands =
-    let long = length-append rows (c ∷ []) in
+-- the first of the rows that are left
+pub rows-left : (bytes : List ℕ) (i n : ℕ) → i < n → rawRows bytes i (n - i) ≡ constraintOf (rawBody bytes i) ∷ rawRows bytes (i + 1) (n - (i + 1))
+unfolding rawRows
+rows-left bytes i n less = let more : n - i ≡ suc (n - (i + 1)) = omega arith in ap (rawRows bytes i) more
+
+pub rows-all : (bytes : List ℕ) (n : ℕ) → rawRows bytes 0 (n - 0) ≡ rawRows bytes 0 n
+rows-all bytes n = let all : n - 0 ≡ n = omega arith in ap (rawRows bytes 0) all
+
+pub rows-end : (bytes : List ℕ) (i n : ℕ) → n ≤ i → rawRows bytes i (n - i) ≡ []
+unfolding rawRows
+rows-end bytes i n past = let none : n - i ≡ 0 = omega arith in ap (rawRows bytes i) none
+
+rows-counted : (bytes : List ℕ) (i n : ℕ) → length (rawRows bytes i n) ≡ n
+unfolding rawRows
+rows-counted bytes i zero = refl
+rows-counted bytes i (suc n) = ap suc (rows-counted bytes (i + 1) n)
+
+row-here : (bytes : List ℕ) (i n j : ℕ) → j < n → getD (rawRows bytes i n) j filler ≡ constraintOf (rawBody bytes (i + j))
+unfolding rawRows
+row-here bytes i zero j less = absurd (omega arith)
+row-here bytes i (suc n) zero less = rw add-zero
+row-here bytes i (suc n) (suc j) less =
+    row-here bytes (i + 1) n j (omega arith) ∙ ap (λ (k : ℕ). constraintOf (rawBody bytes k)) (omega arith)
+
+pub raw-rows : (edition : ℕ) (bytes : List ℕ) (n : ℕ) → Bytes bytes → Known edition bytes n → RawRows bytes (rawRows bytes 0 n)
+raw-rows edition bytes n each known =
+    let counted = rows-counted bytes 0 n in
     record {
-      whole = omega (arith, long);
-      stand = λ i below. split (ltb i (length rows)) (λ b. StandsFor (rawBody bytes i) (getD (rows ++ (c ∷ [])) i filler))
-          (λ e. let less = ltb-true i (length rows) e in rw (List·getD-append rows (c ∷ []) filler i less) (raw .stand i less))
-          (λ e. let last : i ≡ length rows + 0 = omega (arith, ltb-false i (length rows) e) in
-          rw (last, getD-append-add rows (c ∷ []) 0 filler, add-zero (length rows)) stands);
+      whole = omega (arith, counted, known .whole);
+      stand = λ i below.
+          let less : i < n = omega (arith, below, counted) in
+          let here : getD (rawRows bytes 0 n) i filler ≡ constraintOf (rawBody bytes i) =
+          row-here bytes 0 n i less ∙ ap (λ (k : ℕ). constraintOf (rawBody bytes k)) (omega arith) in
+          rw here (raw-stands edition bytes i (known .known i less) (omega (arith, known .whole)) each);
     }
 
--- one row more
-pub table-more : (edition : ℕ) (bytes : List ℕ) (i start t n : ℕ) (table next : Table) (row : Constraint) → Bytes bytes → i < rowLimit
-    → KnownAt edition bytes i → (i + 1) * rawSize ≤ length bytes → start ≡ i * rawSize → t ≡ at bytes start → n ≡ at bytes (start + 1)
-    → row ≡ constraintOf (take (start + lengthOf t n - start) (drop start bytes)) → Adds table row next → RawTable bytes i table
-    → RawTable bytes (i + 1) next
-table-more edition bytes i start t n table next row each room known whole there first second read adds held =
-    record {
-      rows = held .rows ++ (row ∷ []);
-      raw = rows-more bytes (held .rows) row (held .raw) (rw (held .counted) whole)
-          (rw (held .counted, same) (raw-stands edition bytes i known whole each));
-      counted = length-append (held .rows) (row ∷ []) ∙ ap (λ (k : ℕ). k + 1) (held .counted);
-      holds =
-          adds .room (omega (arith, record-count table (held .rows) (held .holds), held .counted))
-          ∙ ap (λ (x : Table). withOneMore x row) (held .holds)
-          ∙ record-more (held .rows) row (omega (arith, held .counted));
-    }
-  where
-    same : row ≡ constraintOf (rawBody bytes i)
-    same = read ∙ rw (add-sub-cancel-left, first, second, there)
+-- the bytes of the rows that are left: those of the first, and the others
+module _ (edition : ℕ) (bytes : List ℕ) (i n : ℕ) (each : Bytes bytes) (known : Known edition bytes n) (less : i < n) where
+  left-bytes : rowsBytes (rawRows bytes i (n - i)) ≡ rowBytes (constraintOf (rawBody bytes i)) ++ rowsBytes (rawRows bytes (i + 1) (n - (i + 1)))
+  unfolding rowsBytes
+  left-bytes = ap rowsBytes (rows-left bytes i n less)
+
+  long : length (rowBytes (constraintOf (rawBody bytes i))) ≡ 2 + bodyLength bytes i
+  long = row-length _ ∙ ap (λ (k : ℕ). 2 + k) (raw-length edition bytes i (known .known i less) (omega (arith, known .whole)) each)
+
+  pub left-size : length (rowsBytes (rawRows bytes i (n - i)))
+      ≡ 2 + bodyLength bytes i + length (rowsBytes (rawRows bytes (i + 1) (n - (i + 1))))
+  left-size = ap length left-bytes ∙ length-append (rowBytes (constraintOf (rawBody bytes i))) _ ∙ omega (arith, long)
+
+  pub left-stored : (buffer : List ℕ) (place : ℕ) → sets buffer place (rowsBytes (rawRows bytes i (n - i)))
+      ≡ sets (sets buffer place (rowBytes (constraintOf (rawBody bytes i)))) (place + 2 + bodyLength bytes i)
+      (rowsBytes (rawRows bytes (i + 1) (n - (i + 1))))
+  left-stored buffer place =
+      ap (sets buffer place) left-bytes
+      ∙ stores-append buffer place (rowBytes (constraintOf (rawBody bytes i))) _
+      ∙ ap (λ (k : ℕ). sets (sets buffer place (rowBytes (constraintOf (rawBody bytes i)))) k
+      (rowsBytes (rawRows bytes (i + 1) (n - (i + 1))))) (omega (arith, long))
 
 -- The answer
 
+-- a row is refused: the questions of the rows end there, whether more rows stand behind the known ones or not
+pub known-refused : (edition : ℕ) (bytes before : List ℕ) (n number : ℕ) → Bytes bytes → Known edition bytes n
+    → Judged (rowsQuestions edition 0 (rawRows bytes 0 n) []) (Refused number) → WritesRaw edition bytes before (WriteAnswer.Refused number) before
+known-refused edition bytes before n number each known judged =
+    let rows = rawRows bytes 0 n in let raw = raw-rows edition bytes n each known in let counted = rows-counted bytes 0 n in
+    split (ltb (length bytes) ((n + 1) * rawSize)) (λ _. WritesRaw edition bytes before (WriteAnswer.Refused number) before)
+    (λ e. all-read rows raw (rw counted (ltb-true (length bytes) ((n + 1) * rawSize) e)) (written-refused edition rows before number judged))
+    (λ e. stopped-at rows number raw (rw counted (ltb-false (length bytes) ((n + 1) * rawSize) e))
+    (rw (rows-then edition) (judged-first (rowsQuestions edition 0 rows []) _ number judged)))
+
 -- all the rows are known
-pub all-written : (edition : ℕ) (bytes before after : List ℕ) (n : ℕ) (table : Table) (r : WriteAnswer) → RawTable bytes n table
-    → length bytes < (n + 1) * rawSize → Writes edition (rowsOf table) before r after → WritesRaw edition bytes before r after
-all-written edition bytes before after n table r held past writes =
-    all-read (held .rows) (held .raw) (rw (held .counted) past)
-    (subst (λ (rows : List Constraint). Writes edition rows before r after) (ap rowsOf (held .holds) ∙ record-rows (held .rows)) writes)
+pub all-written : (edition : ℕ) (bytes before after : List ℕ) (n : ℕ) (r : WriteAnswer) → Bytes bytes → Known edition bytes n
+    → length bytes < (n + 1) * rawSize → Writes edition (rawRows bytes 0 n) before r after → WritesRaw edition bytes before r after
+all-written edition bytes before after n r each known past writes =
+    all-read (rawRows bytes 0 n) (raw-rows edition bytes n each known) (rw (rows-counted bytes 0 n) past) writes
 
-module _ (edition : ℕ) (bytes before : List ℕ) (n : ℕ) (table : Table) (held : RawTable bytes n table)
+module _ (edition : ℕ) (bytes before : List ℕ) (n : ℕ) (each : Bytes bytes) (known : Known edition bytes n)
     (more : (n + 1) * rawSize ≤ length bytes) where
-  asked : (a : Answer) → Judged (rowsQuestions edition 0 (rowsOf table) []) a → Judged (rowsQuestions edition 0 (held .rows) []) a
-  asked a judged =
-      subst (λ (rows : List Constraint). Judged (rowsQuestions edition 0 rows []) a) (ap rowsOf (held .holds) ∙ record-rows (held .rows)) judged
+  abbrev rows : List Constraint
+  rows = rawRows bytes 0 n
 
-  -- a row before the one that stops is refused
-  pub before-refused : (number : ℕ) → Judged (rowsQuestions edition 0 (rowsOf table) []) (Refused number)
-      → WritesRaw edition bytes before (WriteAnswer.Refused number) before
-  before-refused number judged =
-      stopped-at (held .rows) number (held .raw) (rw (held .counted) more)
-      (rw (rows-then edition) (judged-first (rowsQuestions edition 0 (held .rows) []) _ number (asked (Refused number) judged)))
+  counted : length rows ≡ n
+  counted = rows-counted bytes 0 n
 
   -- the rows before it are taken
-  pub unknown-refused : n < rowLimit → ¬ KnownAt edition bytes n → Judged (rowsQuestions edition 0 (rowsOf table) []) Taken
+  pub unknown-refused : n < rowLimit → ¬ KnownAt edition bytes n → Judged (rowsQuestions edition 0 rows []) Taken
       → WritesRaw edition bytes before (WriteAnswer.Refused 4) before
   unknown-refused room not-known judged =
-      stopped-at (held .rows) 4 (held .raw) (rw (held .counted) more)
-      (rw (rows-then edition) (judged-later (rowsQuestions edition 0 (held .rows) []) _ (Refused 4) (asked Taken judged)
-      (judged-yes 3 _ _ (Refused 4) (omega (arith, held .counted)) (judged-no 4 _ [] (rw (held .counted) not-known)))))
+      stopped-at rows 4 (raw-rows edition bytes n each known) (rw counted more)
+      (rw (rows-then edition) (judged-later (rowsQuestions edition 0 rows []) _ (Refused 4) judged
+      (judged-yes 3 _ _ (Refused 4) (omega (arith, counted)) (judged-no 4 _ [] (rw counted not-known)))))
 
-  pub full-refused : rowLimit ≤ n → Judged (rowsQuestions edition 0 (rowsOf table) []) Taken
+  pub full-refused : rowLimit ≤ n → Judged (rowsQuestions edition 0 rows []) Taken
       → WritesRaw edition bytes before (WriteAnswer.Refused 3) before
   full-refused full judged =
-      stopped-at (held .rows) 3 (held .raw) (rw (held .counted) more)
-      (rw (rows-then edition) (judged-later (rowsQuestions edition 0 (held .rows) []) _ (Refused 3) (asked Taken judged)
-      (judged-no 3 _ _ (λ less. omega (arith, held .counted)))))
+      stopped-at rows 3 (raw-rows edition bytes n each known) (rw counted more)
+      (rw (rows-then edition) (judged-later (rowsQuestions edition 0 rows []) _ (Refused 3) judged
+      (judged-no 3 _ _ (λ less. omega (arith, counted)))))

@@ -1,10 +1,11 @@
 -- A table is read again row by row: a body stands for one row only, so the row at each place is the one that was read there.
 use Rattle.table.proofs.Names.{Constraint, Counted, List, Placed, PlacedAt, ReadAnswer, ReadsAt, ReadsRows, ReadsTableUpTo, RowRead, Says}
-use Rattle.table.proofs.Names.{TableRead, VersionUpTo, [], _++_, _+_, _<_, _∙_, _∷_, _≡_, _≤_, add-one, arith, at, bodyAt, drop, drop-cons}
-use Rattle.table.proofs.Names.{getD, length, length-append, never, no-more, refl, row-refused, row-taken, rowLimit, subst, subst₂, sym}
-use Rattle.table.proofs.Names.{table-of, table-refused, version-taken, ℕ}
+use Rattle.table.proofs.Names.{TableRead, VersionUpTo, [], _++_, _+_, _<_, _∙_, _∷_, _≡_, _≤_, add-one, ap, arith, at, bodyAt, drop, drop-cons}
+use Rattle.table.proofs.Names.{getD, getElem?, length, length-append, never, no-more, refl, row-refused, row-taken, rowLimit, subst, subst₂}
+use Rattle.table.proofs.Names.{suc, sym}
+use Rattle.table.proofs.Names.{some, table-of, table-refused, version-taken, zero, ℕ}
 use Rattle.table.proofs.Progress.{RowsUpTo, rows-end, rows-more, rows-refused, rows-start}
-use Rattle.table.proofs.{AcceptedRows.rows-accepted, Places.place-taken, Standing.stands-once}
+use Rattle.table.proofs.{AcceptedRows.rows-accepted, ReadUnique.reads-once, Places.place-taken, BodyUnique.stands-once}
 
 -- Judging
 
@@ -96,3 +97,17 @@ pub scan-step : {edition : ℕ} (bytes : List ℕ) (rows : List Constraint) (i p
 scan-step {edition} bytes rows i place none r there reads placed =
     scan-row bytes (getD rows i none) (drop (i + 1) rows) r
     (subst (λ (list : List Constraint). ReadsRows edition bytes i place (table-of list)) (rw add-one (drop-cons rows i none there)) reads) placed
+
+-- the row of a number below theirs is there
+pub row-there : (rows : List Constraint) (i : ℕ) (none : Constraint) → i < length rows → getElem? rows i ≡ some (getD rows i none)
+row-there [] i none there = absurd (omega arith)
+row-there (c ∷ rows) zero none there = refl
+row-there (c ∷ rows) (suc i) none there = row-there rows i none (omega arith)
+
+-- the count is that of the rows of a table that is read
+pub scan-count : {newest : ℕ} (bytes : List ℕ) (rows : List Constraint) (a : ReadAnswer) (count : ℕ)
+    → Says (at bytes 0) (ReadsTableUpTo newest bytes) a count → ReadsTableUpTo newest bytes (table-of rows) → count ≡ length rows
+scan-count bytes rows ReadAnswer.Accepted count said reads =
+    let same : said .rows ≡ rows = let once = reads-once bytes (said .reads) reads in cc in
+    said .counted ∙ ap length same
+scan-count bytes rows (ReadAnswer.Refused n place) count said reads = let once = reads-once bytes (said .0) reads in never (cc)

@@ -1,20 +1,20 @@
 -- Rows given as raw bytes, 34 for each, and what writing them promises.
-use Prim.Native.Nat.{ℕ, _+_, _*_, _≤_, _<_}
+use Prim.Native.Nat.{ℕ, zero, suc, _+_, _*_, _≤_, _<_}
 use mathlib.Core.Path.{_≡_}
 use mathlib.Core.Bool.{true}
 use mathlib.Core.List.{List, [], _∷_}
 use lib.ListN.{length, getD}
+use lib.Seq.{sets}
 use Rattle.constraint.specs.Limits.{rowLimit}
 use Rattle.constraint.specs.Steps.{at}
 use Rattle.constraint.specs.Bytes.{bytesAt}
 use Rattle.constraint.specs.Questions.{Judged}
 use Rattle.constraint.specs.Types.{lastType, takesCount, lengthOf}
 use Rattle.constraint.specs.Accepted.{rowQuestions, rowsQuestions}
-use Rattle.constraint.specs.Records.{filler, tableOf}
-use Rattle.constraint.specs.Table.{StandsFor}
+use Rattle.constraint.specs.Records.{filler}
+use Rattle.constraint.specs.Table.{StandsFor, rowBytes}
 use Rattle.constraint.specs.declared.Answer.the-variants.{Taken, Refused}
 use Rattle.constraint.specs.declared.Constraint.{Constraint}
-use Rattle.constraint.specs.declared.Table.{Table}
 use Rattle.table.specs.Rows.{constraintOf}
 use Rattle.table.specs.Writing.{Writes}
 use Rattle.table.specs.declared.WriteAnswer.{WriteAnswer}
@@ -23,11 +23,20 @@ use Rattle.table.specs.declared.WriteAnswer.{WriteAnswer}
 abbrev pub rawSize : ℕ
 rawSize = 34
 
--- the body of row i: as many of its bytes as its type has
-abbrev pub rawBody : List ℕ → ℕ → List ℕ
-rawBody bytes i = bytesAt (lengthOf (at bytes (i * rawSize)) (at bytes (i * rawSize + 1))) bytes (i * rawSize)
+-- how many bytes the body of row i has: as many as its type says
+abbrev pub bodyLength : List ℕ → ℕ → ℕ
+bodyLength bytes i = lengthOf (at bytes (i * rawSize)) (at bytes (i * rawSize + 1))
 
--- the bytes begin with these rows, each the one that its body stands for
+-- the body of row i
+abbrev pub rawBody : List ℕ → ℕ → List ℕ
+rawBody bytes i = bytesAt (bodyLength bytes i) bytes (i * rawSize)
+
+-- the n rows from row i on, each the one that its body is read as
+unfoldable pub rawRows : List ℕ → ℕ → ℕ → List Constraint
+rawRows bytes i zero = []
+rawRows bytes i (suc n) = constraintOf (rawBody bytes i) ∷ rawRows bytes (i + 1) n
+
+-- §4.10: the bytes begin with these rows, each the one that its body stands for
 pub record RawRows (bytes : List ℕ) (rows : List Constraint) : Type 0 where
   pub whole : length rows * rawSize ≤ length bytes
   pub stand : (i : ℕ) → i < length rows → StandsFor (rawBody bytes i) (getD rows i filler)
@@ -40,6 +49,10 @@ pub record TypeKnown (edition t n : ℕ) : Type 0 where
 abbrev pub KnownAt : ℕ → List ℕ → ℕ → Type 0
 KnownAt edition bytes i = TypeKnown edition (at bytes (i * rawSize)) (at bytes (i * rawSize + 1))
 
+-- row i is whole and of a type of the edition
+abbrev pub WholeRow : ℕ → List ℕ → ℕ → Type 0
+WholeRow edition bytes i = KnownAt edition bytes i × ((i + 1) * rawSize ≤ length bytes)
+
 -- the first n rows are whole and of types of the edition, and there is no more such row, or no entry for it
 pub record Known (edition : ℕ) (bytes : List ℕ) (n : ℕ) : Type 0 where
   pub room : n ≤ rowLimit
@@ -51,18 +64,16 @@ pub record Known (edition : ℕ) (bytes : List ℕ) (n : ℕ) : Type 0 where
 abbrev pub RowTaken : ℕ → List ℕ → ℕ → Type 0
 RowTaken edition bytes i = KnownAt edition bytes i × Judged (rowQuestions (constraintOf (rawBody bytes i))) Taken
 
--- the number of the first row that is refused, or of the first that is not whole or has no entry
+-- §11.5: the number of the first row that is refused, or of the first that is not whole or has no entry
 pub record FirstRefused (edition : ℕ) (bytes : List ℕ) (row : ℕ) : Type 0 where
   pub room : row ≤ rowLimit
   pub taken : (i : ℕ) → i < row → RowTaken edition bytes i
   pub refused : row < rowLimit → (row + 1) * rawSize ≤ length bytes → ¬ RowTaken edition bytes row
 
--- the record of the first n rows
-pub record RawTable (bytes : List ℕ) (n : ℕ) (table : Table) : Type 0 where
-  pub rows : List Constraint
-  pub raw : RawRows bytes rows
-  pub counted : length rows ≡ n
-  pub holds : table ≡ tableOf rows
+-- row i is stored in a buffer from a place on, and the next place is the one behind it
+pub record StoresRow (bytes : List ℕ) (i : ℕ) (before : List ℕ) (place next : ℕ) (after : List ℕ) : Type 0 where
+  pub stored : after ≡ sets before place (rowBytes (constraintOf (rawBody bytes i)))
+  pub behind : next ≡ place + 2 + bodyLength bytes i
 
 -- §9.7, §9.8: the writer's promise for the rows of all the whole stretches of 34 bytes; or a refusal, by the questions of some first rows and
 -- then 3 and 4 of the next

@@ -2,7 +2,7 @@
 use Prim.Native.Nat.{ℕ}
 use mathlib.Core.Path.{_≡_}
 use mathlib.Core.List.{List, []}
-use Rattle.constraint.specs.Records.{rowsOf, tableOf}
+use Rattle.constraint.specs.Records.{rowsOf}
 use Rattle.constraint.specs.Table.{TableRead, table-of, table-refused, ReadsTableUpTo}
 use Rattle.constraint.specs.declared.Constraint.{Constraint}
 use Rattle.constraint.specs.declared.Table.{Table}
@@ -25,4 +25,4 @@ rowsRead (table-refused n place) = []
 -- the reader's promise: its answer is what reading the bytes gives, and the table holds the rows that were read, and no row after a refusal
 pub record ReadsInto (newest : ℕ) (bytes : List ℕ) (r : Reading) : Type 0 where
   pub reads : ReadsTableUpTo newest bytes (readOf r)
-  pub holds : r .table ≡ tableOf (rowsRead (readOf r))
+  pub holds : rowsOf (r .table) ≡ rowsRead (readOf r)

@@ -1,8 +1,9 @@
 -- What judging a table's bytes promises, and what reading the row at a place does.
-use Prim.Native.Nat.{ℕ, _+_, _≤_}
+use Prim.Native.Nat.{ℕ, _+_, _≤_, _<_}
 use mathlib.Core.Path.{_≡_}
 use mathlib.Core.List.{List}
-use lib.ListN.{length}
+use lib.ListN.{length, getElem?}
+use mathlib.Core.Option.{some}
 use Rattle.constraint.specs.Limits.{rowLimit}
 use Rattle.constraint.specs.Accepted.{AcceptedIn}
 use Rattle.constraint.specs.Records.{filler}
@@ -13,6 +14,7 @@ use Rattle.table.specs.Rows.{constraintOf}
 use Rattle.table.specs.declared.ReadAnswer.{ReadAnswer}
 use Rattle.table.specs.declared.scan.Scan.{Scan}
 use Rattle.table.specs.declared.scan.Placed.{Placed}
+use Rattle.table.specs.declared.scan.Numbered.{Numbered}
 
 -- some rows of an edition that are read, as many as were counted
 pub record Counted (edition : ℕ) (Reads : TableRead → Type 0) (count : ℕ) : Type 0 where
@@ -31,7 +33,7 @@ Says edition Reads (ReadAnswer.Refused n place) count = Reads (table-refused n p
 abbrev pub CountsRows : ℕ → List ℕ → Scan → Type 0
 CountsRows edition bytes r = Says edition (ReadsRows edition bytes 0 1) (r .answer) (r .rows)
 
--- the promise of judging a table: its answer is what reading the bytes gives, and it counts the rows, and no row after a refusal
+-- §9.3: the promise of judging a table: its answer is what reading the bytes gives, and it counts the rows, and no row after a refusal
 abbrev pub Scans : ℕ → List ℕ → Scan → Type 0
 Scans newest bytes r = Says (at bytes 0) (ReadsTableUpTo newest bytes) (r .answer) (r .rows)
 
@@ -42,3 +44,18 @@ pub record PlacedAt (bytes : List ℕ) (place : ℕ) (r : Placed) : Type 0 where
   pub stands : WholeAt bytes place → (edition : ℕ) → RowAt edition bytes place (r .row)
   pub behind : WholeAt bytes place → r .next ≡ place + 2 + lengthAt bytes place
   pub none : ¬ WholeAt bytes place → (r .row ≡ filler) × (r .next ≡ place)
+
+-- the row behind i others of a table that is read
+abbrev pub RowBehind : List ℕ → ℕ → Constraint → Type 0
+RowBehind bytes i r =
+    (edition : ℕ) (rows : List Constraint) → ReadsRows edition bytes 0 1 (table-of rows) → i < length rows → getElem? rows i ≡ some r
+
+-- there are so many rows, and the one of number i is this, where it is one of them
+pub record RowIs (count i : ℕ) (c : Constraint) (rows : List Constraint) : Type 0 where
+  pub counted : count ≡ length rows
+  pub is : i < length rows → getElem? rows i ≡ some c
+
+-- the promise of finding a row by its number: the table is judged, and the row is the one of that number
+pub record FindsRow (newest : ℕ) (bytes : List ℕ) (i : ℕ) (r : Numbered) : Type 0 where
+  pub scans : Scans newest bytes (r .scan)
+  pub found : (rows : List Constraint) → ReadsTableUpTo newest bytes (table-of rows) → RowIs (r .scan .rows) i (r .row) rows

@@ -3,12 +3,19 @@ use super::WriteAnswer;
 use super::body::row_of;
 use super::body::type_known;
 use constraint::Answer;
-use constraint::Table;
+use constraint::Constraint;
 use constraint::length_of;
 ghost use Prim.Native.Nat.{_+_, _*_, _≤_};
+ghost use mathlib.Core.Path.{_≡_};
+ghost use mathlib.Core.List.{[]};
 ghost use lib.ListN.{length};
+ghost use lib.Seq.{sets};
+ghost use Rattle.constraint.specs.Accepted.{rowsQuestions};
+ghost use Rattle.constraint.specs.Questions.{Judged};
 ghost use Rattle.constraint.specs.Records.{Decides};
-ghost use Rattle.table.specs.Raw.{rawSize, Known, RowTaken, FirstRefused, RawTable, WritesRaw};
+ghost use Rattle.constraint.specs.Table.{rowsBytes};
+ghost use Rattle.table.specs.Rows.{constraintOf};
+ghost use Rattle.table.specs.Raw.{rawSize, bodyLength, rawBody, rawRows, WholeRow, Known, RowTaken, FirstRefused, StoresRow, WritesRaw};
 
 // How many bytes each row is given, which the longest type needs.
 const RAW_SIZE: usize = 34;
@@ -23,10 +30,10 @@ fn known_rows(edition: u8, bytes: &[u8]) -> usize
         if bytes.len() - start < RAW_SIZE {
             return i;
         }
-        let form = number::byte_at(bytes, start);
+        let tag = big_endian::byte_at(bytes, start);
         let next = start + 1;
-        let n = number::byte_at(bytes, next);
-        if !type_known(edition, form, n) {
+        let n = big_endian::byte_at(bytes, next);
+        if !type_known(edition, tag, n) {
             return i;
         }
         start += RAW_SIZE;
@@ -35,25 +42,85 @@ fn known_rows(edition: u8, bytes: &[u8]) -> usize
     i
 }
 
-// The table record of the first rows: each is read from as many of its bytes as its type has.
-fn first_rows(edition: u8, bytes: &[u8], count: usize) -> Table
-    requires { ⌜ Known edition (now bytes) count ⌝ }
-    ensures { λ r. ⌜ RawTable (now (bytes .entry)) count r ⌝ }
+// The place behind the body of row i, which has as many bytes as its type says.
+fn body_end(edition: u8, bytes: &[u8], i: usize) -> usize
+    requires { ⌜ WholeRow edition (now bytes) i ⌝ }
+    ensures { λ r. ⌜ (r ≡ i * rawSize + bodyLength (now (bytes .entry)) i) × (r ≤ length (now (bytes .entry))) ⌝ }
 {
-    let mut table = Table::new();
-    let mut start = 0;
+    let start = i * RAW_SIZE;
+    let tag = big_endian::byte_at(bytes, start);
+    let next = start + 1;
+    let n = big_endian::byte_at(bytes, next);
+    start + length_of(tag, n)
+}
+
+// The row that the body of row i is read as.
+fn row_at(edition: u8, bytes: &[u8], i: usize) -> Constraint
+    requires { ⌜ WholeRow edition (now bytes) i ⌝ }
+    ensures { λ r. ⌜ r ≡ constraintOf (rawBody (now (bytes .entry)) i) ⌝ }
+{
+    let start = i * RAW_SIZE;
+    let end = body_end(edition, bytes, i);
+    row_of(&bytes[start..end])
+}
+
+// The answer to questions 3 to 7 and 18 of the first rows, row by row.
+fn validate_rows(edition: u8, bytes: &[u8], count: usize) -> Answer
+    requires { ⌜ Known edition (now bytes) count ⌝ }
+    ensures { λ r. ⌜ Judged (rowsQuestions edition 0 (rawRows (now (bytes .entry)) 0 count) []) r ⌝ }
+{
     let mut i = 0;
     while i < count {
-        let form = number::byte_at(bytes, start);
-        let next = start + 1;
-        let n = number::byte_at(bytes, next);
-        let end = start + length_of(form, n);
-        let row = row_of(&bytes[start..end]);
-        table = table.with_row(row);
-        start += RAW_SIZE;
+        let row = row_at(edition, bytes, i);
+        match row.validate_in(edition) {
+            Answer::Refused(number) => {
+                return Answer::Refused(number);
+            }
+            Answer::Taken => {}
+        }
         i += 1;
     }
-    table
+    Answer::Taken
+}
+
+// The number of bytes of the table of the first rows.
+fn size_of(edition: u8, bytes: &[u8], count: usize) -> usize
+    requires { ⌜ Known edition (now bytes) count ⌝ }
+    ensures { λ r. ⌜ r ≡ 1 + length (rowsBytes (rawRows (now (bytes .entry)) 0 count)) ⌝ }
+{
+    let mut size = 1;
+    let mut i = 0;
+    while i < count {
+        size += 2 + (body_end(edition, bytes, i) - i * RAW_SIZE);
+        i += 1;
+    }
+    size
+}
+
+// Stores row i in a buffer from a place on, its length and its body: the place behind it.
+fn put_row(edition: u8, buffer: &mut [u8], place: usize, bytes: &[u8], i: usize) -> usize
+    requires { ⌜ WholeRow edition (now bytes) i × (place + 2 + bodyLength (now bytes) i ≤ length (now buffer)) ⌝ }
+    ensures { λ r. ⌜ StoresRow (now (bytes .entry)) i (now (buffer .entry)) place r (now (buffer .exit)) ⌝ }
+{
+    let start = i * RAW_SIZE;
+    let end = body_end(edition, bytes, i);
+    let size = end - start;
+    big_endian::put_two(buffer, place, size);
+    big_endian::put(buffer, place + 2, &bytes[start..end]);
+    place + 2 + size
+}
+
+// Stores the first rows behind the version byte.
+fn put_rows(edition: u8, buffer: &mut [u8], bytes: &[u8], count: usize)
+    requires { ⌜ Known edition (now bytes) count × (1 + length (rowsBytes (rawRows (now bytes) 0 count)) ≤ length (now buffer)) ⌝ }
+    ensures { λ _. ⌜ now (buffer .exit) ≡ sets (now (buffer .entry)) 1 (rowsBytes (rawRows (now (bytes .entry)) 0 count)) ⌝ }
+{
+    let mut place = 1;
+    let mut i = 0;
+    while i < count {
+        place = put_row(edition, buffer, place, bytes, i);
+        i += 1;
+    }
 }
 
 // Whether the row of a number is taken: questions 4 to 7 and 18.
@@ -62,15 +129,14 @@ fn row_taken(edition: u8, bytes: &[u8], i: usize) -> bool
     ensures { λ r. ⌜ Decides (RowTaken edition (now (bytes .entry)) i) r ⌝ }
 {
     let start = i * RAW_SIZE;
-    let form = number::byte_at(bytes, start);
+    let tag = big_endian::byte_at(bytes, start);
     let next = start + 1;
-    let n = number::byte_at(bytes, next);
-    if !type_known(edition, form, n) {
+    let n = big_endian::byte_at(bytes, next);
+    if !type_known(edition, tag, n) {
         return false;
     }
-    let end = start + length_of(form, n);
-    let row = row_of(&bytes[start..end]);
-    match row.judge() {
+    let row = row_at(edition, bytes, i);
+    match row.validate() {
         Answer::Refused(_) => false,
         Answer::Taken => true,
     }
@@ -101,18 +167,23 @@ pub fn write(edition: u8, rows: &[u8], buffer: &mut [u8]) -> WriteAnswer
     ensures { λ r. ⌜ WritesRaw edition (now (rows .entry)) (now (buffer .entry)) r (now (buffer .exit)) ⌝ }
 {
     let known = known_rows(edition, rows);
-    let table = first_rows(edition, rows, known);
-    if rows.len() - known * RAW_SIZE < RAW_SIZE {
-        return super::write(edition, table, buffer);
-    }
-    match table.judge(edition) {
+    match validate_rows(edition, rows, known) {
         Answer::Refused(number) => {
             return WriteAnswer::Refused(number);
         }
         Answer::Taken => {}
     }
-    if known < constraint::ROW_LIMIT {
-        return WriteAnswer::Refused(4);
+    if RAW_SIZE <= rows.len() - known * RAW_SIZE {
+        if known < constraint::ROW_LIMIT {
+            return WriteAnswer::Refused(4);
+        }
+        return WriteAnswer::Refused(3);
     }
-    WriteAnswer::Refused(3)
+    let size = size_of(edition, rows, known);
+    if buffer.len() < size {
+        return WriteAnswer::Refused(16);
+    }
+    big_endian::put_byte(buffer, 0, edition);
+    put_rows(edition, buffer, rows, known);
+    WriteAnswer::Written(size)
 }

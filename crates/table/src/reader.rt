@@ -10,7 +10,7 @@ ghost use mathlib.Core.Path.{_≡_};
 ghost use mathlib.Core.List.{[]};
 ghost use Prim.Native.Nat.{_<_};
 ghost use lib.ListN.{length};
-ghost use Rattle.constraint.specs.Records.{tableOf, Decides};
+ghost use Rattle.constraint.specs.Records.{rowsOf, Decides};
 ghost use Rattle.constraint.specs.Table.{WholeAt, VersionUpTo, ReadsRows, table-refused};
 ghost use Rattle.table.specs.Reading.{readOf, rowsRead};
 ghost use Rattle.table.specs.Rows.{ReadsAt};
@@ -23,7 +23,7 @@ pub(crate) enum RowRead {
 
 // A refusal, beside the table with no row.
 pub(crate) fn refused(number: u8, place: usize) -> Reading
-    ensures { λ r. ⌜ (readOf r ≡ table-refused number place) × (r .table ≡ tableOf []) ⌝ }
+    ensures { λ r. ⌜ (readOf r ≡ table-refused number place) × (rowsOf (r .table) ≡ []) ⌝ }
 {
     let answer = ReadAnswer::Refused { number, place };
     let table = Table::new();
@@ -34,7 +34,7 @@ pub(crate) fn refused(number: u8, place: usize) -> Reading
 pub(crate) fn version_known(newest: u8, bytes: &[u8]) -> bool
     ensures { λ r. ⌜ Decides (VersionUpTo newest (now (bytes .entry))) r ⌝ }
 {
-    let version = number::byte_at(bytes, 0);
+    let version = big_endian::byte_at(bytes, 0);
     if constraint::last_type(version) == 0 {
         return false;
     }
@@ -52,9 +52,10 @@ pub(crate) fn whole_at(bytes: &[u8], place: usize) -> bool
     if size - 2 < place {
         return false;
     }
-    number::two_at(bytes, place) <= size - 2 - place
+    big_endian::two_at(bytes, place) <= size - 2 - place
 }
 
+// §4.3, §8.2, §8.3
 // Questions 2 to 7, put to the row at a place in a table of an edition, with some rows before it.
 pub(crate) fn read_row(edition: u8, bytes: &[u8], place: usize, before: usize) -> RowRead
     ensures { λ r. ⌜ ReadsAt edition (now (bytes .entry)) before place r ⌝ }
@@ -65,7 +66,7 @@ pub(crate) fn read_row(edition: u8, bytes: &[u8], place: usize, before: usize) -
     if constraint::ROW_LIMIT <= before {
         return RowRead::Refused(3);
     }
-    let size = number::two_at(bytes, place);
+    let size = big_endian::two_at(bytes, place);
     let start = place + 2;
     let next = start + size;
     let body = &bytes[start..next];
@@ -73,7 +74,7 @@ pub(crate) fn read_row(edition: u8, bytes: &[u8], place: usize, before: usize) -
         return RowRead::Refused(4);
     }
     let row = row_of(body);
-    match row.judge() {
+    match row.validate() {
         Answer::Taken => RowRead::Row(row, next),
         Answer::Refused(number) => RowRead::Refused(number),
     }
@@ -82,7 +83,7 @@ pub(crate) fn read_row(edition: u8, bytes: &[u8], place: usize, before: usize) -
 // The rows of an edition behind the version byte, row by row.
 pub(crate) fn read_rows(edition: u8, bytes: &[u8]) -> Reading
     requires { ⌜ 0 < length (now bytes) ⌝ }
-    ensures { λ r. ⌜ ReadsRows edition (now (bytes .entry)) 0 1 (readOf r) × (r .table ≡ tableOf (rowsRead (readOf r))) ⌝ }
+    ensures { λ r. ⌜ ReadsRows edition (now (bytes .entry)) 0 1 (readOf r) × (rowsOf (r .table) ≡ rowsRead (readOf r)) ⌝ }
 {
     let mut table = Table::new();
     let mut place = 1;

@@ -8,7 +8,7 @@ use super::reader::whole_at;
 use constraint::Constraint;
 ghost use Prim.Native.Nat.{_<_};
 ghost use lib.ListN.{length};
-ghost use Rattle.table.specs.Scan.{CountsRows, Scans, PlacedAt};
+ghost use Rattle.table.specs.Scan.{CountsRows, Scans, PlacedAt, RowBehind, FindsRow};
 
 // The answer to a table's bytes, and how many rows they hold; after a refusal none.
 pub struct Scan {
@@ -22,8 +22,14 @@ pub struct Placed {
     pub next: usize,
 }
 
+// What a table's bytes hold, and the row of one number; the row of an empty entry where the table has no such row.
+pub struct Numbered {
+    pub scan: Scan,
+    pub row: Constraint,
+}
+
 // The rows of an edition behind the version byte, judged and counted.
-fn judge_rows(edition: u8, bytes: &[u8]) -> Scan
+fn validate_rows(edition: u8, bytes: &[u8]) -> Scan
     requires { ⌜ 0 < length (now bytes) ⌝ }
     ensures { λ r. ⌜ CountsRows edition (now (bytes .entry)) r ⌝ }
 {
@@ -45,8 +51,9 @@ fn judge_rows(edition: u8, bytes: &[u8]) -> Scan
     Scan { answer, rows }
 }
 
+// §7.6, §8.1, §9.3
 // Judges the bytes of a table of an edition up to the newest: the number of its rows, or the first question answered "no" and the place.
-pub fn judge(newest: u8, bytes: &[u8]) -> Scan
+pub fn validate(newest: u8, bytes: &[u8]) -> Scan
     ensures { λ r. ⌜ Scans newest (now (bytes .entry)) r ⌝ }
 {
     if !version_known(newest, bytes) {
@@ -56,8 +63,8 @@ pub fn judge(newest: u8, bytes: &[u8]) -> Scan
         };
         return Scan { answer, rows: 0 };
     }
-    let edition = number::byte_at(bytes, 0);
-    judge_rows(edition, bytes)
+    let edition = big_endian::byte_at(bytes, 0);
+    validate_rows(edition, bytes)
 }
 
 // The row at a place, and the place behind it. Where no whole row stands, it is the row of an empty entry, and the place itself.
@@ -72,7 +79,38 @@ pub fn row_at(bytes: &[u8], place: usize) -> Placed
         return Placed { row, next: place };
     }
     let start = place + 2;
-    let next = start + number::two_at(bytes, place);
+    let next = start + big_endian::two_at(bytes, place);
     let row = row_of(&bytes[start..next]);
     Placed { row, next }
+}
+
+// The row behind i others of an accepted table.
+fn row_behind(bytes: &[u8], i: usize) -> Constraint
+    ensures { λ r. ⌜ RowBehind (now (bytes .entry)) i r ⌝ }
+{
+    let mut place = 1;
+    let mut k = 0;
+    while k < i {
+        let placed = row_at(bytes, place);
+        place = placed.next;
+        k += 1;
+    }
+    let found = row_at(bytes, place);
+    found.row
+}
+
+// Judges the bytes of a table of an edition up to the newest, and finds the row of a number in it.
+pub fn row_numbered(newest: u8, bytes: &[u8], i: u64) -> Numbered
+    ensures { λ r. ⌜ FindsRow newest (now (bytes .entry)) i r ⌝ }
+{
+    let scan = validate(newest, bytes);
+    if scan.rows as u64 <= i {
+        let row = Constraint::Order {
+            source: 0,
+            target: 0,
+        };
+        return Numbered { scan, row };
+    }
+    let row = row_behind(bytes, i as usize);
+    Numbered { scan, row }
 }

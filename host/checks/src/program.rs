@@ -1,8 +1,8 @@
 //! The small programs, each run in a new folder: the proved one, and the one with an exit status.
 
+use crate::hosts::say;
 use crate::places::{Folder, root};
 use crate::release::make;
-use crate::hosts::say;
 use model::{NEWEST_EDITION, program_output_up_to};
 use std::path::{Path, PathBuf};
 use std::process::Command;

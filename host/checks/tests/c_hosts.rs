@@ -2,10 +2,12 @@
 //! Clauses: §3.4, §3.5, §9.7, §9.8, §11.1 to §11.6.
 
 use checks::hosts::{
-    Host, Ran, c_compiler, c_host, c_host_alone, c_host_with_header, compile_with, cpp_host, cpp17_host, found,
+    Host, Ran, c_compiler, c_host, c_host_alone, c_host_with_header, compile_with, cpp_compiler, cpp_host, cpp17_host,
+    found, say as say_so,
 };
 use checks::places::{Folder, archive_folder, example, example_bytes, root};
 use checks::rows::numbers_of;
+use checks::sources::{Header, text};
 use delkuthi::Monitor;
 use model::examples::{Example, RECORDING, REPORT, TABLE, examples};
 use model::limits::NO_LIMIT;
@@ -410,6 +412,22 @@ fn the_stack() {
     let ran = host.run(&files.paths.iter().chain(&drive).collect::<Vec<&PathBuf>>());
     println!("bytes of stack:\n{}", ran.printed);
     assert_eq!((ran.status, ran.printed.lines().count()), (Some(0), 14));
+    let sheet = text("docs/DATASHEET.md");
+    for line in ran.printed.lines() {
+        let words: Vec<&str> = line.split(' ').collect();
+        let (used, limit) = (words[0].parse::<u64>().expect("bytes"), words[2].parse::<u64>().expect("bytes"));
+        assert!(used <= most_in_sheet(&sheet, limit / 1024) + SLACK, "the data sheet has less for {line}");
+    }
+}
+
+/// How much more a call may use than the data sheet says: the words that its caller in C puts on the stack.
+const SLACK: u64 = 64;
+
+/// The most that the data sheet says of the calls with a limit of this many KiB on x86-64.
+fn most_in_sheet(sheet: &str, limit: u64) -> u64 {
+    let rows = sheet.lines().filter(|line| line.contains(&format!("_STACK` {limit} KiB |")));
+    let used = rows.map(|row| row.split('|').nth(3).expect("a column").trim().replace(',', ""));
+    used.map(|bytes| bytes.parse().expect("bytes")).max().expect("a row of the data sheet")
 }
 
 /// A report on a lent monitor, on a stack of 8,192 bytes.
@@ -437,6 +455,62 @@ fn the_header_in_cpp() {
 #[test]
 fn the_classes_in_cpp() {
     assert_eq!(cpp17_host("classes.cpp").run_in_valgrind::<&str>(&[]), Ran::new(0, ""));
+}
+
+/// Before C++17 the compiler says what is needed.
+#[test]
+fn the_classes_need_cpp17() {
+    let output = cpp_compiler()
+        .args(["-std=c++14", "-fsyntax-only", "-I"])
+        .arg(root().join("include"))
+        .arg(root().join("host/c/classes.cpp"))
+        .output()
+        .expect("a C++ compiler");
+    let said = String::from_utf8_lossy(&output.stderr).into_owned();
+    assert!(!output.status.success() && said.contains("delkuthi.hpp needs C++17"), "{said}");
+}
+
+/// The header for C++ has every refusal of the header for C and every call, and lines of both fit a terminal.
+#[test]
+fn the_classes_have_every_call() {
+    let header = Header::read();
+    let classes = text("include/delkuthi.hpp");
+    let names = header.refusals.keys().map(|name| format!(" = DELKUTHI_{name},"));
+    let missing: Vec<String> = names.filter(|name| !classes.contains(name)).collect();
+    assert!(missing.is_empty(), "{missing:?}");
+    let declared = |line: &str| {
+        let (result, rest) = line.split_once(" delkuthi_")?;
+        let plain = ["uint8_t", "uint32_t", "uint64_t", "size_t"].contains(&result);
+        plain.then(|| rest.split('(').next().map(|name| format!("delkuthi_{name}")))?
+    };
+    let calls: Vec<String> = header.text.lines().filter_map(declared).collect();
+    // by the macro that compares them, and by the functions that write a table or are the form for both editions
+    let others = ["delkuthi_version", "delkuthi_monitor_size", "delkuthi_table", "delkuthi_table_2"];
+    let called = |name: &str| classes.contains(&format!("{name}(")) || classes.contains(&format!("{name}_2("));
+    let missing: Vec<&String> = calls.iter().filter(|name| !others.contains(&name.as_str()) && !called(name)).collect();
+    assert!(calls.len() >= 30 && missing.is_empty(), "{} calls, missing: {missing:?}", calls.len());
+    let long = header.text.lines().chain(classes.lines()).filter(|line| line.chars().count() > 80);
+    assert_eq!(long.collect::<Vec<&str>>(), Vec::<&str>::new());
+}
+
+/// The rules of MISRA C that a checker finds broken in the header are those that the list of deviations has.
+#[test]
+fn the_deviations_from_misra_are_listed() {
+    if !found("cppcheck") {
+        return say_so("cppcheck is not installed: the list of deviations from MISRA C was not compared");
+    }
+    let folder = Folder::new();
+    let host = folder.write("host.c", b"#include \"delkuthi.h\"\nint f(void);\nint f(void) { return 0; }\n");
+    let mut cppcheck = Command::new("cppcheck");
+    cppcheck.args(["--addon=misra", "--std=c99", "--enable=style", "--quiet", "-I"]).arg(root().join("include"));
+    let output = cppcheck.arg(host).current_dir(folder.path()).output().expect("cppcheck can be run");
+    let said = String::from_utf8_lossy(&output.stderr).into_owned();
+    let found = said.split("[misra-c2012-").skip(1).filter_map(|rest| rest.split(']').next().map(str::to_string));
+    let found: BTreeSet<String> = found.collect();
+    let list = text("docs/MISRA.md");
+    let listed: BTreeSet<String> =
+        list.lines().filter_map(|line| line.strip_prefix("| ")?.split(" |").next().map(str::to_string)).collect();
+    assert!(!found.is_empty() && found.is_subset(&listed), "{:?}", found.difference(&listed).collect::<Vec<&String>>());
 }
 
 /// A longer drive than the examples', in both directions of the interface: the loop and the report agree.

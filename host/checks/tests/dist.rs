@@ -73,8 +73,7 @@ fn two_releases_are_the_same_to_the_byte() {
         [(first, "12 passed, 0 failed", "3 minutes on 2"), (second, "13 passed, 0 failed", "44 minutes on 1")]
     {
         let said = text_of(&packed.with_file_name(format!("{}.gate.txt", release_name())));
-        let expected =
-            format!("commit: {}gate, last line: {line}\ngate, time: {time} processors\n", commit());
+        let expected = format!("commit: {}gate, last line: {line}\ngate, time: {time} processors\n", commit());
         assert_eq!(said, expected);
         let manifest = text_of(&packed.with_file_name(release_name()).join("MANIFEST.md"));
         assert!(manifest.starts_with("The gate passed on this commit.\n"), "{manifest}");
@@ -122,7 +121,10 @@ fn the_gate_of_the_release_needs_no_git() {
     gate.arg(".ci/run").current_dir(&sources).env("PATH", path).env("DELKUTHI_LIB", folder.path());
     let output = gate.output().expect("bash can be run");
     let text = String::from_utf8_lossy(&output.stdout).into_owned();
-    assert!(text.contains("libdelkuthi.a (DELKUTHI_LIB has to name") && text.ends_with("\n0 passed, 1 failed\n"), "{text}");
+    assert!(
+        text.contains("libdelkuthi.a (DELKUTHI_LIB has to name") && text.ends_with("\n0 passed, 1 failed\n"),
+        "{text}"
+    );
     assert_eq!(output.status.code(), Some(2));
 }
 

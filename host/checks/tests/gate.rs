@@ -71,10 +71,13 @@ fn the_gate_that_passes() {
     let folder = repository(PROVED, TESTED, GOOD);
     let Ran { status, printed } = gate(&folder, None);
     assert_eq!((status, printed.lines().last()), (Some(0), Some("14 passed, 0 failed")), "{printed}");
-    for line in ["[1/3] constraint 28 s", "[3/3] table 5 s", "2 wrong programs in 1 crates refused, as they must be"] {
+    for line in ["[1/3] constraint 28 s", "[3/3] table 5 s", "wrong programs refused, as they must be: 2"] {
         assert!(printed.lines().any(|found| found == line), "{line} in {printed}");
     }
-    assert!(printed.contains("tests/calls.rs: 7 passed, 0 failed, 3 s") && !printed.contains("fn number::a"), "{printed}");
+    assert!(
+        printed.contains("tests/calls.rs: 7 passed, 0 failed, 3 s") && !printed.contains("fn number::a"),
+        "{printed}"
+    );
     let log = fs::read_to_string(folder.path().join("build/log/proofs.log")).expect("a log");
     assert!(log.contains("fn number::a: proved"));
 }
@@ -93,7 +96,8 @@ fn the_gate_without_the_kit() {
 /// Where a part fails the end of its log is printed, the failures are counted, and the status is not 0.
 #[test]
 fn the_gate_that_fails() {
-    let refused = "echo 'a: error'\necho 'rt: constraint NOT PROVED (exit 1, 2 s)'\necho '0 passed, 3 failed'\nexit 1\n";
+    let refused =
+        "echo 'a: error'\necho 'rt: constraint NOT PROVED (exit 1, 2 s)'\necho '0 passed, 3 failed'\nexit 1\n";
     let Ran { status, printed } = gate(&repository(refused, TESTED, GOOD), None);
     assert_eq!((status, printed.lines().last()), (Some(1), Some("9 passed, 3 failed")), "{printed}");
     assert!(printed.contains("The end of build/log/proofs.log:\n    a: error\n"), "{printed}");

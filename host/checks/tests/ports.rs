@@ -1,5 +1,5 @@
-//! The portable crate: what is left out of the proved sources and what is not, and its answers, call by call, beside those of the
-//! proved archive on this machine. `make test-ports` does the same on others.
+//! The portable crate: which parts of the proved sources it leaves out, and its answers, call by call, beside those of the proved
+//! archive on this machine. `make test-ports` does the same on other machines.
 
 use checks::documents::text_of;
 use checks::hosts::{Host, Ran, c_compiler, c_host, compile_with, done, ran};
@@ -168,7 +168,7 @@ pub struct Pair {
 }
 
 // Writes.
-// Safety: the duties of a host stand in delkuthi.h, under MEMORY AND THREADS.
+// Safety: delkuthi.h lists the duties of a host under MEMORY AND THREADS.
 #[export_name = "small_write"]
 pub unsafe extern "C" fn small_write_for_a_host(m: &mut Pair, bytes: *const u8, bytes_length: usize, room: *mut u8, room_length: usize, at: u64) -> u64 {
     unsafe { small_write(m, core::slice::from_raw_parts(bytes, bytes_length), core::slice::from_raw_parts_mut(room, room_length), at) }
@@ -231,7 +231,8 @@ fn missing_packages_are_named() {
     let output = bash.output();
     let output = output.expect("bash can be run");
     let said = String::from_utf8_lossy(&output.stdout).into_owned();
-    for name in ["aarch64-linux-gnu-gcc", "arm-linux-gnueabihf-gcc", "arm-none-eabi-gcc", "qemu-user", "rustc"] {
+    let tools = ["aarch64-linux-gnu-gcc", "arm-linux-gnueabihf-gcc", "riscv64-linux-gnu-gcc", "arm-none-eabi-gcc"];
+    for name in tools.into_iter().chain(["qemu-user", "qemu-system-arm", "rustc", "INSTALL=--install"]) {
         assert!(said.contains(name), "{name} in {said}");
     }
     assert!(!output.status.success());

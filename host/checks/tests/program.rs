@@ -48,8 +48,15 @@ fn with_arguments(arguments: &[&str]) -> (Option<i32>, String, String) {
 #[test]
 fn arguments_are_refused() {
     let editions = ["", "0", "3", "12", "two", "-1"].map(|edition| ["--edition", edition]);
-    let others: [&[&str]; 7] =
-        [&["check"], &["--version", "--help"], &["--versions"], &[""], &["-h"], &["--edition"], &["--edition", "2", "2"]];
+    let others: [&[&str]; 7] = [
+        &["check"],
+        &["--version", "--help"],
+        &["--versions"],
+        &[""],
+        &["-h"],
+        &["--edition"],
+        &["--edition", "2", "2"],
+    ];
     for arguments in others.into_iter().chain(editions.iter().map(|words| &words[..])) {
         let (status, printed, said) = with_arguments(arguments);
         assert_eq!((status, printed.as_str()), (Some(2), ""));

@@ -1,11 +1,11 @@
 //! The functions of `libdelkuthi.a`, as `include/delkuthi.h` declares them: those that take tables of both editions.
 //!
-//! They keep to Rust's rules for what they are lent: a monitor is lent by reference, bytes are read and written only as
-//! far as their length says, and nothing is kept. So the calls are safe wherever the references are.
+//! They follow Rust's rules for references: a monitor is passed by reference, bytes are read and written only up to their
+//! length, and no pointer is kept. So the calls are safe if the references are.
 
 use crate::monitor::Monitor;
 
-/// Functions that take numbers and references alone, so that no call of them is unsafe.
+/// Functions that take only numbers and references, so that every call of them is safe.
 macro_rules! safe {
     ($(fn $name:ident($($argument:ident: $kind:ty),*) -> $answer:ty;)*) => {
         mod symbols {

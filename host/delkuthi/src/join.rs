@@ -1,4 +1,4 @@
-//! Two recordings joined.
+//! Joins two recordings.
 
 use crate::ffi;
 use crate::refusal::Refusal;
@@ -13,7 +13,7 @@ pub enum Input {
     Second,
 }
 
-/// A join that was refused. The buffer is as it was.
+/// A join that was refused. The buffer stays as it was.
 #[derive(Clone, Copy, Debug, PartialEq, Eq, Hash)]
 pub struct JoinRefusal {
     input: Option<Input>,
@@ -21,12 +21,12 @@ pub struct JoinRefusal {
 }
 
 impl JoinRefusal {
-    /// The recording that is refused; none where the buffer is too short.
+    /// The recording that is refused; none if the buffer is too short.
     pub fn input(&self) -> Option<Input> {
         self.input
     }
 
-    /// The refusal: its number, and as its place that of the length field concerned in the recording.
+    /// The refusal: its number, and the place of the length field concerned in the recording.
     pub fn refusal(&self) -> Refusal {
         self.refusal
     }
@@ -58,10 +58,10 @@ impl fmt::Display for JoinRefusal {
 #[cfg(feature = "std")]
 impl std::error::Error for JoinRefusal {}
 
-/// Joins two recordings that have no kind in common in the front of a buffer, and gives the number of bytes: records by
-/// time, at equal times those of the first before those of the second, without the ticks that are not later than the
-/// joined clock. Bytes behind them stay as they were. First and second together have one byte more than the joined
-/// recording can have.
+/// Joins two recordings that have no kind in common, at the front of a buffer, and returns the number of bytes. The records
+/// are in the order of time; at equal times those of the first recording come first. A tick that is not later than the
+/// joined clock is dropped. Bytes behind the joined recording stay as they were. It is at least one byte shorter than both
+/// recordings together.
 ///
 /// ```
 /// use delkuthi::join;
@@ -77,7 +77,7 @@ impl std::error::Error for JoinRefusal {}
 ///
 /// # Errors
 /// The refusal of a record of the first recording or of its step (never 12), then of the second, with its place; then 20
-/// at the second's first record of a kind that both have, and last 16 where the buffer is too short.
+/// at the second recording's first record of a kind that both have; last 16 if the buffer is too short.
 pub fn join(first: &[u8], second: &[u8], joined: &mut [u8]) -> Result<usize, JoinRefusal> {
     // SAFETY: the pointers and lengths are slices', and the buffer is lent alone.
     let answer = unsafe {

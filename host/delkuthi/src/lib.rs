@@ -1,8 +1,8 @@
-//! The proved monitor for TADL2 timing constraints, from Rust: a safe wrapper of `libdelkuthi.a`.
+//! The proved monitor for TADL2 timing constraints, for Rust: a safe wrapper of `libdelkuthi.a`.
 //!
-//! A [`Monitor`] takes a table of timing constraints and the stamped events of a bench, and says for each row, while
-//! the recording runs, whether it is open, kept, or broken, and at which step it broke. [`report`] does it for a whole
-//! recording at once. `include/delkuthi.h` is the manual, with the table's bytes and what is promised.
+//! A [`Monitor`] takes a table of timing constraints and the stamped events of a bench. For each row it says, while the
+//! recording runs, whether the row is open, kept, or broken, and which step broke it. [`report`] judges a whole recording
+//! at once. `include/delkuthi.h` is the manual: it has the bytes of a table and what is promised.
 //!
 //! ```
 //! use delkuthi::{Monitor, Row, TABLE_LIMIT, Verdict, write_table};
@@ -19,24 +19,30 @@
 //! # Ok::<(), delkuthi::Refusal>(())
 //! ```
 //!
-//! The wrapper needs no heap and no other crate, and without its feature `std`, which gives the refusals
-//! `std::error::Error`, no operating system. It needs Rust 1.63 or newer.
+//! The wrapper needs no heap and no other crate. Its feature `std` implements `std::error::Error` for the refusals; without
+//! it the wrapper needs no operating system. It needs Rust 1.63 or newer.
+//!
+//! # Late events, and a full row
+//!
+//! A tick to t, or an event at t, says that every event stamped before t has been given: tick only as far as your slowest
+//! source allows. The example `bench_loop` has such a lag. An event that is refused with 12 is lost to every row: do not
+//! count such a recording as passed. The manual says more under LATE EVENTS and WHAT TO DO AFTER A 12.
 //!
 //! # The stack
 //!
-//! As compiled for x86-64 the library's calls behind [`Monitor::fresh`], [`Monitor::event`], [`Monitor::tick`],
-//! [`Monitor::close`], [`Monitor::withdraw`] and [`Monitor::verdict`] use at most 1 KiB of stack each, that of a page at
-//! most 2 KiB, those of [`Monitor::report`] and [`Monitor::report_on`] at most 6 KiB, that of [`write_table`] at most
-//! 12 KiB, that of [`join`] at most 16 KiB, that of [`stamped`] at most 20 KiB, that of [`shortest_stretch`] at most
-//! 32 KiB, and that of [`report`], which has a monitor of its own, at most 40 KiB. These are the limits of
-//! `include/delkuthi.h` (`DELKUTHI_STEP_STACK` and its like), to which a test holds what is measured.
+//! The library's calls behind [`Monitor::fresh`], [`Monitor::event`], [`Monitor::tick`], [`Monitor::close`],
+//! [`Monitor::withdraw`] and [`Monitor::verdict`] use at most 1 KiB of stack each, a page at most 2 KiB,
+//! [`Monitor::report`] and [`Monitor::report_on`] at most 11 KiB, [`write_table`] at most 12 KiB, [`join`] at most 16 KiB,
+//! [`stamped`] at most 20 KiB, [`shortest_stretch`] at most 32 KiB, and [`report`], which has its monitor on the stack, at
+//! most 50 KiB. These are the limits of `include/delkuthi.h` (such as `DELKUTHI_STEP_STACK`). Tests measure the calls and
+//! compare them with the limits.
 //!
 //! # Where the archive comes from
 //!
-//! The build links `libdelkuthi.a`. It takes the one in the folder that the environment variable `DELKUTHI_LIB` names, as
-//! `DELKUTHI_LIB=/usr/local/lib cargo build` after `make install`; no proof tool is needed then. Without that variable
-//! the build proves and builds the archive from the crates of the repository, which needs `rt` of the Rattle kit in the
-//! `PATH`. Where there is neither, the build ends and says so.
+//! The build links `libdelkuthi.a` from the folder that the environment variable `DELKUTHI_LIB` names, for example
+//! `DELKUTHI_LIB=/usr/local/lib cargo build` after `make install`. Then it needs no proof tool. Without that variable the
+//! build proves and builds the archive from the crates of the repository, which needs `rt` of the Rattle kit in the
+//! `PATH`. If there is neither, the build ends and says so.
 
 #![no_std]
 #![warn(missing_docs)]

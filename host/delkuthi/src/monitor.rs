@@ -7,12 +7,12 @@ use core::fmt;
 /// How many words of 64 bits a monitor takes.
 pub const WORDS: usize = 4480;
 
-/// The word for each verdict, as the library answers it; any other says that there is no such row.
+/// The word for each verdict, as the library answers it. Any other word says that there is no such row.
 const OPEN: u8 = 0;
 const KEPT: u8 = 1;
 const BROKEN: u8 = 2;
 
-/// A monitor over a table: 35,840 bytes, with no pointer in them. A copy is a monitor of its own.
+/// A monitor over a table: 35,840 bytes without pointers. A copy is an independent monitor.
 #[derive(Clone, PartialEq, Eq)]
 #[repr(transparent)]
 pub struct Monitor {
@@ -26,7 +26,7 @@ pub enum Verdict {
     Open,
     /// The recording is closed, and meets its definition.
     Kept,
-    /// Its definition cannot be met any more: since this step, the first being 1.
+    /// Its definition can no longer be met, since this step. The first step is 1.
     Broken(u64),
 }
 
@@ -47,14 +47,14 @@ impl Monitor {
     /// 1 to 7 and 18, with the place in the table.
     ///
     /// # Panics
-    /// If the archive that was linked is not this crate's: [`matches`](crate::matches).
+    /// If the linked archive does not match this crate: [`matches`](crate::matches).
     pub fn fresh(table: &[u8]) -> Result<Monitor, Refusal> {
         let mut monitor = Monitor::from_words([0; WORDS]);
         monitor.restart(table)?;
         Ok(monitor)
     }
 
-    /// Makes this the fresh monitor over a table, in the memory that it has. On a refusal it stays as it was.
+    /// Makes this a fresh monitor over a table, in the same memory. A refusal leaves it as it was.
     ///
     /// # Errors
     /// 1 to 7 and 18, with the place in the table.
@@ -64,8 +64,8 @@ impl Monitor {
         Refusal::of_table(answer)
     }
 
-    /// Takes an event of a plain kind, 0 to 47, not before the clock and later than every earlier event of its kind. On
-    /// a refusal the monitor stays as it was.
+    /// Takes an event of a plain kind, 0 to 47. Its time must not be before the clock and must be later than the last event
+    /// of its kind. A refusal leaves the monitor as it was.
     ///
     /// # Errors
     /// 8 closed, 24 all steps taken, 9 the kind, 19 a coloured kind, 10 the time's range, 11 its order, 12 more than 64
@@ -75,8 +75,8 @@ impl Monitor {
         Refusal::of_step(ffi::delkuthi_event(self, kind, time))
     }
 
-    /// Takes an event of a coloured kind, 48 to 63, with a colour from 0 to 7: not before the clock and later than every
-    /// earlier event of its kind and colour. On a refusal the monitor stays as it was.
+    /// Takes an event of a coloured kind, 48 to 63, with a colour from 0 to 7. Its time must not be before the clock and must
+    /// be later than the last event of its kind and colour. A refusal leaves the monitor as it was.
     ///
     /// # Errors
     /// 8 closed, 24 all steps taken, 9 the kind, 19 a plain kind or no colour, 10 the time's range, 11 its order, 12 more
@@ -86,7 +86,8 @@ impl Monitor {
         Refusal::of_step(ffi::delkuthi_coloured_event(self, kind, colour, time))
     }
 
-    /// Takes a tick: the clock moves to a time later than it. On a refusal the monitor stays as it was.
+    /// Takes a tick: the clock moves to a later time, and every event stamped before that time has been given. A refusal
+    /// leaves the monitor as it was.
     ///
     /// # Errors
     /// 8 closed, 24 all steps taken, 10 the time's range, 11 its order.
@@ -95,17 +96,18 @@ impl Monitor {
         Refusal::of_step(ffi::delkuthi_tick(self, time))
     }
 
-    /// Closes the recording: no step is taken after it, and no row is open.
+    /// Closes the recording: after it no step is taken, and no row reads open.
     ///
     /// # Errors
-    /// 8 closed already, 24 all steps taken.
+    /// 8 already closed, 24 all steps taken.
     #[inline]
     pub fn close(&mut self) -> Result<(), Refusal> {
         Refusal::of_step(ffi::delkuthi_close(self))
     }
 
-    /// Withdraws the last step that was taken, the close too: rows, clock and count are as if it had never been taken. It
-    /// can be withdrawn once; then another must be taken first. On a refusal the monitor stays as it was.
+    /// Withdraws the last step that was taken, whichever that is: rows, clock and count are as if it had never been taken. To
+    /// withdraw a certain step, check that [`Monitor::steps`] has not changed since it. The next withdrawal needs a new step
+    /// first. A refusal leaves the monitor as it was.
     ///
     /// # Errors
     /// 21 nothing to withdraw.
@@ -114,7 +116,7 @@ impl Monitor {
         Refusal::of_step(ffi::delkuthi_withdraw(self))
     }
 
-    /// What the row of this number reads, the first row being 0.
+    /// What a row reads. The first row is row 0.
     ///
     /// # Errors
     /// 15 no row of that number.
@@ -128,7 +130,7 @@ impl Monitor {
         }
     }
 
-    /// The number of rows of the table: at most 32, whatever the words are.
+    /// The number of rows of the table, at most 32 whatever the words are.
     pub fn rows(&self) -> usize {
         ffi::delkuthi_rows(self) as usize
     }
@@ -138,7 +140,7 @@ impl Monitor {
         (0..self.rows()).map_while(|row| self.verdict(row).ok())
     }
 
-    /// The clock: the time of the last event or tick; 0 before any.
+    /// The clock: the time of the last event or tick, and 0 before any.
     #[inline]
     pub fn clock(&self) -> u64 {
         ffi::delkuthi_clock(self)
@@ -156,21 +158,21 @@ impl Monitor {
         ffi::delkuthi_closed(self) != 0
     }
 
-    /// A bit for each row: bit i is 1 where row i reads broken.
+    /// A bit for each row: bit i is 1 if row i reads broken.
     #[inline]
     pub fn broken_rows(&self) -> u32 {
         ffi::delkuthi_broken_rows(self)
     }
 
-    /// How many wait in a row that reads open: 0 for any other row, and where there is no row of that number.
+    /// How many wait in a row that reads open; 0 for any other row, and if there is no row of that number.
     #[inline]
     pub fn row_waiting(&self, row: usize) -> usize {
         ffi::delkuthi_row_waiting(self, row as u64) as usize
     }
 
-    /// The first row for which [`Monitor::event`], given the same kind and time, would be refused with 12: it would be open
-    /// with more than 64 waiting. None where the event would not be refused so. An event of a coloured kind, a tick and the
-    /// close never crowd a row.
+    /// The first row for which [`Monitor::event`] with the same kind and time would be refused with 12: it would be open with
+    /// more than 64 waiting. None if the event would not be refused with 12. An event of a coloured kind, a tick and the close
+    /// never crowd a row.
     ///
     /// ```
     /// # use delkuthi::{Monitor, Row, TABLE_LIMIT, write_table};
@@ -192,14 +194,14 @@ impl Monitor {
         if row == crate::ROW_LIMIT { None } else { Some(row) }
     }
 
-    /// The last time to which a tick leaves a row open that reads open: one to any later time breaks it. None where no
-    /// tick breaks the row, for a row that is broken, after the close, and where there is no row of that number.
+    /// The last time to which a tick leaves an open row open; a tick to any later time breaks it. None if no tick breaks the
+    /// row, if it is broken, after the close, and if there is no row of that number.
     #[inline]
     pub fn row_deadline(&self, row: usize) -> Option<u64> {
         limit(ffi::delkuthi_row_deadline(self, row as u64))
     }
 
-    /// The least of the rows' deadlines: until then a host may sleep if no event comes.
+    /// The earliest deadline of all rows: a host may sleep until then if no event comes.
     ///
     /// ```
     /// # use delkuthi::{Monitor, Row, TABLE_LIMIT, write_table};
@@ -218,19 +220,19 @@ impl Monitor {
         limit(ffi::delkuthi_deadline(self))
     }
 
-    /// The monitor's memory, to be put aside.
+    /// The monitor's memory, for example to store it.
     pub fn words(&self) -> &[u64; WORDS] {
         &self.words
     }
 
-    /// A monitor from memory that was put aside. Any words are safe: each call on them still ends and touches nothing
-    /// else. But on words that [`Monitor::words`] did not give, what a call answers means nothing, unless all are 0: that is
-    /// a monitor which is closed and has no rows.
+    /// A monitor from stored memory. All words are safe: each call on them still ends and touches nothing else. But on words
+    /// that [`Monitor::words`] did not give, an answer means nothing, unless all words are 0: that is a closed monitor without
+    /// rows.
     ///
     /// # Panics
-    /// If the archive that was linked is not this crate's: [`matches`](crate::matches).
+    /// If the linked archive does not match this crate: [`matches`](crate::matches).
     pub fn from_words(words: [u64; WORDS]) -> Monitor {
-        assert!(crate::matches(), "the archive libdelkuthi.a is not this crate's");
+        assert!(crate::matches(), "the archive libdelkuthi.a does not match this crate");
         Monitor { words }
     }
 }
@@ -242,7 +244,7 @@ fn limit(time: u64) -> Option<u64> {
 }
 
 impl fmt::Debug for Monitor {
-    /// The verdicts; what the words mean is the library's own business.
+    /// Shows the verdicts. Only the library reads the words.
     fn fmt(&self, f: &mut fmt::Formatter) -> fmt::Result {
         f.write_str("Monitor ")?;
         f.debug_list().entries(self.verdicts()).finish()

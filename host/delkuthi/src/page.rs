@@ -3,13 +3,13 @@
 use crate::ffi;
 use crate::monitor::Monitor;
 
-/// No page is longer.
+/// The length of the longest page.
 pub const PAGE_LIMIT: usize = 2482;
 
 impl Monitor {
     /// Writes the page of the monitor, closed or not: a line of 72 bytes and byte 10 for each row, under headings of
-    /// hyphens. Gives the number of bytes written; if the buffer is too short it gives `None`, with nothing written.
-    /// Bytes after those written stay as they were.
+    /// hyphens. Returns the number of bytes written. If the buffer is too short, it returns `None` and writes nothing. Bytes
+    /// behind the page stay as they were.
     ///
     /// ```
     /// use delkuthi::{Monitor, PAGE_LIMIT, Row, TABLE_LIMIT, write_table};

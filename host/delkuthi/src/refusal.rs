@@ -2,14 +2,14 @@
 
 use core::fmt;
 
-/// A call that was refused. It has changed nothing.
+/// A refused call. It has changed nothing.
 #[derive(Clone, Copy, Debug, PartialEq, Eq, Hash)]
 pub struct Refusal {
     number: u8,
     at: Option<At>,
 }
 
-/// What a refusal is about, where it is about a part of what was given.
+/// Which part of the input a refusal is about.
 #[derive(Clone, Copy, Debug, PartialEq, Eq, Hash)]
 enum At {
     /// A byte of a table or a recording.
@@ -21,14 +21,14 @@ enum At {
 impl Refusal {
     pub(crate) const NO_ROW: Refusal = Refusal { number: 15, at: None };
 
-    /// What the answer of a fresh monitor's call says: the place in the table, times 256, and the number.
+    /// Decodes the answer of a fresh monitor's call: the place in the table, times 256, plus the number.
     pub(crate) fn of_table(answer: u64) -> Result<(), Refusal> {
         let (number, place) = ((answer % 256) as u8, answer / 256);
         if number == 0 { Ok(()) } else { Err(Refusal { number, at: Some(At::Byte(place)) }) }
     }
 
-    /// What the answer of the table writer says: the number of bytes written, times 256; or the row, times 256, and the
-    /// number, where it is not the buffer that is too short.
+    /// Decodes the answer of the table writer: the number of bytes written, times 256; or the row, times 256, plus the number.
+    /// A buffer that is too short has no row.
     pub(crate) fn of_writer(answer: u64) -> Result<usize, Refusal> {
         let (number, rest) = ((answer % 256) as u8, (answer / 256) as usize);
         match number {
@@ -38,7 +38,7 @@ impl Refusal {
         }
     }
 
-    /// What the answer of a step says.
+    /// Decodes the answer of a step.
     #[inline]
     pub(crate) fn of_step(number: u8) -> Result<(), Refusal> {
         if number == 0 { Ok(()) } else { Err(Refusal { number, at: None }) }
@@ -50,7 +50,7 @@ impl Refusal {
         self.number
     }
 
-    /// For a table's refusal the place of the length field concerned, in bytes: 0 for the version byte.
+    /// For the refusal of a table, the place of the length field concerned, in bytes; 0 for the version byte.
     pub fn place(&self) -> Option<u64> {
         match self.at {
             Some(At::Byte(place)) => Some(place),
@@ -58,7 +58,7 @@ impl Refusal {
         }
     }
 
-    /// For a refusal of [`write_table`](crate::write_table) the number of the row that is refused, from 0.
+    /// For a refusal of [`write_table`](crate::write_table), the number of the refused row, from 0.
     pub fn row(&self) -> Option<usize> {
         match self.at {
             Some(At::Row(row)) => Some(row),
@@ -66,13 +66,13 @@ impl Refusal {
         }
     }
 
-    /// What the number means, in a line.
+    /// A line of text for the number.
     pub fn text(&self) -> &'static str {
         refusal_text(self.number)
     }
 }
 
-/// What a refusal's number means, in a line, as `delkuthi_refusal_text` of the header says it. 0 is no refusal.
+/// A line of text for the number of a refusal, as `delkuthi_refusal_text` of the header has it. 0 is not a refusal.
 pub const fn refusal_text(number: u8) -> &'static str {
     match number {
         0 => "taken",

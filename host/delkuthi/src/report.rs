@@ -3,11 +3,11 @@
 use crate::ffi;
 use crate::monitor::Monitor;
 
-/// No report is longer.
+/// The length of the longest report.
 pub const REPORT_LIMIT: usize = 1024;
 
-/// Reads the table, takes all records, closes, and writes the report; gives the number of bytes written. If the buffer
-/// is too short it gives `None`, with nothing written. Bytes after those written stay as they were.
+/// Reads the table, takes all records, closes, and writes the report. Returns the number of bytes written. If the buffer is
+/// too short, it returns `None` and writes nothing. Bytes behind the report stay as they were.
 ///
 /// ```
 /// let table = [1, 0, 19, 1, 0, 1, 0, 0, 0, 0, 0, 0, 0, 2, 0, 0, 0, 0, 0, 0, 0, 3];
@@ -32,8 +32,9 @@ pub fn report(table: &[u8], recording: &[u8], buffer: &mut [u8]) -> Option<usize
 }
 
 impl Monitor {
-    /// The report of this monitor once it is closed, as [`report`] writes it for the same table and steps; gives the number of bytes
-    /// written. If the monitor is not closed, or the buffer is too short, it gives `None`, with nothing written.
+    /// Writes the report of this monitor, which must be closed, as [`report`] writes it for the same table and steps. Returns
+    /// the number of bytes written. If the monitor is not closed, or the buffer is too short, it returns `None` and writes
+    /// nothing; [`Monitor::closed`] tells which.
     ///
     /// ```
     /// use delkuthi::{Monitor, REPORT_LIMIT};
@@ -55,9 +56,9 @@ impl Monitor {
         if written == 0 { None } else { Some(written) }
     }
 
-    /// The report on a recording under a table, as [`report`] writes it, on this monitor, whatever it was: no other is on
-    /// the stack. If the table is refused the monitor stays as it was. Otherwise it has then taken the records up to the
-    /// first that was refused, or all of them and the close, however short the buffer is.
+    /// Writes the report on a recording under a table, as [`report`] writes it, with this monitor, so that no monitor is on the
+    /// stack. If the table is refused, the monitor stays as it was. Otherwise it has then taken the records up to the first
+    /// one that was refused, or all records and the close, even if the buffer is too short.
     ///
     /// ```
     /// use delkuthi::{Monitor, REPORT_LIMIT, Verdict, WORDS};

@@ -3,18 +3,18 @@
 use crate::ffi;
 use crate::refusal::Refusal;
 
-/// What a row reads at the close where stamps may be late.
+/// What a row reads at the close if stamps may be late.
 #[derive(Clone, Copy, Debug, PartialEq, Eq, Hash)]
 pub enum Stamped {
-    /// Each choice of true times meets the row.
+    /// Every choice of true times meets the row.
     Kept,
     /// None does.
     Broken,
-    /// One does, and another does not.
+    /// Some do, and some do not.
     Unsure,
 }
 
-/// Says what a Repeat row of span 1 reads at the close of a recording whose stamps are late by at most `late`: each event
+/// Says what a Repeat row of span 1 reads at the close of a recording whose stamps are late by at most `late`. Each event
 /// of the row happened at a time t with stamp - late <= t <= stamp and 0 <= t, each after the one before.
 ///
 /// ```

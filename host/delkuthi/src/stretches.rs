@@ -13,12 +13,13 @@ pub struct Stretch {
     pub first: u8,
     /// How many records it has.
     pub length: u16,
-    /// How many stretches were tried, by length and then by start, up to and with this one: its place in that order.
+    /// How many stretches were tried, by length and then by start, including this one.
     pub tried: u32,
 }
 
 /// Finds the shortest stretch of a recording's records that breaks a row, before any close, when a fresh monitor over this
-/// row alone is given them; among equals the earliest. A stretch that meets 12 on the way does not break the row.
+/// row alone takes them; among stretches of equal length the earliest. A stretch that meets 12 on the way does not break the
+/// row.
 ///
 /// ```
 /// use delkuthi::{Row, Stretch, TABLE_LIMIT, shortest_stretch, write_table};

@@ -1,21 +1,21 @@
-//! Rows by their fields' names, and the table of them.
+//! Rows, by the names of their fields, and the table writer.
 
 use crate::ffi;
 use crate::refusal::Refusal;
 
-/// No table is longer: a version byte, and for each of 32 rows a length field and at most 34 bytes.
+/// The length of the longest table: a version byte, and for each of 32 rows a length field and at most 34 bytes.
 pub const TABLE_LIMIT: usize = 1153;
 /// The upper of a Delay, Repeat or Sporadic that has no upper limit.
 pub const NO_LIMIT: u64 = u64::MAX;
 
-/// The newest edition of the table: the largest version byte that a table may begin with. Every function that takes a table takes all editions.
+/// The newest edition of the table: the largest version byte of a table. Every function that takes a table takes all editions.
 pub const NEWEST_EDITION: u8 = 2;
 /// The last type that the first edition of the table has.
 const FIRST_EDITION_TYPES: u8 = 10;
 
-/// How many bytes a row has when it is given to the writer: as many as the longest has, the rest being 0.
+/// The bytes of a row for the writer: as many as the longest row has. The rest are 0.
 const ROW_SIZE: usize = 34;
-/// How many rows the writer asks at most: the one behind the last that there is room for is refused.
+/// How many rows the writer reads at most: the 33rd is refused.
 const ASKED: usize = crate::ROW_LIMIT + 1;
 
 /// A row of a table. `include/delkuthi.h` says what each asks.
@@ -23,32 +23,32 @@ const ASKED: usize = crate::ROW_LIMIT + 1;
 #[allow(missing_docs)]
 pub enum Row<'a> {
     // Made by release/row-types.py, to the end of the list.
-    /// After each source a target, `lower` to `upper` later.
+    /// After each source a target comes, `lower` to `upper` later.
     Delay { source: u8, target: u8, lower: u64, upper: u64 },
-    /// The same, and the targets belong to the sources one by one.
+    /// The same, and each source has its own target, in order.
     StrongDelay { source: u8, target: u8, lower: u64, upper: u64 },
-    /// Of `span` + 1 events in a row the last comes `lower` to `upper` after the first.
+    /// In `span` + 1 consecutive events the last comes `lower` to `upper` after the first.
     Repeat { event: u8, span: u8, lower: u64, upper: u64 },
     /// Each event is 0 to `jitter` after a hidden point; the points are `lower` to `upper` apart.
     Sporadic { event: u8, lower: u64, upper: u64, jitter: u64, minimum: u64 },
-    /// At most `maximum` events in each stretch shorter than `length`, at least `minimum` apart.
+    /// Any time shorter than `length` has at most `maximum` events, and events are at least `minimum` apart.
     Burst { event: u8, maximum: u8, length: u64, minimum: u64 },
-    /// The targets belong to the sources one by one, none before its source.
+    /// Each source has its own target, in order, and none comes before its source.
     Order { source: u8, target: u8 },
-    /// The first events of the kinds, 2 to 4 of them, are at most `tolerance` apart, and so are the second, and so on.
+    /// The i-th events of the kinds, 2 to 4 of them, are at most `tolerance` apart.
     StrongSynchronization { kinds: &'a [u8], tolerance: u64 },
-    /// From each `start` to its `stop`, less the stretches from `preempt` to `resume`, it runs for `lower` to `upper`.
+    /// From each `start` to its `stop` it runs for `lower` to `upper`, without the time from `preempt` to `resume`.
     ExecutionTime { start: u8, stop: u8, preempt: u8, resume: u8, lower: u64, upper: u64 },
     /// The first response of a colour comes `minimum` to `maximum` after each stimulus of that colour.
     Reaction { stimulus: u8, response: u8, minimum: u64, maximum: u64 },
     /// Each event is 0 to `jitter` after a hidden point; points `span` places apart, 1 to 8, are `lower` to `upper` apart.
     Repetition { event: u8, span: u8, lower: u64, upper: u64, jitter: u64 },
-    /// Each event of the kinds, 2 to 4 of them, lies in a stretch of `tolerance` in which every kind has an event.
+    /// Each event of the kinds, 2 to 4 of them, lies in a window of `tolerance` in which every kind has an event.
     Synchronization { kinds: &'a [u8], tolerance: u64 },
 }
 
-/// Writes the table of some rows, in the first edition that has the types of all; gives the number of bytes written. Bytes
-/// after those written stay as they were. On a refusal all do.
+/// Writes the table of some rows, in the lowest edition that has all their types. Returns the number of bytes written. Bytes
+/// behind the table stay as they were. A refusal writes nothing.
 ///
 /// # Errors
 /// 3 to 7 and 18, with the first row concerned ([`Refusal::row`]); 16 a buffer too short.
@@ -65,12 +65,12 @@ pub fn write_table(rows: &[Row], table: &mut [u8]) -> Result<usize, Refusal> {
 }
 
 impl Row<'_> {
-    /// The first edition of the table that has the row's type: the version byte of a table with such a row is not below it.
+    /// The first edition that has the row's type. A table with such a row has this edition or a later one.
     pub fn edition(&self) -> u8 {
         if self.body()[0] <= FIRST_EDITION_TYPES { 1 } else { 2 }
     }
 
-    /// The row's type byte and fields, as many bytes as the longest has.
+    /// The row's type byte and fields, as many bytes as the longest row has.
     fn body(&self) -> [u8; ROW_SIZE] {
         match *self {
             // Made by release/row-types.py, to the end of the list.

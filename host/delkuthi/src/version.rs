@@ -1,4 +1,4 @@
-//! The version of this crate, and whether the archive that it is linked with is its own.
+//! The version of this crate, and whether the linked archive matches it.
 
 use crate::ffi;
 use crate::monitor::Monitor;
@@ -20,13 +20,13 @@ const fn number(digits: &str) -> u32 {
     number
 }
 
-/// The version of the archive that was linked.
+/// The version of the linked archive.
 pub fn library_version() -> u32 {
     ffi::delkuthi_version()
 }
 
-/// Has the archive that was linked the interface of this crate: the first two numbers of its version, and the size of a
-/// monitor? A [`Monitor`] is made only where it has.
+/// Does the linked archive have the interface of this crate? It does if the first two numbers of its version and the size of
+/// a monitor are the same. A [`Monitor`] can be made only if it does.
 pub fn matches() -> bool {
     ffi::delkuthi_version() / 1_000 == VERSION / 1_000 && ffi::delkuthi_monitor_size() == size_of::<Monitor>() as u64
 }

@@ -42,7 +42,11 @@ for (const section of document.querySelectorAll("section.log")) {
     button.setAttribute("role", "button");
     button.append(...heading.childNodes);
     button.addEventListener("click", () => sort(heading, column));
-    button.addEventListener("keydown", event => { if (event.key === "Enter") sort(heading, column); });
+    button.addEventListener("keydown", event => {
+      if (event.key !== "Enter" && event.key !== " ") return;
+      event.preventDefault();
+      sort(heading, column);
+    });
     heading.append(button);
   });
   tools.addEventListener("submit", event => event.preventDefault());

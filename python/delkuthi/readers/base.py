@@ -110,6 +110,8 @@ class Reader:
         #: The columns of a sheet, and what a scheduler trace is about, some of it: what it is (nothing where that is not said) and its name.
         self.columns: list[str] = []
         self.targets: set[tuple[str, str]] = set()
+        #: How many instances at once a scheduler trace has of what the table's rows name.
+        self.at_once: dict[tuple[str, str], int] = {}
         #: Called with the number of bytes of each line, where they are known, for a progress bar.
         self.progress: Callable[[int], object] | None = None
 

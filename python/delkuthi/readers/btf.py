@@ -6,9 +6,11 @@ comment. What the table does not ask for moves the clock.
 from __future__ import annotations
 
 import re
+from itertools import repeat
 from typing import Iterable, Iterator
 
 from ..batches import OTHER, Batch, Codes, NeedsSlowPath, Scale, Shape, batch_of, blocks
+from ..instances import Instances, TooManyInstances, executed_targets
 from ..signals import signal
 from ..sources import ACTIONS, TaskSource
 from ..units import UNITS, unit_of
@@ -21,6 +23,10 @@ _TIME = re.compile(r"[0-9]{1,40}")
 _SHAPE = Shape(b",,,,,,\n")
 #: Nothing but characters of ASCII that print, without blanks.
 _PLAIN = re.compile(rb"[!-~\r\n]*")
+
+
+#: What happens to a target as a line has it: its type, its name, the event; and the lane of the instance.
+_Key = tuple[bytes, bytes, bytes, int]
 
 
 class BtfReader(Reader):
@@ -55,9 +61,13 @@ class _Trace:
     def __init__(self, reader: BtfReader):
         self._reader, self._sources, self._scale = reader, task_sources(reader), "ns"
         self._waiting: Waiting = reader.state.setdefault("waiting", Waiting())
-        #: The codes of what happens to which target, and whether a table can name it.
-        self._known: dict[tuple[bytes, bytes, bytes], bytes] = {}
-        self._others: set[tuple[bytes, bytes, bytes]] = set()
+        self._targets = executed_targets(reader.table)
+        self._instances: Instances = reader.state.setdefault("instances", Instances(self._targets))
+        reader.at_once = self._instances.most
+        #: The codes of what happens to which target in which lane; which of that no table can name, and of what the instances are told apart.
+        self._known: dict[_Key, bytes] = {}
+        self._others: set[_Key] = set()
+        self._followed: dict[_Key, tuple[str, str]] = {}
 
     def read(self, lines: Iterable[tuple[int, str]]) -> Iterator[Stamped]:
         """The lines that have a stamp."""
@@ -78,8 +88,19 @@ class _Trace:
             else:
                 self._reader.target(target, cells[4])
                 action = self._waiting.action((cells[3], cells[4], cells[5]), cells[6].lower())
-                kinds = self._sources.get((target, cells[4], action), ())
+                kinds = self._kinds((target, cells[4]), action, self._lane((target, cells[4]), cells[5], action, number))
             yield Stamped(self._reader.time(stamp, unit, number), kinds, number)
+
+    def _lane(self, target: tuple[str, str], instance: str, action: str, number: int) -> int:
+        """The lane of an instance, where instances are told apart; else 0."""
+        try:
+            return self._instances.lane(target, instance, action) if target in self._targets else 0
+        except TooManyInstances as error:
+            raise self._reader.error(number, str(error)) from None
+
+    def _kinds(self, target: tuple[str, str], action: str, lane: int) -> tuple[int, ...]:
+        """The signals of what happens to a target: of its lane, and of all lanes."""
+        return tuple(kind for kind, of_lane in self._sources.get((*target, action), ()) if of_lane in (None, lane))
 
     def _header(self, text: str, number: int) -> None:
         """A line of the header, which may say the unit of the stamps: ``#timeScale ns``, or with a sign between."""
@@ -98,22 +119,36 @@ class _Trace:
         if not b"".join(cells[0::7]).isdigit() or max(map(len, cells[0::7])) > 40:
             raise NeedsSlowPath
         times = Scale(self._scale, self._reader.table.unit).times(cells[0::7])
-        keys = list(zip(cells[3::7], cells[4::7], cells[6::7]))
+        keys: list[_Key] = list(zip(cells[3::7], cells[4::7], cells[6::7], repeat(0)))
         for key in {*keys} - self._known.keys():
             self._learn(key, codes)
+        if self._followed:
+            self._follow(keys, cells[5::7], codes, number)
         self._reader.other_lines += sum(map(self._others.__contains__, keys)) if self._others else 0
         return batch_of(times, list(map(self._known.__getitem__, keys)), number)
 
-    def _learn(self, key: tuple[bytes, bytes, bytes], codes: Codes) -> None:
+    def _follow(self, keys: list[_Key], instances: list[bytes], codes: Codes, number: int) -> None:
+        """Gives the keys their lanes, of targets whose instances are told apart."""
+        for at, key in enumerate(keys):
+            if key in self._followed:
+                lane = self._lane(self._followed[key], instances[at].decode("ascii"), key[2].decode("ascii").lower(), number + at)
+                if lane:
+                    keys[at] = (*key[:3], lane)
+                    if keys[at] not in self._known:
+                        self._learn(keys[at], codes)
+
+    def _learn(self, key: _Key, codes: Codes) -> None:
         """The codes of what happens to a target, where nothing waits."""
-        letter, name, event = (cell.decode("ascii") for cell in key)
+        letter, name, event = (cell.decode("ascii") for cell in key[:3])
         target, action = TARGETS.get(letter.upper()), event.lower()
         if target is None or action not in ACTIONS:
             self._others.add(key)
             self._known[key] = bytes([OTHER])
         else:
             self._reader.target(target, name)
-            kinds = self._sources.get((target, name, action), ())
+            if (target, name) in self._targets and not key[3]:
+                self._followed[key] = target, name
+            kinds = self._kinds((target, name), action, key[3])
             self._known[key] = bytes(codes.of[kind] for kind in kinds) or bytes([OTHER])
 
 
@@ -123,14 +158,14 @@ def _nanoseconds(picoseconds: str) -> str:
     return f"{digits[:-3]}.{digits[-3:]}"
 
 
-def task_sources(reader: Reader) -> dict[tuple[str, str, str], tuple[int, ...]]:
-    """The signals of a table by what happens to which target: its type, its name, and the action."""
-    found: dict[tuple[str, str, str], tuple[int, ...]] = {}
+def task_sources(reader: Reader) -> dict[tuple[str, str, str], tuple[tuple[int, int | None], ...]]:
+    """The signals of a table, each with its lane, by what happens to which target: its type, its name, and the action."""
+    found: dict[tuple[str, str, str], tuple[tuple[int, int | None], ...]] = {}
     for event in reader.table.events:
         for source in event.sources:
             if isinstance(source, TaskSource):
                 key = source.target, source.name, source.action
-                found[key] = (*found.get(key, ()), signal(event.kind, source.colour))
+                found[key] = (*found.get(key, ()), (signal(event.kind, source.colour), source.lane))
     return found
 
 

@@ -27,11 +27,13 @@ class PythonCanReader(Reader):
         mapping, first = self.mapping(), _FIRST_CHANNEL.get(self._ending(), 0)
         file, read = getattr(reader, "file", None), 0
         for number, frame in enumerate(self._frames(reader), 1):
-            data = not frame.is_error_frame and not frame.is_remote_frame
+            if not isinstance(frame.timestamp, (int, float)) or not isinstance(frame.arbitration_id, int) or not isinstance(frame.data, bytearray):
+                raise self.error(number, "expected a frame with a time, an identifier and data")
             bus = str(frame.channel + first) if isinstance(frame.channel, int) else str(frame.channel or "")
             if bus:
                 self.buses.add(bus)
-            kinds = mapping.kinds(frame.arbitration_id, frame.is_extended_id, bus, bytes(frame.data)) if data else ()
+            data = not frame.is_error_frame and not frame.is_remote_frame
+            kinds = mapping.kinds(frame.arbitration_id, bool(frame.is_extended_id), bus, bytes(frame.data)) if data else ()
             yield Stamped(self._stamp(frame.timestamp, number), kinds, number)
             if self.progress is not None and number % 1000 == 0 and file is not None:
                 now = getattr(file, "buffer", file).tell()

@@ -56,6 +56,7 @@ class SeveralReader(Reader):
         before = (0, 0, 0)
         for number, one in enumerate(self._readers):
             one.progress, one.buses, one.others, one.columns, one.targets = self.progress, self.buses, self.others, self.columns, self.targets
+            one.at_once = self.at_once
             yield number << _BITS, one
             before = before[0] + one.skipped, before[1] + one.rounded, before[2] + one.other_lines
             self.skipped, self.rounded, self.other_lines = before

@@ -133,7 +133,7 @@ class Columns:
         """The signals by the name and the action, whatever it is that has the name."""
         found: dict[tuple[str, str], tuple[int, ...]] = {}
         for (_, name, action), kinds in task_sources(self.reader).items():
-            found[name, action] = (*found.get((name, action), ()), *kinds)
+            found[name, action] = (*found.get((name, action), ()), *(kind for kind, _ in kinds))
         return found
 
     def line(self, cells: list[str], number: int) -> Stamped:

@@ -1,7 +1,7 @@
 """Burst: at most maximum events in each length."""
 from __future__ import annotations
 
-from typing import TYPE_CHECKING, Iterator
+from typing import TYPE_CHECKING, Callable, Iterator, Mapping
 
 from ..fields import RowType
 from ..measure import margin_of
@@ -51,6 +51,9 @@ class Bursts(Spans):
     def limits(self) -> tuple[int | None, int | None]:
         return self.values["length"], None
 
+    def take_all(self, times: Mapping[int, list[int]], place: Callable[[int, int], int]) -> bool:
+        return False
+
     def take(self, time: int, place: int) -> None:
         if self.last:
             gap, minimum, sides = time - self.last[-1][0], self.values["minimum"], []
@@ -62,8 +65,11 @@ class Bursts(Spans):
                 side = margin_of(value, self.values["length"], None)
                 sides += [] if side is None else [side]
                 many = "more than maximum within length" if value < self.values["length"] else None
-                begin = self.last[-1] if close and not many else self.last[0]
-                self.measure.add(value, time, place, min(sides, default=None), begin, many or close)
+                margin = min(sides, default=None)
+                self.measure.judged += 1
+                self.measure.value(value, margin is not None and margin < 0)
+                blamed = (gap, self.last[-1]) if close and not many else (value, self.last[0])
+                self.measure.compare(blamed[0], time, place, margin, blamed[1], many or close)
             else:
                 # Before the first whole span an event is judged by its gap alone, which is no distance over the span.
                 self.measure.judged += 1
@@ -75,11 +81,12 @@ class Bursts(Spans):
 TYPE = RowType(
     5, "Burst", "{event:kind} maximum {maximum:count}, length {length:time}, minimum {minimum:time}",
     says="at most maximum events in each length",
-    means="At most `maximum` events in each stretch shorter than `length`, at least `minimum` apart.",
-    asks="""The event maximum places after another is at least length after it, so that shorter stretches have at most maximum
-        events; neighbours are at least minimum apart. Silence and the close break nothing.""",
-    manual="""any stretch shorter than length has at most maximum events, and neighbours are at least minimum apart. Silence
-        breaks nothing.""",
+    means="Any time shorter than `length` has at most `maximum` events, and events are at least `minimum` apart.",
+    asks="""The event maximum places after another one comes at least length after it, so that any stretch shorter than
+        length has at most maximum events. Neighbouring events are at least minimum apart. Silence and the close do not
+        break the row.""",
+    manual="""any time shorter than length has at most maximum events, and neighbours are at least minimum apart.
+        Silence breaks nothing.""",
     measures="distance over maximum places; the least distance of neighbours counts in the margin", each="each event but the first",
     reason=reason, forget=forget, windows=windows, measuring=Bursts, instance=("event", 1),
     example=("burst", "fault maximum 3, length 50 ms, minimum 2 ms",

@@ -2,12 +2,15 @@
 from __future__ import annotations
 
 from bisect import bisect_left, bisect_right
-from typing import TYPE_CHECKING, Iterator
+from collections import Counter
+from operator import sub
+from typing import TYPE_CHECKING, Callable, Iterator, Mapping
 
+from ..beginnings import Beginning
 from ..fields import RowType
 from ..fifo import Fifo
 from ..library import NO_LIMIT
-from ..measure import Moment, RowMeasuring, Taker, margin_of
+from ..measure import Moment, RowMeasuring, Taker, in_turn, margin_of
 from ..reasons import Blamed, Case, Reason, Times, Window, unanswered, until
 
 if TYPE_CHECKING:
@@ -41,6 +44,12 @@ def windows(row: Row, times: Times) -> Iterator[Window]:
     """For each source the stretch in which its target has to come."""
     for time in times.get(row.number("source"), ()):
         yield Window(row.number("target"), time + row.number("lower"), until(time, row.number("upper")))
+
+
+def _began(row: Row, signal: int, since: int, taken: Counter[int], left: Counter[int]) -> str:
+    """A source right at the beginning may have had its target before it, at the same time."""
+    at_once = signal == row.number("source") and not since and not row.number("lower")
+    return "maybe" if at_once else ""
 
 
 class Delays(RowMeasuring):
@@ -81,6 +90,23 @@ class Delays(RowMeasuring):
             value = time - source[0]
             self.measure.add(value, time, place, margin_of(value, self.lower, self.upper), source)
 
+    def take_all(self, times: Mapping[int, list[int]], place: Callable[[int, int], int]) -> bool:
+        source, target = self.values["source"], self.values["target"]
+        sources, targets = times.get(source, []), times.get(target, [])
+        given = in_turn(self.waiting, sources, targets, self.target[0])
+        if given is None:
+            return False
+        values = list(map(sub, targets, given))
+        if values and not self.measure.add_all(values, self.lower or 0, self.upper, targets, lambda at: place(target, at)):
+            return False
+        if targets and self.waiting:
+            self.waiting.pop()
+        if targets:
+            self.target = targets[-1], place(target, len(targets) - 1)
+        if len(given) > len(targets) and sources:
+            self.waiting.append(sources[-1], place(source, len(sources) - 1))
+        return True
+
     def end(self, clock: int, closed: bool) -> None:
         while self.waiting and (closed or self._over(clock)):
             self._miss(clock)
@@ -89,14 +115,16 @@ class Delays(RowMeasuring):
 TYPE = RowType(
     1, "Delay", "{source:kind} -> {target:kind}, {lower:time} .. {upper:limit}",
     says="after each source a target",
-    means="After each source a target, `lower` to `upper` later.",
-    asks="""For each source, at time s, a target comes at s + lower or later and at s + upper or earlier. One target may answer
-        several sources, and further targets do no harm. A source that has no target breaks the row once the clock is past s +
-        upper, and at the close. Without an upper limit the target may come however late, and only the close breaks the row.""",
-    manual="""after each source a target comes from lower to upper later. One target may answer several sources, and further
-        targets do no harm.""",
+    means="After each source a target comes, `lower` to `upper` later.",
+    asks="""For each source, at time s, a target comes at s + lower or later and at s + upper or earlier. One target may
+        answer several sources, and extra targets do no harm. A source without a target breaks the row once the clock is
+        past s + upper, and at the close. Without an upper limit the target may come at any later time, and only the close
+        breaks the row.""",
+    manual="""after each source a target comes, from lower to upper later. One target may answer several sources, and
+        extra targets do no harm.""",
     measures="latency: to the first target that is not too early", each="each source",
     reason=reason, forget=forget, windows=windows, measuring=Delays, instance=("source", 0), waits=True,
+    beginning=Beginning(_began),
     example=("delay", "pedal -> light, 2 ms .. 20 ms",
              {"pedal": "10 50", "light": "22 75"}),
 )

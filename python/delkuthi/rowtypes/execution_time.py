@@ -126,9 +126,16 @@ def windows(row: Row, times: Times) -> Iterator[Window]:
 
 
 def _began(row: Row, signal: int, since: int, taken: Counter[int], left: Counter[int]) -> str:
-    """What comes before the first start belongs to a run that began before the log."""
-    start = row.number("start")
-    return "surely" if signal != start and not taken[start] else ""
+    """What comes before the first start belongs to a run that began before the log, as long as it comes in the order of a run."""
+    start, stop, preempt, resume = (row.number(name) for name in _STAGES)
+    if signal == start or taken.total() or left[stop]:
+        return ""
+    if not left.total():
+        return "surely"
+    # Preempt and resume take turns: the first that was left out says which of them was the last.
+    first = next(iter(left))
+    last = first if left[preempt] != left[resume] else preempt if first == resume else resume
+    return "surely" if (signal == resume) == (last == preempt) else ""
 
 
 def _run(left: Counter[int]) -> int:
@@ -201,13 +208,14 @@ class Executions(RowMeasuring):
 TYPE = RowType(
     8, "ExecutionTime", "{start:kind} -> {stop:kind}, preempt {preempt:kind}, resume {resume:kind}, {lower:time} .. {upper:time}",
     says="from each start to its stop, without what lies from preempt to resume",
-    means="From each `start` to its `stop`, less the stretches from `preempt` to `resume`, it runs for `lower` to `upper`.",
-    asks="""The row's events come as a start, any number of pairs of a preempt and a resume, a stop, and again from a start, no
-        two at the same time. The running time, stop minus start less the stretches from preempt to resume, is lower to upper. An
-        event that may not come next breaks the row, and so does the clock once the running time is past upper, a preempt after
-        which no time is left to run, and a close after a start and before its stop.""",
-    manual="""the time from each start to its stop, without what lies from a preempt to its resume, is lower to upper. An event
-        that may not come next breaks the row too.""",
+    means="From each `start` to its `stop` it runs for `lower` to `upper`, without the time from `preempt` to `resume`.",
+    asks="""The row's events come in this order: a start, any number of pairs of a preempt and a resume, a stop, and then a
+        start again. No two have the same time. The running time is stop minus start, less the stretches from preempt to
+        resume, and it is lower to upper. The row breaks at an event out of this order, as soon as the running time up to
+        the clock is more than upper, at a preempt after which no time is left to run, and at a close between a start and
+        its stop.""",
+    manual="""the time from each start to its stop, without the time from each preempt to its resume, is lower to
+        upper. An event that is not allowed next breaks the row too.""",
     measures="running time", each="each run",
     reason=reason, forget=forget, windows=windows, measuring=Executions, instance=("start", 0), pending=pending,
     beginning=Beginning(_began, _run),

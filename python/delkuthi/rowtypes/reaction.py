@@ -1,8 +1,10 @@
 """Reaction: after each stimulus the first response of its colour."""
 from __future__ import annotations
 
+from collections import Counter
 from typing import TYPE_CHECKING, Iterator
 
+from ..beginnings import Beginning
 from ..fields import RowType
 from ..fifo import Fifo
 from ..measure import Moment, RowMeasuring, Taker, margin_of
@@ -62,6 +64,12 @@ def windows(row: Row, times: Times) -> Iterator[Window]:
         stimuli = times.get(stimulus, ())
         if len(stimuli) and stimuli[-1] + minimum <= stimuli[0] + maximum:
             yield Window(response, stimuli[-1] + minimum, stimuli[0] + maximum)
+
+
+def _began(row: Row, signal: int, since: int, taken: Counter[int], left: Counter[int]) -> str:
+    """A stimulus right at the beginning may have had its response before it, at the same time."""
+    at_once = signal in colours(row.number("stimulus")) and not since and not row.number("minimum")
+    return "maybe" if at_once else ""
 
 
 class _Colour:
@@ -128,16 +136,18 @@ TYPE = RowType(
     9, "Reaction", "{stimulus:coloured} -> {response:coloured}, {minimum:time} .. {maximum:time}",
     says="after each stimulus the first response of its colour",
     means="The first response of a colour comes `minimum` to `maximum` after each stimulus of that colour.",
-    asks="""Each stimulus needs a response of its colour, and it is the first response of that colour in the whole recording that
-        has to come minimum to maximum after it. So all stimuli of a colour share one response, and one that comes before any
-        stimulus is it already. Later responses do not count. A colour that has stimuli and no response breaks the row once the
-        clock is past its first stimulus + maximum, as soon as no time is left that suits all its stimuli, and at the close.""",
-    manual="""each stimulus needs a response of its colour, and it is the first response of that colour in the whole recording
-        that comes minimum to maximum after it. So a request that is repeated in one colour breaks the row: in the picture the
-        second `ask/1` finds the answer to the first, which came long before it. Give each request a colour of its own, 0 to 7, or
-        take a Delay or a StrongDelay, where each request has its own answer.""",
+    asks="""Each stimulus needs a response of its colour. The response is the first one of that colour in the whole
+        recording, and it must come minimum to maximum after the stimulus. So all stimuli of a colour share one response,
+        and a response before every stimulus counts as that response. Later responses do not count. A colour that has
+        stimuli and no response breaks the row once the clock is past its first stimulus + maximum, as soon as no time is
+        left that suits all its stimuli, and at the close.""",
+    manual="""each stimulus needs a response of its colour. The first response of that colour in the whole recording
+        comes minimum to maximum after it. So a request that is repeated in one colour breaks the row: in the picture
+        the second `ask/1` finds the answer to the first, which came long before it. Give each request its own colour,
+        0 to 7, or take a Delay or a StrongDelay, where each request has its own answer.""",
     measures="latency: from each stimulus to the first response of its colour in the whole recording", each="each stimulus",
     reason=reason, forget=forget, windows=windows, measuring=Reactions, instance=("stimulus", 0), words=16, pending=pending,
+    beginning=Beginning(_began),
     example=("chain", "ask -> answer, 3 ms .. 8 ms",
              {"ask": "10/1 30/2 60/1", "answer": "15/1 36/2 66/1"}),
 )

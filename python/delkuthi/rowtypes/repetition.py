@@ -100,11 +100,11 @@ TYPE = RowType(
     10, "Repetition", "{event:kind} span {span:few}, {lower:time} .. {upper:time}, jitter {jitter:time}",
     says="each event at most jitter after its point, the points span places apart so far apart",
     means="Each event is 0 to `jitter` after a hidden point; points `span` places apart, 1 to 8, are `lower` to `upper` apart.",
-    asks="""Each event is 0 to jitter after a hidden point of its own. The points are at least 0 and rise, and a point is lower to
-        upper after the one span places before it. An event for which there is no such point breaks the row; the first span events
-        never do. Silence and the close break nothing.""",
-    manual="""each event is 0 to jitter after a point of its own, points rise, and each is lower to upper after the one span
-        places before it. Silence breaks nothing.""",
+    asks="""Each event comes 0 to jitter after its own hidden point. The points are at least 0 and increase, and a point is
+        lower to upper after the one span places before it. An event for which there is no such point breaks the row; the
+        first span events never do. Silence and the close do not break the row.""",
+    manual="""each event is 0 to jitter after its own point. Points increase, and each is lower to upper after the
+        point span places before it. Silence breaks nothing.""",
     measures="distance over the span", each="each event span places after another",
     reason=reason, forget=forget, windows=windows, measuring=Repetitions, instance=("event", "span"),
     example=("rhythm", "beat span 2, 40 ms .. 40 ms, jitter 4 ms",

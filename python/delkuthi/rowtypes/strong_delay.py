@@ -2,12 +2,13 @@
 from __future__ import annotations
 
 from collections import Counter
-from typing import TYPE_CHECKING
+from operator import sub
+from typing import TYPE_CHECKING, Callable, Mapping
 
 from ..beginnings import Beginning
 from ..fields import RowType
 from ..fifo import Fifo
-from ..measure import Moment, RowMeasuring, Taker, margin_of
+from ..measure import Moment, RowMeasuring, Taker, in_turn, margin_of
 from ..reasons import Blamed, Case, Reason, alone, plain, unanswered
 from .delay import windows
 
@@ -45,8 +46,11 @@ def forget(case: Case) -> None:
 
 
 def _began(row: Row, signal: int, since: int, taken: Counter[int], left: Counter[int]) -> str:
-    """A target may belong to a source before the log as long as that would not be too long ago, and no other target was taken."""
-    return "maybe" if signal == row.number("target") and not taken[signal] and since < row.number("upper") else ""
+    """A target may belong to a source before the log as long as that would not be too long ago, and no other target was taken.
+    A source right at the beginning may have had its target before it, at the same time."""
+    if signal == row.number("target"):
+        return "maybe" if not taken[signal] and since <= row.number("upper") else ""
+    return "maybe" if not since and not row.number("lower") and not taken.total() else ""
 
 
 class Pairs(RowMeasuring):
@@ -101,6 +105,21 @@ class Pairs(RowMeasuring):
         else:
             self.early = time, place
 
+    def take_all(self, times: Mapping[int, list[int]], place: Callable[[int, int], int]) -> bool:
+        source, target = self.values["source"], self.values["target"]
+        sources, targets = times.get(source, []), times.get(target, [])
+        given = in_turn(self.waiting, sources, targets, -1)
+        if given is None or self.early is not None:
+            return False
+        values = list(map(sub, targets, given))
+        if values and not self.measure.add_all(values, self.lower or 0, self.upper, targets, lambda at: place(target, at)):
+            return False
+        if targets and self.waiting:
+            self.waiting.pop()
+        if len(given) > len(targets) and sources:
+            self.waiting.append(sources[-1], place(source, len(sources) - 1))
+        return True
+
     def end(self, clock: int, closed: bool) -> None:
         self._settle(clock + (1 if closed or self.lower else 0))
         while self.waiting and (closed or self._over(clock)):
@@ -110,11 +129,12 @@ class Pairs(RowMeasuring):
 TYPE = RowType(
     2, "StrongDelay", "{source:kind} -> {target:kind}, {lower:time} .. {upper:time}",
     says="after each source its own target",
-    means="The same, and the targets belong to the sources one by one.",
-    asks="""The first target belongs to the first source, the second to the second, and so on, and each comes lower to upper after
-        its source. A target too early, or one too many, breaks the row at once, a source without its target as in Delay.""",
-    manual="""the first target belongs to the first source, the second to the second, and so on, each from lower to upper after
-        its source. A target too early, or one too many, breaks the row at once.""",
+    means="The same, and each source has its own target, in order.",
+    asks="""The first target belongs to the first source, the second to the second, and so on, and each comes lower to
+        upper after its source. A target that is too early, or one too many, breaks the row at once. A source without its
+        target breaks it as in a Delay.""",
+    manual="""the first target belongs to the first source, the second to the second, and so on. Each comes from lower
+        to upper after its source. A target that is too early, or one target too many, breaks the row at once.""",
     measures="latency: from the first source to the first target, the second to the second, and so on", each="each pair",
     reason=reason, forget=forget, windows=windows, measuring=Pairs, instance=("source", 0), waits=True,
     beginning=Beginning(_began),

@@ -59,9 +59,9 @@ def windows(row: Row, times: Times) -> Iterator[Window]:
 
 
 def _began(row: Row, signal: int, since: int, taken: Counter[int], left: Counter[int]) -> str:
-    """The first events of a kind may belong to groups before the log, for less than tolerance; of one kind at least each is there."""
+    """The first events of a kind may belong to groups before the log, up to tolerance; of one kind at least none does."""
     others = any(not left[kind] for kind in row.kinds if kind != signal)
-    return "maybe" if not taken[signal] and since < row.number("tolerance") and others else ""
+    return "maybe" if not taken[signal] and since <= row.number("tolerance") and others else ""
 
 
 def _groups(left: Counter[int]) -> int:
@@ -115,11 +115,11 @@ class Groups(RowMeasuring):
 TYPE = RowType(
     7, "StrongSynchronization", "{kinds:kinds}, tolerance {tolerance:time}",
     says="the events of all kinds in groups within tolerance",
-    means="The first events of the kinds, 2 to 4 of them, are at most `tolerance` apart, and so are the second, and so on.",
-    asks="""The first events of all the kinds are at most tolerance apart, and so are the second, the third, and so on. A group
-        that lacks a kind breaks the row once the clock is past its first event + tolerance, and at the close.""",
-    manual="""the first events of all the kinds are at most tolerance apart, and so are the second, the third, and so on. A group
-        that lacks a kind breaks the row once tolerance is over.""",
+    means="The i-th events of the kinds, 2 to 4 of them, are at most `tolerance` apart.",
+    asks="""The first events of all the kinds are at most tolerance apart, and so are the second, the third, and so on. A
+        group that lacks a kind breaks the row once the clock is past its first event + tolerance, and at the close.""",
+    manual="""the first events of all kinds are at most tolerance apart. So are the second events, the third, and so
+        on. A group that lacks a kind breaks the row once tolerance is over.""",
     measures="width: from the first event of a group to the last", each="each group",
     reason=reason, forget=forget, windows=windows, measuring=Groups, instance=("kinds", 0), waits=True,
     beginning=Beginning(_began, _groups),

@@ -31,17 +31,17 @@ def _window(full: Sequence[int], time: int, tolerance: int) -> int | None:
 
 def _alone(case: Case) -> list[tuple[int, int, int]]:
     """The events that lie in no full window, each with its time, its kind and its number. What is not known or forgotten may have
-    made a window full for those that came less than tolerance after it."""
+    made a window full for those that came up to tolerance after the beginning."""
     tolerance = case.number("tolerance")
     groups = [case.of(kind).times for kind in case.row.kinds]
-    full, known = _full(groups, tolerance), 0 if case.begin is None else case.begin + tolerance
+    full, unknown = _full(groups, tolerance), -1 if case.begin is None else case.begin + tolerance
     return [(time, kind, number) for kind, times in zip(case.row.kinds, groups) for number, time in enumerate(times)
-            if time >= known and _window(full, time, tolerance) is None]
+            if time > unknown and _window(full, time, tolerance) is None]
 
 
 def _lone(case: Case, until: int) -> int:
-    """The events before a time that lie in no full window."""
-    return sum(time < until for time, _, _ in _alone(case))
+    """The events up to a time that lie in no full window."""
+    return sum(time <= until for time, _, _ in _alone(case))
 
 
 def pending(case: Case) -> int:
@@ -51,7 +51,7 @@ def pending(case: Case) -> int:
 
 def forget(case: Case) -> None:
     """Forgets the events that are in no window with one that could still be blamed."""
-    begin = case.clock - 2 * case.number("tolerance")
+    begin = case.clock - 2 * case.number("tolerance") - 1
     if case.begin is None or begin > case.begin:
         case.begin = begin
         for kind in case.row.kinds:
@@ -147,7 +147,7 @@ class Widths(RowMeasuring):
             self._close(*self.open.popleft(), time)
 
     def _close(self, time: int, place: int, width: int | None, now: int) -> None:
-        if width is None and self.begin is not None and time < self.begin + self.tolerance:
+        if width is None and self.begin is not None and time <= self.begin + self.tolerance:
             return  # what came before the log may have been there for it
         if width is None:
             self.measure.miss((time, place), "no stretch of tolerance around it has every kind", time + self.tolerance, now)
@@ -163,14 +163,14 @@ class Widths(RowMeasuring):
 TYPE = RowType(
     11, "Synchronization", "{kinds:kinds}, tolerance {tolerance:time}",
     says="each event in a stretch of tolerance with an event of every kind",
-    means="Each event of the kinds, 2 to 4 of them, lies in a stretch of `tolerance` in which every kind has an event.",
-    asks="""Each event of the kinds lies in a full window: a stretch from some time to tolerance later in which every one of the kinds
-        has an event. Windows may overlap, one event may serve several, and a kind may have several events in one: unlike type 7 it
-        counts nothing. An event that lies in no full window breaks the row once the clock is past it + tolerance, and at the
-        close.""",
-    manual="""each event lies in a stretch of tolerance in which every one of the kinds has an event. Unlike in a StrongSynchronization
-        nothing is counted: a kind may have several events in such a stretch, and one event may serve two of them. An event around
-        which a kind is missing breaks the row once tolerance is over.""",
+    means="Each event of the kinds, 2 to 4 of them, lies in a window of `tolerance` in which every kind has an event.",
+    asks="""Each event of the kinds lies in a full window: a stretch from some time to tolerance later in which every one
+        of the kinds has an event. Windows may overlap, one event may be in several, and a kind may have several events in
+        one: unlike type 7 it does not count events. An event that lies in no full window breaks the row once the clock is
+        past it + tolerance, and at the close.""",
+    manual="""each event lies in a window of length tolerance in which every kind has an event. Unlike a
+        StrongSynchronization it does not count events: a kind may have several events in a window, and one event may
+        lie in two windows. An event in no such window breaks the row once tolerance is over.""",
     measures="width of the shortest stretch with an event of every kind that the event lies in; the greatest is the least tolerance that "
              "would do", each="each event",
     reason=reason, forget=forget, windows=windows, measuring=Widths, instance=("kinds", 0), edition=2, pending=pending,

@@ -1,5 +1,5 @@
 -- The loop reads row after row: the record holds the rows read so far, and what is read from the place on, behind them, is the whole.
-use Rattle.table.proofs.Names.{ReadsAt, RowRead, _-_, arith, length, needs, now}
+use Rattle.table.proofs.Names.{ReadsAt, RowRead, _-_, arith, length, needs, now, refl}
 use Rattle.table.proofs.Progress.{ReadUpTo, up-to-end, up-to-more, up-to-refused, up-to-start}
 use Rattle.table.proofs.{Places.place-taken, reader.read_rows.Statement.statement}
 use Rattle.table.proofs.reader.read_rows.Tie as tie
@@ -29,9 +29,8 @@ loop-again c =
     let bytes = now (at-loop .before .before .before .args .bytes) in
     let room = place-taken (at-loop .before .before .before .args .edition) bytes (at-loop .loop .table .count) (at-loop .loop .place) _
     (row (c .before .before) .1) .room in
-    rw (c .with-row .ensures .room room)
-    (up-to-more (at-loop .before .before .before .args .edition) bytes (at-loop .loop .table) (at-loop .loop .place) _ _ (at-loop .loop .inv)
-    (omega arith) (row (c .before .before)))
+    up-to-more (at-loop .before .before .before .args .edition) bytes (at-loop .loop .table) (c .with-row .result) (at-loop .loop .place) _ _
+    (at-loop .loop .inv) (omega arith) (row (c .before .before)) (c .with-row .ensures .room room)
 
 returns : tie.Need-returns Inv-loop μ-loop
 returns c =
@@ -45,9 +44,11 @@ returns c =
 
 returns-2 : tie.Need-returns-2 Inv-loop μ-loop
 returns-2 c =
-    let at-loop = c .before in
-    up-to-end (at-loop .before .before .before .args .edition) (now (at-loop .before .before .before .args .bytes)) (at-loop .loop .table)
-    (at-loop .loop .place) (at-loop .loop .inv) (c .loop-test .left)
+    let at-loop = c .before in (
+      up-to-end (at-loop .before .before .before .args .edition) (now (at-loop .before .before .before .args .bytes)) (at-loop .loop .table)
+          (at-loop .loop .place) (at-loop .loop .inv) (c .loop-test .left),
+      refl,
+    )
 
 pub read-rows-spec : {M : Type 1} → statement M
 read-rows-spec =

@@ -1,0 +1,9 @@
+-- Why the promise holds after every list of the exported calls.
+mod Names
+mod Words
+mod Reading
+mod Reached
+mod Recorded
+pub mod LentExact
+pub mod Session
+pub mod Apart

@@ -157,7 +157,7 @@ def _check_one(given: argparse.Namespace, how: Policy, path: str | list[str], sp
 
 def _violations(path: str, table: Table, outcomes: Sequence[Outcome]) -> None:
     """One file with the violations of all logs."""
-    found = chain.from_iterable(outcome.violations for outcome in outcomes if outcome.violations is not None)
+    found = chain.from_iterable(outcome.violations.values() for outcome in outcomes if outcome.violations is not None)
     try:
         with open(path, "wb") as file:
             write_violations(file, suffix_of(path), table.unit, found)

@@ -4,8 +4,8 @@
     rename.py [--root DIR]          renames in DIR (default: the repository of this file); a second run changes nothing
     rename.py --list [--root DIR]   says how often each line of the table applies, and changes nothing
     rename.py --imports [--root DIR] says which names are imported from files that do not declare them
-    rename.py --check OLD NEW       renames a copy of the tree OLD and says where the code, the specs or the proofs of the tree NEW differ from it in
-                                    more than layout; status 1 where they do
+    rename.py --check OLD NEW       holds the code, specs and proofs of the tree NEW, renamed by this program or by hand, to those of OLD: but for layout,
+                                    comments and use lines they are the same signs, and each name is the old one or the table's; status 1 if not
 
 After it: rt fmt, release/links.py --write, release/row-types.py (nothing may differ), release/text-check.py.
 
@@ -32,10 +32,8 @@ The table has a line for each name:
 Names are resolved by the use lines of each file, so that one word can have several meanings.
 """
 import re
-import shutil
 import subprocess
 import sys
-import tempfile
 from pathlib import Path
 
 HERE = Path(__file__).resolve().parent
@@ -492,7 +490,7 @@ def new_path(tree, path):
     made = [parts[0], table.crates.get(crate, crate), parts[2]]
     if parts[2] == "src" and parts[-1].endswith(".rt"):
         stem = parts[-1][:-3]
-        made += [*parts[3:-1], table.modules.get((crate, stem), stem) + ".rt"]
+        made += [*parts[3:-1], (table.modules.get((crate, stem)) or names.get(stem, stem)) + ".rt"]
     elif parts[2] in ("specs", "proofs"):
         inner = parts[3:]
         stem = "/".join(inner)[:-5]
@@ -877,18 +875,14 @@ def done(tree):
     return not any(old in tree.crates for old in tree.table.crates)
 
 
-def flat(text):
-    """A text without its layout: use lines in order, comments left out."""
-    words, uses = [], set()
-    for line in text.split("\n"):
-        if line.lstrip().startswith(("--", "//")):
-            continue
-        if re.match(r"\s*(?:ghost |pub |unfoldable )*use ", line):
-            match = re.match(r"\s*((?:ghost |pub |unfoldable )*use )(.*?)(?:\.\{(.*)\})?;?$", line)
-            uses |= {f"{match[1]}{match[2]}.{item.strip()}" for item in match[3].split(",")} if match[3] else {line.strip()}
-        else:
-            words += line.split()
-    return sorted(uses), re.sub(r",(?=\s*[)}\]])", "", " ".join(words)).replace("( ", "(").replace(" )", ")")
+TOKEN = re.compile(rf"{NAME}+|[^\s\w]")
+
+
+def tokens(text, mark):
+    """The names and signs of a text, without its layout, comments and use lines."""
+    lines = [line for line in text.split("\n") if not line.lstrip().startswith(mark) and not re.match(r"\s*(?:ghost |pub |unfoldable )*use ", line)]
+    found = [token for token in TOKEN.findall("\n".join(lines))]
+    return [token for token, after in zip(found, [*found[1:], ""]) if not (token in ",;" and after and after in ")}]")]
 
 
 def unknown(tree):
@@ -904,19 +898,38 @@ def unknown(tree):
 
 
 def check(old, new):
-    """What differs between a tree that is renamed here and one that was renamed."""
-    with tempfile.TemporaryDirectory() as folder:
-        copy = Path(folder) / "tree"
-        shutil.copytree(old, copy, ignore=shutil.ignore_patterns("target", "build", ".git"))
-        main(["--root", str(copy)])
-        subprocess.run(["rt", "fmt"], cwd=copy, capture_output=True, check=False)
-        ours = {str(p.relative_to(copy)): p.read_text(encoding="utf-8") for p in copy.glob("crates/**/*") if p.suffix in (".rt", ".antt")}
-    theirs = {str(p.relative_to(new)): p.read_text(encoding="utf-8") for p in Path(new).glob("crates/**/*") if p.suffix in (".rt", ".antt")}
-    differ = [path for path in sorted({*ours, *theirs}) if path not in ours or path not in theirs or flat(ours[path]) != flat(theirs[path])]
-    for path in differ:
-        print(path, "" if path in ours and path in theirs else "is in one of the trees alone")
-    print(f"{len(ours)} files renamed, {len(theirs)} there, {len(differ)} differ")
-    return bool(differ)
+    """Whether the trees differ by the table's names alone: file by file the same signs, and for each old name a new one that no other name has."""
+    tree = Tree(old, Table(HERE / "names.txt"))
+    wrong, shared, pairs, number = [], set(), {}, 0
+    for path in [*tree.code, *tree.proofs]:
+        file = Path(new) / new_path(tree, path)
+        if not file.is_file():
+            wrong.append(f"{path}: there is no {file}")
+            continue
+        mark = "//" if path.endswith(".rt") else "--"
+        before, after = tokens(tree.texts[path], mark), tokens(file.read_text(encoding="utf-8"), mark)
+        if len(before) != len(after):
+            wrong.append(f"{path}: {len(before)} names and signs become {len(after)}")
+            continue
+        own = {}
+        for one, other in zip(before, after):
+            number += 1
+            if own.setdefault(other, one) != one:
+                shared.add(f"{path}: {' and '.join(sorted((own[other], one)))} are both {other} now: the checker tells them apart")
+            if one != other:
+                pairs[one, other] = pairs.get((one, other), 0) + 1
+    table = {(rest[-2], rest[-1]) if kind not in ("name", "word") else rest[:2] for kind, rest in tree.table.lines if kind != "text"}
+    table |= {(kebab(one), kebab(other)) for one, other in table}
+    words = {rest[:2] for kind, rest in tree.table.lines if kind == "word"}
+    for one, other in sorted(pairs):
+        base = tuple(re.sub(r"^(?:Need-|After-)|\d*(?:-spec|-requires(?:-\d+)?)?$", "", name) for name in (one, other))
+        if (one, other) not in table and base not in table and \
+                "-".join(dict(words).get(part, part) for part in one.split("-")) != other:
+            wrong.append(f"{one} becomes {other}, which no line of the table says")
+    extra = {str(p.relative_to(new)) for p in Path(new).glob("crates/**/*") if p.suffix in (".rt", ".antt")} - {new_path(tree, p) for p in tree.texts}
+    print("\n".join([*wrong, *sorted(shared), *(f"{path} is new" for path in sorted(extra))]))
+    print(f"{len(tree.code) + len(tree.proofs)} files, {number} names and signs, {len(pairs)} names changed at {sum(pairs.values())} places, {len(wrong)} wrong")
+    return bool(wrong)
 
 
 def main(words):

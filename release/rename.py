@@ -605,7 +605,7 @@ def document_name(tree, path, alone, own):
                    for (crate, where, old), _ in lines if old == path[0] and where != "declared"}
         homes = {code.path for code in tree.code.values() if path[0] in code.declared} | \
             {proof.path for proof in tree.proofs.values() if path[0] in proof.declared and "/specs/" in proof.path}
-        if len(meanings) == 1 and (distinct(path[0]) or path[0][0].isupper()) and (own or homes <= covered):
+        if len(meanings) == 1 and (distinct(path[0]) or path[0][0].isupper() or alone and not own) and (own or homes <= covered):
             made[0] = meanings.pop()
     for old, new, _ in table.names(None):
         if made[-1] == path[-1] == old and (distinct(old) or old[0].isupper() or len(path) > 1 or alone):

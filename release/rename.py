@@ -624,6 +624,7 @@ def renamed(tree):
     code_made = {}
     for path, code in tree.code.items():
         edits = Edits(path, code.text)
+        put_texts(tree, edits)
         comments = comment_spans(code.text, "//")
         plain = outside(code.text, code.ghost + comments)
         code_edits(tree, code, edits)
@@ -907,7 +908,9 @@ def check(old, new):
             wrong.append(f"{path}: there is no {file}")
             continue
         mark = "//" if path.endswith(".rt") else "--"
-        before, after = tokens(tree.texts[path], mark), tokens(file.read_text(encoding="utf-8"), mark)
+        replaced = Edits(path, tree.texts[path])
+        put_texts(tree, replaced)
+        before, after = tokens(replaced.result(), mark), tokens(file.read_text(encoding="utf-8"), mark)
         if len(before) != len(after):
             wrong.append(f"{path}: {len(before)} names and signs become {len(after)}")
             continue
@@ -928,6 +931,9 @@ def check(old, new):
             wrong.append(f"{one} becomes {other}, which no line of the table says")
     extra = {str(p.relative_to(new)) for p in Path(new).glob("crates/**/*") if p.suffix in (".rt", ".antt")} - {new_path(tree, p) for p in tree.texts}
     print("\n".join([*wrong, *sorted(shared), *(f"{path} is new" for path in sorted(extra))]))
+    for file, one, other in tree.table.of("text"):
+        if file.startswith("crates/"):
+            print(f"{file}: {one} is written {other}")
     print(f"{len(tree.code) + len(tree.proofs)} files, {number} names and signs, {len(pairs)} names changed at {sum(pairs.values())} places, {len(wrong)} wrong")
     return bool(wrong)
 

@@ -4,10 +4,10 @@
     rename.py [--root DIR]          renames in DIR (default: the repository of this file); a second run changes nothing
     rename.py --list [--root DIR]   says how often each line of the table applies, and changes nothing
     rename.py --imports [--root DIR] says which names are imported from files that do not declare them
-    rename.py --check OLD NEW       holds the code, specs and proofs of the tree NEW, renamed by this program or by hand, to those of OLD: but for layout,
-                                    comments and use lines they are the same signs, and each name is the old one or the table's; status 1 if not
+    rename.py --check OLD NEW       holds the code, specs and proofs of the tree NEW, renamed by this program or by hand, to those of OLD: but for
+                                    layout, comments and use lines they are the same signs, and each name is the old one or the table's
 
-After it: rt fmt, release/links.py --write, release/row-types.py (nothing may differ), release/text-check.py.
+After it: rt fmt, cargo fmt --all in host, release/links.py --write, release/row-types.py (nothing may differ), release/text-check.py.
 
 Drafts in the old names: lay a draft over a checkout of the tree that it was made for, and run the program there.
     git worktree add ../old COMMIT && cd ../old
@@ -372,16 +372,16 @@ def put_names(tree, edits, crate, spans, proof):
         for pattern, to in patterns:
             for found in pattern.finditer(edits.text):
                 if inside(found.start(), spans):
-                    made = pattern.sub(to, found[0]) if False else found.expand(to)
                     if (found.start(), found.end()) not in edits.found or not part:
-                        edits.put(*found.span(), made)
+                        edits.put(*found.span(), found.expand(to))
                         tree.table.count("word" if part else "name", old, new)
 
 
 def put_fields(tree, edits, crate, spans):
     for old, new in tree.table.fields(crate):
         pattern = re.compile(rf"(?<=[\s(]\.){re.escape(old)}(?!{NAME})|(?<=\w\.){re.escape(old)}(?=[^\w(]|$)"
-                             rf"|(?<!{NAME}){re.escape(old)}(?= =[\s]|: )|(?<=pub ){re.escape(old)}(?= ?:)|(?<!{NAME}){re.escape(old)}(?=,? *\n *\}}|, \w+[,:] )")
+                             rf"|(?<!{NAME}){re.escape(old)}(?= =[\s]|: )|(?<=pub ){re.escape(old)}(?= ?:)"
+                             rf"|(?<!{NAME}){re.escape(old)}(?=,? *\n *\}}|, \w+[,:] )")
         number = edits.match(pattern, new, spans)
         for _ in range(number):
             tree.table.count("field", *[one for one in tree.table.of("field") if one[1:] == (old, new)][0])
@@ -621,7 +621,6 @@ def renamed(tree):
     """The new texts by their new paths."""
     paths = {path: new_path(tree, path) for path in tree.texts}
     made = {}
-    code_made = {}
     for path, code in tree.code.items():
         edits = Edits(path, code.text)
         put_texts(tree, edits)
@@ -635,7 +634,6 @@ def renamed(tree):
         put_uses(tree, edits, code.ghost)
         put_definitions(tree, edits, path, code.ghost)
         put_comments(tree, edits, comments, paths)
-        code_made[path] = edits
         made[path] = edits.result()
     for path, proof in tree.proofs.items():
         edits = Edits(path, proof.text)
@@ -694,7 +692,8 @@ def put_rust(tree, edits):
         if edits.path.startswith(tuple(folders.split(","))) and edits.path.endswith(".rs") and f"let {old} =" not in edits.text:
             uses = [match.span() for match in re.finditer(r"(?<=\{)[^{}]*(?=\};)", edits.text)]
             edits.match(re.compile(rf"(?<![\w.:]){old}(?=\()"), new)
-            edits.match(re.compile(rf"(?<![\w:]){old}(?![\w:(])"), new, [span for span in uses if re.search(r"use [\w:]*\{$", edits.text[:span[0]][-60:])])
+            uses = [span for span in uses if re.search(r"use [\w:]*\{$", edits.text[:span[0]][-60:])]
+            edits.match(re.compile(rf"(?<![\w:]){old}(?![\w:(])"), new, uses)
 
 
 def put_generator(tree, edits):
@@ -801,7 +800,7 @@ def wrapped(path, text, before):
 
 def wrapped_document(text, there):
     """A document: what is too much for a line goes to the next one of the paragraph."""
-    done, rest = [], ""
+    done, rest, rest_indent = [], "", ""
     for line in text.split("\n"):
         indent = re.match(r" *", line)[0]
         if rest:
@@ -842,7 +841,8 @@ def break_place(line):
     words = re.match(r"\s*(--|//)|[\w*`-]", line)
     for place, sign in enumerate(line[:WIDTH + 1]):
         depth += {"(": 1, "{": 1, "[": 1, "⌜": 1, ")": -1, "}": -1, "]": -1, "⌝": -1}.get(sign, 0)
-        if sign == " " and place > start + 30 and not re.match(r" [.=:)}⌝]| in$| in ", line[place:]) and not re.search(r"(λ|let|=|:)( [^\s.]+)*$", line[:place][-20:]):
+        if sign == " " and place > start + 30 and not re.match(r" [.=:)}⌝]| in$| in ", line[place:]) \
+                and not re.search(r"(λ|let|=|:)( [^\s.]+)*$", line[:place][-20:]):
             level = 0 if words else depth
             bonus = re.match(r" [→∙×∷]", line[place:]) is None
             if best is None or (level, bonus) <= best[0]:
@@ -934,7 +934,8 @@ def check(old, new):
     for file, one, other in tree.table.of("text"):
         if file.startswith("crates/"):
             print(f"{file}: {one} is written {other}")
-    print(f"{len(tree.code) + len(tree.proofs)} files, {number} names and signs, {len(pairs)} names changed at {sum(pairs.values())} places, {len(wrong)} wrong")
+    print(f"{len(tree.code) + len(tree.proofs)} files, {number} names and signs, {len(pairs)} names changed at {sum(pairs.values())} places, "
+          f"{len(wrong)} wrong")
     return bool(wrong)
 
 

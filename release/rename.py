@@ -3,7 +3,7 @@
 
     rename.py [--root DIR]          renames in DIR (default: the repository of this file); a second run changes nothing
     rename.py --list [--root DIR]   says how often each line of the table applies, and changes nothing
-    rename.py --imports [--root DIR] says which names are imported from files that do not declare them
+    rename.py --imports [--root DIR]  says which names are imported from files that do not declare them, and which must-fail edits have lost their text
     rename.py --check OLD NEW       holds the code, specs and proofs of the tree NEW, renamed by this program or by hand, to those of OLD: but for
                                     layout, comments and use lines they are the same signs, and each name is the old one or the table's
 
@@ -731,32 +731,34 @@ def put_comments(tree, edits, comments, paths):
 
 
 def put_edit(tree, edits, path, paths):
-    """A must-fail edit: its texts are of the file that it names."""
+    """A must-fail edit: each of its texts is of the file that it names."""
     crate = path.split("/")[1]
-    match = re.search(r"^file: (\S+)", edits.text, re.M)
-    file = f"crates/{crate}/{match[1]}"
-    edits.put(*match.span(1), "/".join(paths[file].split("/")[2:]))
-    head = edits.text.find("\n", match.end())
-    if file in tree.proofs:
-        spans = [(head, len(edits.text))]
-        put_uses(tree, edits, spans)
-        put_definitions(tree, edits, file, spans)
-        put_names(tree, edits, crate, spans, True)
-        put_fields(tree, edits, crate, spans)
-        return
-    code = tree.code[file]
-    text = blank(edits.text[:head], [(0, head)]) + re.sub(r"(?m)^(old|new):", lambda m: " " * len(m[0]), edits.text[head:])
-    spans = ghost_spans(text)
-    part = Code(path, text)
-    part.plain = blank(text, spans + comment_spans(text, "//"))
-    part.module, part.uses, part.declared, part.submodules = code.module, code.uses, code.declared, code.submodules
-    inner = Edits(path, text)
-    callers = {key: set(value) for key, value in tree.callers.items()}
+    found = list(re.finditer(r"^file: (\S+)", edits.text, re.M))
+    for match, after in zip(found, [*found[1:], None]):
+        file = f"crates/{crate}/{match[1]}"
+        edits.put(*match.span(1), "/".join(paths[file].split("/")[2:]))
+        span = (match.end(), after.start() if after else len(edits.text))
+        if file in tree.proofs:
+            put_uses(tree, edits, [span])
+            put_definitions(tree, edits, file, [span])
+            put_names(tree, edits, crate, [span], True)
+            put_fields(tree, edits, crate, [span])
+        else:
+            put_edited_code(tree, edits, tree.code[file], span)
+
+
+def put_edited_code(tree, edits, code, span):
+    """The texts of a must-fail edit that are code."""
+    others = [(0, span[0]), (span[1], len(edits.text))]
+    text = re.sub(r"(?m)^(old|new):", lambda match: " " * len(match[0]), blank(edits.text, others))
+    part = Code(code.path, text)
+    part.module, part.uses, part.declared, part.submodules, part.functions = code.module, code.uses, code.declared, code.submodules, []
+    inner = Edits(edits.path, text)
     code_edits(tree, part, inner)
-    tree.callers = callers
-    plain = [(head, len(text))]
-    put_names(tree, inner, crate, outside(text, spans), False)
-    put_fields(tree, inner, crate, plain)
+    put_names(tree, inner, code.crate, [span], False)
+    put_fields(tree, inner, code.crate, [span])
+    put_uses(tree, inner, part.ghost)
+    put_definitions(tree, inner, code.path, part.ghost)
     for (start, end), new in inner.found.items():
         edits.put(start, end, new)
 
@@ -898,6 +900,16 @@ def unknown(tree):
                 yield f"{path}: {crate} has no {'.'.join(where)}"
 
 
+def lost(tree):
+    """The must-fail edits whose text is not in the file that they name."""
+    for path, text in tree.texts.items():
+        for file, part in re.findall(r"(?ms)^file: (\S+)\n(.*?)(?=^file: |\Z)", text) if path.endswith(".edit") else []:
+            known = tree.texts.get(f"crates/{path.split('/')[1]}/{file}", "")
+            for old in re.findall(r"(?ms)^old: (.*?)(?=^new:|^old:|\Z)", part):
+                if old.rstrip("\n") not in known:
+                    yield f"{path}: {old.strip()!r} is not in {file}"
+
+
 def check(old, new):
     """Whether the trees differ by the table's names alone: file by file the same signs, and for each old name a new one that no other name has."""
     tree = Tree(old, Table(HERE / "names.txt"))
@@ -946,7 +958,7 @@ def main(words):
     table = Table(HERE / "names.txt")
     tree = Tree(root, table)
     if "--imports" in words:
-        print("\n".join(found := sorted(set(unknown(tree)))))
+        print("\n".join(found := sorted({*unknown(tree), *lost(tree)})))
         return bool(found)
     if done(tree):
         print("no crate has an old name: nothing is changed")

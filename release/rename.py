@@ -3,7 +3,7 @@
 
     rename.py [--root DIR]          renames in DIR (default: the repository of this file); a second run changes nothing
     rename.py --list [--root DIR]   says how often each line of the table applies, and changes nothing
-    rename.py --imports [--root DIR]  says which names are imported from files that do not declare them, and which must-fail edits have lost their text
+    rename.py --imports [--root DIR]  says which imported names are declared nowhere, and which must-fail edits have lost their text
     rename.py --check OLD NEW       holds the code, specs and proofs of the tree NEW, renamed by this program or by hand, to those of OLD: but for
                                     layout, comments and use lines they are the same signs, and each name is the old one or the table's
 

@@ -427,7 +427,9 @@ def put_path(tree, edits, crate, before, path, place):
     for number, part in enumerate(path):
         whole = [*before, *path[:number]]
         new = None
-        if whole and whole[0] in ("specs", "proofs"):
+        if whole[1:] == ["declared"]:
+            new = table.definitions.get((crate, "declared", part)) or table.modules.get((crate, part))
+        elif whole and whole[0] in ("specs", "proofs"):
             inner = "/".join([*whole[1:], part])
             new = table.files.get((crate, whole[0], inner), "").split("/")[-1] or None
             if whole[0] == "proofs" and new is None:
@@ -893,6 +895,9 @@ def unknown(tree):
     for path, known in {**tree.proofs, **tree.code}.items():
         for crate, where, name, _ in known.imports:
             file = tree.module(crate, where)
+            if file and file.startswith("declared") and f"crates/{crate}/src/{where[2]}.rt" not in tree.code \
+                    and not any(where[2] in code.declared for code in tree.code.values() if code.crate == crate):
+                yield f"{path}: {crate} declares no {where[2]}"
             if name and file and not file.startswith("declared") and name not in tree.proofs[file].declared \
                     and not re.search(rf"(?m)^.*\buse .*[{{ .]{re.escape(name)}(?=[ ,}}])|^  {re.escape(name)} :", tree.texts[file]):
                 yield f"{path}: {crate} {'.'.join(where)} has no {name}"

@@ -639,6 +639,7 @@ def renamed(tree):
         made[path] = edits.result()
     for path, proof in tree.proofs.items():
         edits = Edits(path, proof.text)
+        put_texts(tree, edits)
         comments = comment_spans(proof.text, "--")
         plain = outside(proof.text, comments)
         put_uses(tree, edits, plain)

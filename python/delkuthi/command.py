@@ -216,7 +216,8 @@ def _table(given: argparse.Namespace) -> int:
         return KEPT
     if given.table is None:
         raise LogError("delkuthi table", "", "expected a table, or --grammar")
-    data = Path(given.table).read_bytes()[:1]
+    with open(given.table, "rb") as file:
+        begin = file.read(1)
     if is_arxml(given.table):
         table = timing_table(given, given.unit)
         if given.json:
@@ -229,8 +230,8 @@ def _table(given: argparse.Namespace) -> int:
     if given.unit and given.takeover is None:
         if table.unit is not None:
             raise LogError(given.table, "", f"the table has the unit {table.unit} already")
-        table = Table(table.rows, table.events, given.unit, table.databases, table.folder)
-    to_text = given.text or not given.bytes and (is_bytes(data) or given.takeover is not None or given.output is None)
+        table = Table(table.rows, table.events, given.unit, table.databases, table.folder, table.comments)
+    to_text = given.text or not given.bytes and (is_bytes(begin) or given.takeover is not None or given.output is None)
     if not to_text:
         refuse_windows(table, given.table, range(len(table.rows)), "the bytes of a table do not take it")
     write(given.output, table.text() if to_text else table.bytes())

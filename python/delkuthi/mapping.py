@@ -21,6 +21,7 @@ class CanMapping:
         self._by_identifier: dict[tuple[int, bool], list[tuple[int, _FrameTest | _SignalTest]]] = {}
         #: The identifiers of the data frames that the log has, and whether they are extended.
         self.met: set[tuple[int, bool]] = set()
+        self._known: dict[tuple[int, bool], tuple[int, ...] | None] = {}
         #: Where the signals stand that the table names.
         self.layouts: dict[str, SignalLayout] = {}
         for event in table.events:
@@ -34,6 +35,12 @@ class CanMapping:
 
     def kinds(self, identifier: int, extended: bool, bus: str, data: bytes) -> tuple[int, ...]:
         """The signals that a data frame is an event of, in the order of the event lines."""
+        if (identifier, extended) not in self._known:
+            self._known[identifier, extended] = self.known(identifier, extended)
+        known = self._known[identifier, extended]
+        if known is not None:
+            self.met.add((identifier, extended))
+            return known
         return tuple(dict.fromkeys(number for number, places in self.events(identifier, extended, bus, [data]) if places))
 
     def events(self, identifier: int, extended: bool, bus: str, data: Sequence[bytes]) -> list[tuple[int, Sequence[int]]]:

@@ -81,12 +81,12 @@ class Bursts(Spans):
 TYPE = RowType(
     5, "Burst", "{event:kind} maximum {maximum:count}, length {length:time}, minimum {minimum:time}",
     says="at most maximum events in each length",
-    means="At most `maximum` events in each stretch shorter than `length`, at least `minimum` apart.",
+    means="Any time shorter than `length` has at most `maximum` events, and events are at least `minimum` apart.",
     asks="""The event maximum places after another one comes at least length after it, so that any stretch shorter than
         length has at most maximum events. Neighbouring events are at least minimum apart. Silence and the close do not
         break the row.""",
-    manual="""any stretch shorter than length has at most maximum events, and neighbours are at least minimum apart. Silence
-        breaks nothing.""",
+    manual="""any time shorter than length has at most maximum events, and neighbours are at least minimum apart.
+        Silence breaks nothing.""",
     measures="distance over maximum places; the least distance of neighbours counts in the margin", each="each event but the first",
     reason=reason, forget=forget, windows=windows, measuring=Bursts, instance=("event", 1),
     example=("burst", "fault maximum 3, length 50 ms, minimum 2 ms",

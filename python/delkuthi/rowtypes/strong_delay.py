@@ -129,12 +129,12 @@ class Pairs(RowMeasuring):
 TYPE = RowType(
     2, "StrongDelay", "{source:kind} -> {target:kind}, {lower:time} .. {upper:time}",
     says="after each source its own target",
-    means="The same, and the targets belong to the sources one by one.",
+    means="The same, and each source has its own target, in order.",
     asks="""The first target belongs to the first source, the second to the second, and so on, and each comes lower to
         upper after its source. A target that is too early, or one too many, breaks the row at once. A source without its
         target breaks it as in a Delay.""",
-    manual="""the first target belongs to the first source, the second to the second, and so on, each from lower to upper after
-        its source. A target too early, or one too many, breaks the row at once.""",
+    manual="""the first target belongs to the first source, the second to the second, and so on. Each comes from lower
+        to upper after its source. A target that is too early, or one target too many, breaks the row at once.""",
     measures="latency: from the first source to the first target, the second to the second, and so on", each="each pair",
     reason=reason, forget=forget, windows=windows, measuring=Pairs, instance=("source", 0), waits=True,
     beginning=Beginning(_began),

@@ -27,6 +27,18 @@ def kept(tmp_path):
     return tmp_path
 
 
+def test_text_is_80_columns_wide(command):
+    """Messages and measures, of a log and of a part of it; with 0 each message is a line, and other widths are taken."""
+    for words in (["drive.txt", "drive.csv"], ["bench/bus.txt", "bench/bus.log"], ["bench/tasks.txt", "bench/tasks.btf"]):
+        words = ["check", *words, "--measure"]
+        for more in ([], ["--cut"], ["--from", "+50 ms", "--to", "+200 ms"]):
+            out = command(*words, *more, cwd=EXAMPLES)[1]
+            assert out and max(map(len, out.splitlines())) <= 80, out
+            assert command(*words, *more, "--width", "0", cwd=EXAMPLES)[1] == re.sub(r"\n {4,7}(?! )(?![0-9,]+ judged|least )", " ", out)
+    assert max(map(len, command(*words, "--width", "120", cwd=EXAMPLES)[1].splitlines())) > 80
+    assert command(*words, "--width", "20", cwd=EXAMPLES)[0] == 2
+
+
 def test_the_four_statuses(command, kept):
     assert command("check", "kept.txt", "kept.csv") == (0, "kept.csv: 1 row, 1 kept, 0 broken; 2 events in 2 lines\n", "")
     assert command("check", TABLE, CSV)[0] == 1

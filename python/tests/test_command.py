@@ -1,4 +1,5 @@
 """The command: statuses, options, many logs, text and bytes, and what the program of the same name does."""
+import gzip
 import io
 import json
 import os
@@ -25,6 +26,13 @@ def kept(tmp_path):
     (tmp_path / "kept.txt").write_text(KEPT)
     (tmp_path / "kept.csv").write_text("time,event\n1,a\n3,b\n")
     return tmp_path
+
+
+def test_a_trace_that_is_packed(command, kept):
+    for name, opened in (("a.json", open), ("a.json.gz", gzip.open)):
+        assert command("check", "kept.txt", "kept.csv", "--trace", name)[0] == 0
+        with opened(kept / name, "rt", encoding="utf-8") as file:
+            assert json.load(file)["traceEvents"]
 
 
 def test_text_is_80_columns_wide(command):

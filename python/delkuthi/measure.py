@@ -15,6 +15,7 @@ from typing import TYPE_CHECKING, Any, Callable, Iterable, Iterator, Mapping, Na
 
 from .fifo import Fifo
 from .library import NO_LIMIT
+from .sketch import Sketch
 
 if TYPE_CHECKING:
     from .table import Row, Table
@@ -133,6 +134,8 @@ class Measure:
     worst: Instance | None = None
     missed: Moment | None = None
     histogram: Histogram = field(default_factory=Histogram)
+    #: For percentiles.
+    sketch: Sketch = field(default_factory=Sketch)
     #: Called with each instance that is not as asked.
     note: Callable[[Finding], None] | None = None
 
@@ -172,6 +175,7 @@ class Measure:
         self.least = value if self.least is None else min(self.least, value)
         self.greatest = value if self.greatest is None else max(self.greatest, value)
         self.histogram.add(value, outside)
+        self.sketch.add(value)
 
     def add_all(self, values: Sequence[int], lower: int, upper: int | None, ends: Sequence[int], place: Callable[[int], int]) -> bool:
         """Instances with values that are all within their limits, each with the time and the place that it ends at; nothing is added, and the
@@ -207,6 +211,7 @@ class Measure:
         self.least = least if self.least is None else min(self.least, least)
         self.greatest = greatest if self.greatest is None else max(self.greatest, greatest)
         self.histogram.add_all(values)
+        self.sketch.add_all(values)
 
     def miss(self, moment: Moment, what: str, due: int | None = None, now: int | None = None) -> None:
         """One instance that has no partner, or is out of order, by the event of this moment; ``now`` is when that is certain."""

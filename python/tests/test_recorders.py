@@ -46,7 +46,8 @@ def test_tessla(tmp_path):
 
 
 @pytest.mark.parametrize("text, said", [
-    ("pedal\n", ":1: expected a line of a TeSSLa trace, such as 10: pedal = true"), ("1: speed = fast\n", ":1: expected a number for speed, found fast"),
+    ("pedal\n", ":1: expected a line of a TeSSLa trace, such as 10: pedal = true"),
+    ("1: speed = fast\n", ":1: expected a number for speed, found fast"),
     ("$timeunit = eons\n", ":1: expected $timeunit with one of ns, us"), ("-1: pedal\n", ":1: expected a line of a TeSSLa"),
     ('$timeunit = "ns"\n1: pedal\n', ":2: the stamp 1 ns is no whole number of us")])
 def test_tessla_errors(tmp_path, text, said):
@@ -159,7 +160,8 @@ def pcapng(order="<", *interfaces):
 
 
 def packet(order, interface, time, data):
-    return block(order, 6, struct.pack(f"{order}5I", interface, time >> 32, time & 0xFFFFFFFF, len(data), len(data)) + data + b"\0" * (-len(data) % 4))
+    head = struct.pack(f"{order}5I", interface, time >> 32, time & 0xFFFFFFFF, len(data), len(data))
+    return block(order, 6, head + data + b"\0" * (-len(data) % 4))
 
 
 @pytest.mark.parametrize("order", "<>")
@@ -189,7 +191,8 @@ HEAD = struct.pack("<IHHiIII", 0xA1B2C3D4, 2, 4, 0, 0, 65535, 227)
     (HEAD + struct.pack("<4I", 1, 1, 1 << 30, 0), ": packet 1: expected a packet, found one of 1073741824 bytes"),
     (b"\x0a\x0d\x0d\x0a" + b"\0" * 8, ": packet 1: expected a section of pcapng"),
     (pcapng() + packet("<", 3, 1, b""), ": packet 1: a packet of the interface 3 with 0 bytes"),
-    (pcapng() + block("<", 3, b"\0" * 4), ": packet 1: a packet without a stamp"), (pcapng() + block("<", 1, b""), ": packet 1: the file ends within it"),
+    (pcapng() + block("<", 3, b"\0" * 4), ": packet 1: a packet without a stamp"),
+    (pcapng() + block("<", 1, b""), ": packet 1: the file ends within it"),
     (pcapng() + struct.pack("<2I", 6, 13), ": packet 1: expected a block of pcapng, found one of 13 bytes"),
     (pcapng("<", (227, b"", 0)) + packet("<", 0, 1, FRAMES[0])[:-8], ": packet 1: the file ends within it"),
 ], ids=map(str, range(13)))
@@ -276,13 +279,15 @@ event light from csv "light_on"
 event fast from column "speed.value" rises above 5
 event door from column "door.state" becomes "open"
 """
-TRACE = [("pedal_pressed", 1_000_000, {}), ("speed", 2_000_000, {"value": 5}), ("speed", 3_000_000, {"value": 6}), ("door", 3_500_000, {"state": "shut"}),
+TRACE = [("pedal_pressed", 1_000_000, {}), ("speed", 2_000_000, {"value": 5}), ("speed", 3_000_000, {"value": 6}),
+         ("door", 3_500_000, {"state": "shut"}),
          ("light_on", 4_000_000, {"level": 0.5}), ("door", 4_000_000, {"state": "open"}), ("other", 5_000_000, {})]
 
 
 def test_ctf_of_babeltrace(tmp_path, command):
     trace = ctf_trace(tmp_path / "trace", TRACE)
-    expected = [(1000, ["pedal_pressed"], 1), (2000, [], 2), (3000, ["fast"], 3), (3500, [], 4), (4000, ["light"], 5), (4000, ["door"], 6), (5000, [], 7)]
+    expected = [(1000, ["pedal_pressed"], 1), (2000, [], 2), (3000, ["fast"], 3), (3500, [], 4), (4000, ["light"], 5),
+                (4000, ["door"], 6), (5000, [], 7)]
     assert read(trace, CTF) == expected
     (tmp_path / "t.txt").write_text(CTF + "Delay pedal_pressed -> light, 0 ms .. 2 ms\n")
     status, printed, _ = command("check", "t.txt", trace, "--width", "0")
@@ -429,3 +434,14 @@ def test_a_header_that_never_comes(tmp_path):
     path = tmp_path / "a.csv"
     path.write_text("Model,MSO44\n" * 300 + "TIME,CH1\n")
     assert error(path, SHEET) == "a.csv:1: expected a column time, found Model, MSO44"
+
+
+def test_pages_of_what_has_no_lines(tmp_path, command):
+    """A page on a CTF folder and on a pcap file."""
+    trace = ctf_trace(tmp_path / "trace", TRACE)
+    (tmp_path / "t.txt").write_text(CTF + "Delay pedal_pressed -> light, 0 ms .. 2 ms\n")
+    assert command("check", "t.txt", trace, "--html", "a.html", "--plot", "a.svg", "--trace", "a.json", "--junit", "a.xml")[0] == 1
+    written(tmp_path / "a.pcap", FRAMES, 227)
+    (tmp_path / "u.txt").write_text(BUS + "Delay brake -> lamp, 0 ms .. 2 ms\n")
+    assert command("check", "u.txt", "a.pcap", "--html", "b.html")[0] == 1
+    assert all("broken" in (tmp_path / name).read_text(encoding="utf-8") for name in ("a.html", "b.html"))

@@ -84,7 +84,7 @@
  *   - give the event again once something has answered in that row. Its time
  *     then has to be in order, and the verdicts are about that time;
  *   - for the next run, shorten that row's upper limit, or put the row into a
- *     monitor of its own, where a 12 affects no other row.
+ *     separate monitor, where a 12 affects no other row.
  * A report ends at the first refusal, and a 12 is one: the report is then the
  * one line "refused 12 P".
  *
@@ -147,7 +147,7 @@
  * step also holds for a withdrawal and for the calls that only read, the limit
  * of report_on for delkuthi_report_of. Link the host statically or with
  * -Wl,-z,now: otherwise the loader resolves a function at its first call, and
- * that takes 3 KiB more on the caller's stack.
+ * that takes about 3 KiB more on the caller's stack.
  *
  *
  * THE TABLE

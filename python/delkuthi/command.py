@@ -157,7 +157,7 @@ def _check_one(given: argparse.Namespace, how: Policy, path: str | list[str], sp
 
 def _violations(path: str, table: Table, outcomes: Sequence[Outcome]) -> None:
     """One file with the violations of all logs."""
-    found = chain.from_iterable(outcome.violations for outcome in outcomes if outcome.violations is not None)
+    found = chain.from_iterable(outcome.violations.values() for outcome in outcomes if outcome.violations is not None)
     try:
         with open(path, "wb") as file:
             write_violations(file, suffix_of(path), table.unit, found)
@@ -230,7 +230,7 @@ def _table(given: argparse.Namespace) -> int:
     if given.unit and given.takeover is None:
         if table.unit is not None:
             raise LogError(given.table, "", f"the table has the unit {table.unit} already")
-        table = Table(table.rows, table.events, given.unit, table.databases, table.folder)
+        table = Table(table.rows, table.events, given.unit, table.databases, table.folder, table.comments)
     to_text = given.text or not given.bytes and (is_bytes(begin) or given.takeover is not None or given.output is None)
     if not to_text:
         refuse_windows(table, given.table, range(len(table.rows)), "the bytes of a table do not take it")

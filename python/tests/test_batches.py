@@ -101,7 +101,8 @@ def as_asc(rng, lines):
             octets = data.hex(" ").upper() if rng.random() < 0.99 else "01 0"
             name = " Name" if named and rng.random() < 0.99 else ""
             way = "Rx" if rng.random() < 0.99 else rng.choice(["TxRq", "Tx", "Rz"])
-            text += f"   {time // 10**6}.{time % 10**6:06d} CANFD   {bus[-1]} {way}   {0x100 + kind:X}{name}  1 0 9 {len(data)} {octets} 1 2 3 {0:X}\n"
+            stamp = f"{time // 10**6}.{time % 10**6:06d}"
+            text += f"   {stamp} CANFD   {bus[-1]} {way}   {0x100 + kind:X}{name}  1 0 9 {len(data)} {octets} 1 2 3 0\n"
             continue
         bytes_of = data.hex(" ").upper()
         rest = rng.choice(["", "  Length = 5 BitCount = 4"]) if rng.random() < 0.9 else rng.choice([" 0", " AB", "A"])

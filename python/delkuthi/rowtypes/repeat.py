@@ -66,9 +66,9 @@ class Spans(RowMeasuring):
     def take_all(self, times: Mapping[int, list[int]], place: Callable[[int, int], int]) -> bool:
         event, span = self.values["event"], self.span
         given, before = times[event], [time for time, _ in self.last]
-        all_times, first = before + given, span - len(before)
+        all_times, first = before + given, max(span - len(before), 0)
         values = list(map(sub, all_times[span:], all_times))
-        if values and not self.measure.add_all(values, self.lower or 0, self.upper, given[max(first, 0) :], lambda at: place(event, at + max(first, 0))):
+        if values and not self.measure.add_all(values, self.lower or 0, self.upper, given[first:], lambda at: place(event, at + first)):
             return False
         for at in range(max(len(given) - span, 0), len(given)):
             self.last.append((given[at], place(event, at)))

@@ -16,18 +16,16 @@ class Streams:
     """The events of a table by the names that a log has: each value of that name is one, or where a condition on it becomes true."""
 
     def __init__(self, reader: Reader):
-        self._reader, self._kinds = reader, named_kinds(reader.table)
-        for event in reader.table.events:
-            # Where a column's samples say when it comes, a value of its own name is no event by itself.
-            if any(isinstance(source, ColumnSource) for source in event.sources) and CsvSource(event.name) not in event.sources:
-                self._kinds.pop(event.name)
+        self._reader = reader
+        columns = [(event, source) for event in reader.table.events for source in event.sources if isinstance(source, ColumnSource)]
+        # Where a column's samples say when an event comes, a value of its own name is none by itself.
+        by_column = {event.name for event, _ in columns if CsvSource(event.name) not in event.sources}
+        self._kinds = {name: kinds for name, kinds in named_kinds(reader.table).items() if name not in by_column}
         self._samples: dict[str, list[tuple[int, Condition, Edge]]] = {}
-        for event in reader.table.events:
-            for source in event.sources:
-                if isinstance(source, ColumnSource):
-                    number = signal(event.kind, source.colour)
-                    edge = reader.state.setdefault(f"edge {number} {source}", Edge(source.condition))
-                    self._samples.setdefault(source.column.strip().lower(), []).append((number, source.condition, edge))
+        for event, source in columns:
+            number = signal(event.kind, source.colour)
+            edge = reader.state.setdefault(f"edge {number} {source}", Edge(source.condition))
+            self._samples.setdefault(source.column.strip().lower(), []).append((number, source.condition, edge))
 
     @property
     def sampled(self) -> list[str]:

@@ -305,7 +305,8 @@ def _add_check(commands: Any) -> None:
     one = commands.add_parser("check", help="check logs against a table", epilog=_EXAMPLES, formatter_class=_PLAIN)
     one.add_argument("table", metavar="TABLE", help="a text table, table.bin, or an ARXML file with AUTOSAR timing requirements")
     one.add_argument("log", metavar="LOG", nargs="+",
-                     help=".csv, .tsv, .xlsx, .log (candump), .asc, .trc, .btf, .bin; with python-can .blf ..; - is the standard input")
+                     help=".csv, .tsv, .xlsx, .log (candump), .asc, .blf, .trc, .btf, .pcap, .pcapng, .tessla, .bin; a CTF folder, .mf4, what "
+                          "python-can reads; - is the standard input")
     one.add_argument("--exercised", action="store_true", help="a row that the log never exercises is a failure: status 1")
     one.add_argument("--measure", action="store_true", help="what each row measures beside what it asks, and the margin to its limit")
     one.add_argument("--as-one", action="store_true", help="the logs are one drive, one behind the other")

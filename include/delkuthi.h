@@ -84,7 +84,7 @@
  *   - give the event again once something has answered in that row. Its time
  *     then has to be in order, and the verdicts are about that time;
  *   - for the next run, shorten that row's upper limit, or put the row into a
- *     monitor of its own, where a 12 affects no other row.
+ *     separate monitor, where a 12 affects no other row.
  * A report ends at the first refusal, and a 12 is one: the report is then the
  * one line "refused 12 P".
  *

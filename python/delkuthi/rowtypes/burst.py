@@ -102,9 +102,9 @@ TYPE = RowType(
     asks="""The event maximum places after another one comes at least length after it, so that any stretch shorter than
         length has at most maximum events. Neighbouring events are at least minimum apart. Silence and the close do not
         break the row.""",
-    manual="""any time shorter than length has at most maximum events, and neighbours are at least minimum apart.
-        Silence breaks nothing.""",
-    measures="distance over maximum places; the least distance of neighbours counts in the margin", each="each event but the first",
+    manual="""any stretch of time shorter than length has at most maximum events. Neighbouring events are at least
+        minimum apart. Silence does not break the row.""",
+    measures="distance over maximum places; the margin also counts the least distance of neighbours", each="each event but the first",
     reason=reason, forget=forget, windows=windows, measuring=Bursts, instance=("event", 1),
     example=("burst", "fault maximum 3, length 50 ms, minimum 2 ms",
              {"fault": "10 14 18 62 66 70 74"}),

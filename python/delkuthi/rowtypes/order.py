@@ -67,7 +67,7 @@ TYPE = RowType(
     means="Each source has its own target, in order, and none comes before its source.",
     asks="""The first target belongs to the first source, the second to the second, and so on, and no target comes before
         its source. A source may wait for its target until the close.""",
-    manual="""the first target belongs to the first source, the second to the second, and so on, and none comes before
+    manual="""the first target belongs to the first source, the second to the second, and so on. No target comes before
         its source. A source may wait for its target until the end of the recording.""",
     measures="lag from each source to its target", each="each pair",
     reason=reason, forget=forget, windows=windows, measuring=Lags, instance=("source", 0), pending=pending,

@@ -137,9 +137,9 @@ TYPE = RowType(
     asks="""The first target belongs to the first source, the second to the second, and so on, and each comes lower to
         upper after its source. A target that is too early, or one too many, breaks the row at once. A source without its
         target breaks it as in a Delay.""",
-    manual="""the first target belongs to the first source, the second to the second, and so on. Each comes from lower
-        to upper after its source. A target that is too early, or one target too many, breaks the row at once.""",
-    measures="latency: from the first source to the first target, the second to the second, and so on", each="each pair",
+    manual="""the first target belongs to the first source, the second to the second, and so on. Each target comes
+        lower to upper after its source. A target that is too early, or one target too many, breaks the row at once.""",
+    measures="latency: from the first source to the first target, from the second to the second, and so on", each="each pair",
     reason=reason, forget=forget, windows=windows, measuring=Pairs, instance=("source", 0), waits=True,
     beginning=Beginning(_began),
     example=("strong delay", "request -> reply, 5 ms .. 20 ms",

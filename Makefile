@@ -56,7 +56,7 @@ help:
 
 # The archive is proved and built, or copied byte for byte from the folder that DELKUTHI_LIB names. Its parts are compiled separately:
 # the search for a stretch uses what a step uses, and in one unit the compiler would optimise the steps differently.
-PARTS := delkuthi stretch_host status
+PARTS := delkuthi stretch_ffi queries
 ifdef DELKUTHI_LIB
 ARCHIVES := $(DELKUTHI_LIB)/libdelkuthi.a
 put_together = cp $(ARCHIVES) $@.new
@@ -103,10 +103,15 @@ $(BUILD)/delkuthi.3: release/delkuthi.3.in release/manual.py VERSION $(HEADERS)
 	@mkdir -p $(BUILD)
 	python3 release/manual.py library $@
 
-trace: $(BUILD)/TRACE.md
-$(BUILD)/TRACE.md: release/trace.py docs/READING.md docs/CONTRACT.md VERSION $(wildcard host/*/tests/*.rs)
+trace: $(BUILD)/TRACE.md $(BUILD)/READING.md
+TRACED := release/trace.py docs/READING.md docs/CONTRACT.md VERSION $(wildcard host/*/tests/*.rs) $(shell find crates -name '*.antt' -o -name '*.rt')
+$(BUILD)/TRACE.md: $(TRACED)
 	@mkdir -p $(BUILD)
 	python3 release/trace.py $@
+
+$(BUILD)/READING.md: $(TRACED)
+	@mkdir -p $(BUILD)
+	python3 release/trace.py --links $@
 
 # A distribution has two packages: what a host needs to run, and what it needs to be compiled.
 install-lib: $(BUILD)/$(SHARED)

@@ -84,7 +84,7 @@
  *   - give the event again once something has answered in that row. Its time
  *     then has to be in order, and the verdicts are about that time;
  *   - for the next run, shorten that row's upper limit, or put the row into a
- *     monitor of its own, where a 12 affects no other row.
+ *     separate monitor, where a 12 affects no other row.
  * A report ends at the first refusal, and a 12 is one: the report is then the
  * one line "refused 12 P".
  *
@@ -147,15 +147,16 @@
  * step also holds for a withdrawal and for the calls that only read, the limit
  * of report_on for delkuthi_report_of. Link the host statically or with
  * -Wl,-z,now: otherwise the loader resolves a function at its first call, and
- * that takes 3 KiB more on the caller's stack.
+ * that takes about 3 KiB more on the caller's stack.
  *
  *
  * THE TABLE
  *
- * One byte, its version, then the rows; the first is row 0. The version is 1,
- * or 2 (EDITIONS below). Each row has a length field of two bytes and, as many
- * bytes as it says, its type and its fields. Kinds, n, span and maximum take
- * one byte, all other fields eight, the most significant byte first.
+ * A table is one byte, its version, followed by the rows. The first row is row
+ * 0. The version is 1 or 2 (EDITIONS below). Each row is a length field of two
+ * bytes, then its type and its fields in as many bytes as the length field
+ * says. Kinds, n, span and maximum take one byte, all other fields eight, the
+ * most significant byte first.
  *
  *   type                      fields                                   length
  *   1 Delay                   source, target, lower, upper                 19
@@ -171,14 +172,14 @@
  *  10 Repetition              event, span, lower, upper, jitter            27
  *  11 Synchronization         n from 2 to 4, n kinds, tolerance        10 + n
  *
- * The kinds of a Reaction are coloured ones, those of all other types plain
- * ones. Its maximum is a time, as its minimum is.
+ * The kinds of a Reaction are coloured, and those of all other types are
+ * plain. The minimum and maximum of a Reaction are times.
  *
  * Spans, and the maximum of a Burst, go from 1 to 64, the span of type 10 from
- * 1 to 8. Where the upper of type 1, 3 or 4 is 2^64 - 1, DELKUTHI_NO_LIMIT,
- * there is no upper limit.
+ * 1 to 8. If the upper of type 1, 3 or 4 is 2^64 - 1, DELKUTHI_NO_LIMIT, there
+ * is no upper limit.
  *
- * Type 11: in tables of edition 2 alone.
+ * Type 11 requires edition 2.
  *
  * A host need not count these bytes. A function for each type makes a row from
  * its fields, and delkuthi_make_table_2 writes the table. A Delay and an

@@ -1,22 +1,22 @@
 #!/usr/bin/env python3
-"""Makes the links of the documents to definitions, theorems and functions from their names.
+"""Makes the links of a document that leads to definitions, theorems and functions from their names.
 
-    links.py            reports names that are declared nowhere or in several places, and lists that are not up to date; then status 1
-    links.py --write    writes the lists of links at the end of each document
+    links.py            reports names that are declared nowhere or in several places, and a list of links that is not up to date; then status 1
+    links.py --write    writes the list of links at the document's end
 
-A document writes [`name`], and its link is the file that declares it. If several files do, a table of four columns decides: a definition is in specs,
-a theorem in proofs, a function in src. Elsewhere the form of the name decides, and public names come first. A qualifier chooses too: `delay::apply`
-is declared in the module or crate delay, `Monitor::event` beside `impl Monitor`, `Promise.exact` in the file of the record Promise. If several files
-are left, an existing link to one of them stays. The laws that other documents name must be declared somewhere too.
+A document writes [`name`], and its link is the file that declares it. If there are several, the form of the name says whether it is a function, a
+theorem or a definition, and what is public comes first. A qualifier chooses: `delay::apply` is declared in the module or crate delay,
+`Monitor::event` beside `impl Monitor`, `Promise.exact` in the file of the record Promise. If several files are left, a link that is one of them
+stays. The laws that other documents name have to be declared somewhere too.
 """
 import re
 import sys
 from pathlib import Path
 
 ROOT = Path(__file__).resolve().parent.parent
-DOCUMENTS = ("docs/READING.md", "docs/ARCHITECTURE.md")
-# These documents name laws without links; LAW is the form of a law's name.
-NAMING = ("README.md", "docs/DATASHEET.md", "docs/SAFETY.md", "docs/DECISIONS.md")
+DOCUMENTS = ("docs/ARCHITECTURE.md",)
+# What has the form of a law's name, in documents that name laws without links.
+NAMING = ("README.md", "docs/DATASHEET.md", "docs/SAFETY.md", "docs/DECISIONS.md", "docs/READING.md")
 LAW = re.compile(r"`([a-z]\w*(?:-\w+)+)`")
 OTHER_NAMES = {"must-fail", "pkg-config"}
 LINKED = re.compile(r"\[`([^`\]]+)`\]")
@@ -24,12 +24,12 @@ LINK = re.compile(r"^\[`([^`]+)`\]: (.*)\n", re.M)
 PROOF = re.compile(r"^\s*((?:(?:pub|abbrev|unfoldable|opaque|data|record|private)\s+)*)([^\s(){}.,;:]+)\s+[:({]", re.M)
 CODE = re.compile(r"(pub(?:\(crate\))? (?:extern \"C\" )?)?\b(?:fn|const|struct|enum|type|int)\s+(\w+)")
 IMPLEMENTED = re.compile(r"^impl (\w+)", re.M)
-# The folders by the column: definition, theorem, function.
-COLUMNS = {1: ("specs", "proofs", "src"), 2: ("proofs", "specs", "src"), 3: ("src", "", "specs", "proofs")}
+# The folders to look in, one after the other: for a function, a theorem and a definition.
+FUNCTION, THEOREM, DEFINITION = ("src", "", "specs", "proofs"), ("proofs", "specs", "src"), ("specs", "proofs", "src")
 
 
 class Source:
-    """A file of the crates or the program: its names, which of them are public, and their qualifiers."""
+    """A file of the crates or the program: its names, those that are public, and the qualifiers that they may have."""
 
     def __init__(self, file):
         text = file.read_text(encoding="utf-8")
@@ -51,19 +51,12 @@ def sources():
 
 
 def names(text):
-    """The names that a document links, each with the folders to look in: by the column in which it stands first."""
-    found = {}
-    for line in text.splitlines():
-        cells = line.strip("|").split("|") if line.startswith("|") else []
-        for column, cell in enumerate(cells if len(cells) == 4 else [line]):
-            for name in LINKED.findall(cell):
-                form = 3 if "_" in name or "::" in name else 2 if "-" in name else 1
-                found.setdefault(name, COLUMNS[column or form])
-    return found
+    """The names that a document links, each with the folders to look in."""
+    return {name: FUNCTION if "_" in name or "::" in name else THEOREM if "-" in name else DEFINITION for name in LINKED.findall(text)}
 
 
 def places(name, folders, files):
-    """The files that declare a name, as few as its qualifier, its column and `pub` leave."""
+    """The files that declare a name, as few as its qualifier, its form and `pub` leave."""
     *qualifiers, last = re.split(r"::|\.", name)
     found = [file for file in files if last in file.names and all(one in file.qualifiers for one in qualifiers)]
     for folder in folders:

@@ -120,11 +120,11 @@ def header_table():
     marked = listed([str(t.number) for t in having("limit")], "or")
     coloured = listed([one(t.name) for t in having("coloured")])
     counts = listed(list(dict.fromkeys(part.name for t in TYPES for part in t.fields if part.role in MOST)))
-    size = f"""One byte, its version, then the rows; the first is row 0. The version is 1, or 2 (EDITIONS below). Each row has a length field of
-        two bytes and, as many bytes as it says, its type and its fields. Kinds, n, {counts} take one byte, all other fields eight, the most
-        significant byte first."""
-    kinds = f"The kinds of {coloured} are coloured ones, those of all other types plain ones. Its maximum is a time, as its minimum is."
-    limit = f"{spans()} Where the upper of type {marked} is 2^64 - 1, DELKUTHI_NO_LIMIT, there is no upper limit."
+    size = f"""A table is one byte, its version, followed by the rows. The first row is row 0. The version is 1 or 2 (EDITIONS below). Each row
+        is a length field of two bytes, then its type and its fields in as many bytes as the length field says. Kinds, n, {counts} take one
+        byte, all other fields eight, the most significant byte first."""
+    kinds = f"The kinds of {coloured} are coloured, and those of all other types are plain. The minimum and maximum of {coloured} are times."
+    limit = f"{spans()} If the upper of type {marked} is 2^64 - 1, DELKUTHI_NO_LIMIT, there is no upper limit."
     table = " *   type                      fields                                   length\n" + "".join(map(header_line, TYPES))
     return " *\n".join([comment(size), table, comment(kinds), comment(limit), *map(comment, later())]) + " *\n"
 
@@ -133,7 +133,8 @@ def later():
     """Which types only a later edition of the table has, if there are such."""
     editions = sorted({t.edition for t in TYPES} - {1})
     numbers = {edition: [str(t.number) for t in TYPES if t.edition == edition] for edition in editions}
-    return [f"{'Types' if len(found) > 1 else 'Type'} {listed(found)}: in tables of edition {edition} alone." for edition, found in numbers.items()]
+    return [f"Types {listed(found)} require edition {edition}." if len(found) > 1 else f"Type {found[0]} requires edition {edition}."
+            for edition, found in numbers.items()]
 
 
 def last_type():
@@ -250,7 +251,7 @@ def model_list():
 PARTS = (
     ("docs/CONTRACT.md", "order of §4.5.\n\n", "**4.8** ", contract),
     ("python/README.md", "    form:\n", "    A kind is an event's name", grammar),
-    ("python/README.md", "type in full, with its corners.\n\n", "## What a verdict says\n", asked),
+    ("python/README.md", "type in full, with its corner cases.\n\n", "## What a verdict says\n", asked),
     ("python/README.md", "| type | what it measures | an instance |\n|---|---|---|\n", "\n`outside`", measured),
     ("include/delkuthi.h", " * THE TABLE\n *\n", " * A host need not count", header_table),
     ("include/delkuthi.h", " * each type, from clause 5.1 on.\n *\n", " *\n *\n * A BENCH LOOP", header_asks),

@@ -89,7 +89,7 @@ def lines():
     def line(one):
         roles = ["COUNT"] * bool(one.n) + [BYTE_ROLES[value.role][1] for value in one.bytes]
         times = [TIME_ROLES[value.role][1] for value in one.times]
-        return (f"const {one.constant}: Line = Line {{\n    form: {one.number},\n    bytes: {padded(roles, 5)},\n"
+        return (f"const {one.constant}: Line = Line {{\n    tag: {one.number},\n    bytes: {padded(roles, 5)},\n"
                 f"    times: {padded(times, 4)},\n}};\n\n")
 
     return "".join(map(line, VARIANTS))
@@ -121,7 +121,7 @@ def code_last_types():
 
 def code_tests(row_types):
     """That a number is one of these types'."""
-    *first, last = [f"form == {row_type.number}" for row_type in row_types]
+    *first, last = [f"tag == {row_type.number}" for row_type in row_types]
     return "".join(f"{test} || (" for test in first[:-1]) + "".join(f"{test} || " for test in first[-1:]) + last + ")" * (len(first) - 1)
 
 
@@ -380,7 +380,7 @@ def read_proof():
     """A number that has an arm is the arm's; one that has none is no other type's."""
     last, name = len(PLAIN), dashed(COUNTED[0])
     others = [f"(other{' .0' * (last - 1 - i)} .1)".replace(" ", "\0") for i in range(last)]
-    cited = broken(f"    ∙ sym (read-group (a\0.form) (a\0.t2) (a\0.t3) {' '.join(others)})")
+    cited = broken(f"    ∙ sym (read-group (a\0.tag) (a\0.t2) (a\0.t3) {' '.join(others)})")
     arms = [f"    (λ c. c .{dashed(t)}-read .ensures ∙ rw (c .before .match .keys{i}))\n" if t in COUNTED else f"    (λ c. rw (c .match .keys{i}))\n"
             for i, t in enumerate(PLAIN, 1)]
     return f"""-- The type byte says which row it is. Made by release/row-types.py.
@@ -455,7 +455,7 @@ def machine_names():
     found = {}
     for row_type in TYPES:
         for path in sorted(ROOT.glob(f"crates/*/specs/{row_type.name}.antt")):
-            names = re.findall(r"^unfoldable pub (?!fills)(\w+) :", path.read_text(encoding="utf-8"), re.M)
+            names = re.findall(r"^unfoldable pub (?!overflows)(\w+) :", path.read_text(encoding="utf-8"), re.M)
             found[f"{path.parts[-3]}.specs.{row_type.name}"] = names
     return found
 
@@ -473,7 +473,7 @@ def example_names():
 def examples_computed():
     """That the machine computes all lists, one after the other."""
     lists = ["examples", *(name for _, name in example_lists())]
-    imported = re.findall(r"^use Rattle·(?:row|queue|monitor)\.specs\.(?:Machine|Undo|Ring)\.\{(.*)\}$", text_of(EXAMPLES), re.M)
+    imported = re.findall(r"^use Rattle·(?:row|ring|monitor)\.specs\.(?:Machine|Undo|Ring)\.\{(.*)\}$", text_of(EXAMPLES), re.M)
     names = ["allCompute", "computes", "playOf", "sameAnswers", "isVerdict", "play", *", ".join(imported).split(", "),
              *(name for found in machine_names().values() for name in found)]
     stated = " ×\0".join(f"(allCompute\0{name}\0≡\0true)" for name in lists)
@@ -488,19 +488,6 @@ def examples_hold():
                 f"{name}-hold = all-read {name} (all-computed .{place})\n")
 
     return "".join(law(place, *one) for place, one in enumerate(example_lists(), 1))
-
-
-def reading_rows():
-    """The rows of the guide for the types of later editions: definition, examples, what is shown of it, exactness and function."""
-    def row(row_type):
-        laws = [name for path in ROOT.glob(f"crates/*/proofs/Laws/{row_type.name}.antt")
-                for name in re.findall(rf"^pub (exact{row_type.name}\d?) :", path.read_text(encoding="utf-8"), re.M)]
-        laws += re.findall(r"^pub (?!lawful)(\S+) :", text_of(f"crates/constraint/proofs/Types/{row_type.name}.antt"), re.M)
-        lists = [name for clauses, name in example_lists() if re.match(rf"§5\.{row_type.number}\b", clauses)]
-        cells = [f"Meets{row_type.name}", *lists], [*laws, *(f"{name}-hold" for name in lists)], [f"{snake(row_type)}::apply"]
-        return f"| §5.{row_type.number} | {' | '.join(', '.join(f'[`{name}`]' for name in cell) for cell in cells)} |\n"
-
-    return "".join(row(row_type) for row_type in TYPES if edition(row_type) > 1)
 
 
 def type_crates():
@@ -534,9 +521,9 @@ PARTS = tuple((f"crates/constraint/{path}", first, last, make) for path, first, 
     ("src/lib.rt", f"type byte and the roles of its fields.\n// {MADE}\n", f"// {END}\n", lines),
     ("src/lib.rt", "to a type's with an n its n is added.\n", "\n\n", code_lengths),
     ("src/lib.rt", "edition of the table, by its version byte.\n", "\n\n", code_last_types),
-    ("src/lib.rt", "λ r. ⌜ r ≡ takesCount form ⌝ }\n{\n", "}\n", lambda: f"    {code_tests(COUNTED)}\n"),
+    ("src/lib.rt", "λ r. ⌜ r ≡ takesCount tag ⌝ }\n{\n", "}\n", lambda: f"    {code_tests(COUNTED)}\n"),
     ("src/lib.rt", f"}}\n\n// {MADE}\n\n", f"// {END}\n", group_reads),
-    ("src/lib.rt", f"        match form {{\n            // {LISTED}\n", "        }\n", code_read),
+    ("src/lib.rt", f"        match tag {{\n            // {LISTED}\n", "        }\n", code_read),
     ("src/lib.rt", f"        match self {{\n            // {LISTED}\n", "        }\n", code_fields),
     ("specs/Types.antt", "use mathlib.Core.Bool.{Bool, ", "cond}\n", lambda: "_||_, " * (len(COUNTED) > 1)),
     ("specs/Types.antt", DECLARED, "\n-- ", variant_names),
@@ -569,13 +556,12 @@ PARTS += (
     (EXAMPLES, f"-- {MADE}\n\n", f"\n-- {END}\n", examples_computed),
     (EXAMPLES, "(all-computed .0)\n", "\n-- ---- a table of two rows", examples_hold),
     ("crates/page/src/lib.rt", "left-aligned in 24. 0 is no type's number.\n", "];\n", page_names),
-    ("crates/machine/specs/Rule.antt", "waitsIn form = ", "\n", lambda: tests(WAITING, "form")),
-    ("crates/status/src/lib.rt", "λ r. ⌜ r ≡ waitsIn form ⌝ }\n{\n", "}\n", lambda: f"    {code_tests(WAITING)}\n"),
-    ("crates/status/proofs/waits_in/Proof.antt", "", "", lambda: tests_proof("status", "waits_in", "waitsIn", WAITING)),
-    ("crates/status/proofs/Coloured.antt", DECLARED.replace("·specs.specs", ".specs"), "use Rattle.constraint.proofs.",
+    ("crates/row_type/specs/Parameters.antt", "waitsIn tag = ", "\n", lambda: tests(WAITING, "tag")),
+    ("crates/queries/src/lib.rt", "λ r. ⌜ r ≡ waitsIn tag ⌝ }\n{\n", "}\n", lambda: f"    {code_tests(WAITING)}\n"),
+    ("crates/queries/proofs/waits_in/Proof.antt", "", "", lambda: tests_proof("queries", "waits_in", "waitsIn", WAITING)),
+    ("crates/queries/proofs/Coloured.antt", DECLARED.replace("·specs.specs", ".specs"), "use Rattle.constraint.proofs.",
      lambda: variant_names("Rattle.constraint.specs")),
-    ("crates/status/proofs/Coloured.antt", f"  unfolding KindsSuit waiting\n  {ARMS}", "\n-- ----", coloured_waits),
-    ("docs/READING.md", "[`repetitions-hold`] | [`repetition::apply`] |\n", "\n## 6 What waits\n", reading_rows),
+    ("crates/queries/proofs/Coloured.antt", f"  unfolding KindsSuit waiting\n  {ARMS}", "\n-- ----", coloured_waits),
     *((f"crates/{crate}/{path}", "", "", partial(modules, f"crates/{crate}/{path}", f"crates/{crate}/{folder}"))
       for crate in type_crates() for path, folder in MODULES.items()),
 )

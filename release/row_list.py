@@ -60,7 +60,7 @@ def names(row_type, kinds):
     return [kinds if part.role == "kinds" else part.name for part in row_type.fields]
 
 
-def declared(row_type, form, kinds, byte="u8", time="u64"):
+def declared(row_type, tag, kinds, byte="u8", time="u64"):
     """The fields as a program declares them."""
-    return [kinds if part.role == "kinds" else form.format(name=part.name, size=byte if SIZES[part.role] == 1 else time)
+    return [kinds if part.role == "kinds" else tag.format(name=part.name, size=byte if SIZES[part.role] == 1 else time)
             for part in row_type.fields]

@@ -11,12 +11,12 @@ TO_THE_END = "Made by release/row-types.py, to the end of the file."
 
 
 class Machine(NamedTuple):
-    """A machine: its name, its crate, the module of its code, what it fills and takes, and the numbers of its types."""
+    """A machine: its name, its crate, the module of its code, what it overflows and takes, and the numbers of its types."""
 
     name: str
     crate: str
     module: str
-    fills: str
+    overflows: str
     taken: str
     numbers: "list[int]"
 
@@ -37,7 +37,7 @@ def machine_of(row_type):
 def read(name, crate, numbers):
     """A machine as its crate declares it."""
     spec = text_of(f"crates/{crate}/specs/{name}.antt")
-    fields = re.search(rf"^machine{name} =\s+record {{ keeps = \w+; decide = decide{name}; fills = (\w+); taken = (\w+) }}$", spec, re.M)
+    fields = re.search(rf"^machine{name} =\s+record {{ keeps = \w+; decide = decide{name}; overflows = (\w+); taken = (\w+) }}$", spec, re.M)
     assert fields, f"crates/{crate}/specs/{name}.antt: no line of machine{name}"
     own = re.sub(r"(?<!^)(?=[A-Z])", "_", name).lower()
     module = own if text_of(f"crates/{crate}/src/{own}.rt") else crate
@@ -54,20 +54,20 @@ MACHINES = [read(name, CRATES[name], [number for number in NAMES if NAMES[number
 
 # Definitions.
 
-def imports(form):
+def imports(tag):
     """A line for each machine."""
-    return "".join(form.format(**machine._asdict()) for machine in MACHINES)
+    return "".join(tag.format(**machine._asdict()) for machine in MACHINES)
 
 
 def machines():
     return "machines =\n    noMachine\n" + "".join(f"    ∷ machine{name}\n" for name in NAMES.values()) + "    ∷ []\n"
 
 
-def words(nothing, form):
+def words(nothing, tag):
     """How many words a row has from the start, by the types that have some."""
     made = nothing
     for row_type in reversed([row_type for row_type in TYPES if row_type.words]):
-        made = form.format(type=row_type, rest=made if made == nothing else f"({made})")
+        made = tag.format(type=row_type, rest=made if made == nothing else f"({made})")
     return made
 
 
@@ -80,20 +80,20 @@ def arms(value, other):
 
 
 def change():
-    return arms(lambda machine: f"{machine.module}::apply(row, stream, t, number)", "words::break_at(row, number)")
+    return arms(lambda machine: f"{machine.module}::apply(row, stream, t, number)", "row_words::break_at(row, number)")
 
 
-def fills():
-    return arms(lambda machine: f"{machine.module}::fills(w, stream, t)" if has_fills(machine) else "false", "false")
+def overflows():
+    return arms(lambda machine: f"{machine.module}::overflows(w, stream, t)" if has_fills(machine) else "false", "false")
 
 
-def filled_by():
+def slots_used_by_type():
     known = {"noneTaken": "0", "eachTaken": "len"}
-    return arms(lambda machine: known.get(machine.taken, f"{machine.module}::taken(span, len)"), "0")
+    return arms(lambda machine: known.get(machine.taken, f"{machine.module}::slots_used(span, len)"), "0")
 
 
 def has_fills(machine):
-    return machine.fills != "fillsNever"
+    return machine.overflows != "neverOverflows"
 
 
 def has_taken(machine):
@@ -106,7 +106,7 @@ def uses():
 
 
 def words_code():
-    made = "".join(f"    if rule.form == {t.number} {{\n        return {t.words};\n    }}\n" for t in TYPES if t.words)
+    made = "".join(f"    if parameters.tag == {t.number} {{\n        return {t.words};\n    }}\n" for t in TYPES if t.words)
     return made + "    0\n}\n"
 
 
@@ -123,7 +123,7 @@ def laws(needs):
 
 
 def words_proof():
-    """That the tests of `words_of` are those of `wordsOf`."""
+    """That the tests of `start_word_count` are those of `startWordCount`."""
     count = sum(1 for row_type in TYPES if row_type.words)
 
     def law(place):
@@ -131,13 +131,13 @@ def words_proof():
         return f"rw ({', '.join([*left, *[f'eq-eqb _ _ (c .if{place} .taken)'] * (place <= count)])})"
 
     returns = " ".join(numbered("returns", place) for place in range(1, count + 2))
-    return f"""-- The tests are those of `wordsOf`, in its order. {MADE}
+    return f"""-- The tests are those of `startWordCount`, in its order. {MADE}
 use borrow.Author.Tests.{{eq-eqb, ne-eqb}}
-use Rattle.machine.proofs.numbers.words_of.Statement.{{statement}}
-use Rattle.machine.proofs.numbers.words_of.Tie as tie
+use Rattle.row_type.proofs.from_constraint.start_word_count.Statement.{{statement}}
+use Rattle.row_type.proofs.from_constraint.start_word_count.Tie as tie
 
-{laws(map(law, range(1, count + 2)))}pub words-of-spec : {{M : Type 1}} → statement M
-words-of-spec = tie.close (tie.spec {returns})
+{laws(map(law, range(1, count + 2)))}pub start-word-count-spec : {{M : Type 1}} → statement M
+start-word-count-spec = tie.close (tie.spec {returns})
 """
 
 
@@ -158,7 +158,7 @@ def engine_imports():
 
 
 def engine_arms():
-    return "".join(f"engine ({' '.join([name, *fields])}) = {' '.join([f'exact{name}', *fields])}\n" for _, name, fields in engine())
+    return "".join(f"every-type-exact ({' '.join([name, *fields])}) = {' '.join([f'exact{name}', *fields])}\n" for _, name, fields in engine())
 
 
 def rest():
@@ -186,7 +186,7 @@ none-of (suc n) is =
     List·getD-eq-default machines noMachine {{n = suc n}}
 {above}    (omega arith)
 {"".join(f"    {steps[number]}){chr(10)}" for number in NAMES)}
-pub fits : (form : ℕ) → FitsRow (machineOf form)
+pub fits : (tag : ℕ) → FitsRow (machineOf tag)
 fits =
     each-fits
     (one-more fits-none
@@ -207,7 +207,7 @@ def calls(name, has=lambda machine: True):
 
 
 def change_proof():
-    """The arms of `change`."""
+    """The arms of `apply_by_type`."""
     def law(machine, call, is_chosen):
         return f"""
     let a = c .before .before .before .before .args in
@@ -221,8 +221,8 @@ def change_proof():
     proved = laws(made).replace("c = \n", "c =\n").replace(f"\n{last} c =\n", f"\nunfolding changedWords\n{last} c =\n")
     arms_of = "    (λ c κs. search needs)\n" * len(made)
     returns = "\n".join(f"    {numbered('returns', place)}" for place in range(1, len(made) + 1))
-    return f"""{proved}pub change-spec : {{M : Type 1}} → statement M
-change-spec =
+    return f"""{proved}pub apply-by-type-spec : {{M : Type 1}} → statement M
+apply-by-type-spec =
     tie.close
     (tie.spec
     (λ c. search needs)
@@ -246,37 +246,38 @@ def answered_proof(spec, call, first, back, given):
 
 
 def fills_proof():
-    call = calls("fills", has_fills)
+    call = calls("overflows", has_fills)
     first = "    (λ c. search needs)\n" + "    free\n" * len(call)
-    return answered_proof("fills-spec", call, first, "before .before .", "(a .w .now) (a .stream) (a .t)")
+    return answered_proof("overflows-spec", call, first, "before .before .", "(a .w .now) (a .stream) (a .t)")
 
 
 def filled_by_proof():
-    call = calls("taken", has_taken)
-    return answered_proof("filled-by-spec", call, "    (λ c κs. search needs)\n" * len(call), "before .", "(a .form) (a .span) (a .len)")
+    call = calls("slots-used", has_taken)
+    return answered_proof("slots-used-by-type-spec", call, "    (λ c κs. search needs)\n" * len(call), "before .", "(a .tag) (a .span) (a .len)")
 
 
 MACHINE_NAMES = partial(imports, "use Rattle.{crate}.specs.{name}.{{machine{name}}}\n")
 STORED, PROOF = "crates/row/src/stored.rt", "crates/row/proofs/stored/{}/Proof.antt"
 PARTS = (
-    ("crates/machine/specs/Rule.antt", "wordsOf rule = ", "\n", lambda: words("0", "cond (eqb (rule .form) {type.number}) {type.words} {rest}")),
-    ("crates/machine/proofs/FitsRow.antt", "words-few rule = ", "\n",
-     lambda: words("(omega arith)", "few-by (eqb (rule .form) {type.number}) {type.words} _ (omega arith) {rest}")),
-    ("crates/machine/src/numbers.rt", f"    // {LISTED}\n", "", words_code),
-    ("crates/machine/proofs/numbers/words_of/Proof.antt", "", "", words_proof),
+    ("crates/row_type/specs/Parameters.antt", "startWordCount parameters = ", "\n",
+     lambda: words("0", "cond (eqb (parameters .tag) {type.number}) {type.words} {rest}")),
+    ("crates/row_type/proofs/FitsRow.antt", "words-few parameters = ", "\n",
+     lambda: words("(omega arith)", "few-by (eqb (parameters .tag) {type.number}) {type.words} _ (omega arith) {rest}")),
+    ("crates/row_type/src/from_constraint.rt", f"    // {LISTED}\n", "", words_code),
+    ("crates/row_type/proofs/from_constraint/start_word_count/Proof.antt", "", "", words_proof),
     ("crates/row/specs/Machine.antt", f"-- {MADE}\n", "\n-- ", MACHINE_NAMES),
     ("crates/row/specs/Machine.antt", "abbrev pub machines : List Machine\n", "\n-- ", machines),
     (STORED, f"// {MADE}\n", f"// {END}\n", uses),
-    (STORED, f"    let form = row[1][words::FORM];\n    match form {{\n        // {LISTED}\n", "\n// ", change),
-    (STORED, f"    let form = w[words::FORM];\n    match form {{\n        // {LISTED}\n", "\n// ", fills),
-    (STORED, f"≡ filledBy form span len ⌝ }}\n{{\n    match form {{\n        // {LISTED}\n", "\n// ", filled_by),
+    (STORED, f"    let tag = row[1][row_words::TYPE_TAG];\n    match tag {{\n        // {LISTED}\n", "\n// ", change),
+    (STORED, f"    let tag = w[row_words::TYPE_TAG];\n    match tag {{\n        // {LISTED}\n", "\n// ", overflows),
+    (STORED, f"≡ slotsUsedBy tag span len ⌝ }}\n{{\n    match tag {{\n        // {LISTED}\n", "\n// ", slots_used_by_type),
     ("crates/row/proofs/Machines.antt", f"-- {MADE}\n", "\n-- ",
      partial(imports, "use Rattle.{crate}.proofs.Laws.{name}.{{fits{name}}}\n")),
     ("crates/row/proofs/Machines.antt", f"-- {TO_THE_END}\n", "", fitting),
-    ("crates/row/proofs/Engine.antt", f"-- {MADE}\n", "\npub engine", engine_imports),
-    ("crates/row/proofs/Engine.antt", f"-- {TO_THE_END}\n", "", engine_arms),
-    *((PROOF.format(name), f"-- {MADE}\n", "\n-- ", MACHINE_NAMES) for name in ("change", "fills", "filled_by")),
-    (PROOF.format("change"), f"-- {TO_THE_END}\n\n", "", change_proof),
-    (PROOF.format("fills"), f"-- {TO_THE_END}\n\n", "", fills_proof),
-    (PROOF.format("filled_by"), f"-- {TO_THE_END}\n\n", "", filled_by_proof),
+    ("crates/row/proofs/EveryType.antt", f"-- {MADE}\n", "\npub every-type-exact", engine_imports),
+    ("crates/row/proofs/EveryType.antt", f"-- {TO_THE_END}\n", "", engine_arms),
+    *((PROOF.format(name), f"-- {MADE}\n", "\n-- ", MACHINE_NAMES) for name in ("apply_by_type", "overflows", "slots_used_by_type")),
+    (PROOF.format("apply_by_type"), f"-- {TO_THE_END}\n\n", "", change_proof),
+    (PROOF.format("overflows"), f"-- {TO_THE_END}\n\n", "", fills_proof),
+    (PROOF.format("slots_used_by_type"), f"-- {TO_THE_END}\n\n", "", filled_by_proof),
 )

@@ -7,9 +7,10 @@
     text-check.py --fix FOLDER..   removes unused names from the imports of the files below the folders, and splits long imports
 
 It finds lines of more than 150 characters, tabs, blanks at the end of a line, names that a file of code or of proofs imports and does not use, and
-names that a file of definitions or proofs declares and that nothing else uses, cites in a contract or names in a document. Rows of a table in a
-document and indented text may be longer. A name that a file exports again (`pub use`) is used if another file imports it from there. For a folder
-that is not clean the allowance says how many of each it may have. More is an error, so the numbers can only fall.
+names that a file of definitions or proofs declares and that nothing else uses, cites in a contract or names in a document. A law that is tagged with
+a clause (§) counts as used. Rows of a table in a document and indented text may be longer. A name that a file exports again (`pub use`) is used if
+another file imports it from there. For a folder that is not clean the allowance says how many of each it may have. More is an error, so the numbers
+can only fall.
 """
 import os
 import re
@@ -35,6 +36,8 @@ DECLARED = re.compile(r"^\s*(?:(?:pub|abbrev|unfoldable|opaque|data|record|priva
 # A module with parameters declares no name, and what stands in its line is used.
 MODULE = re.compile(r"\s*(?:pub )?module\b")
 COMMENT = re.compile(r"(?:^|\s)(?:--|//).*")
+# A law that is tagged with the clause that it proves.
+TAGGED = re.compile(r"^\s*-- §.*\n(?:\s*--.*\n)*\s*(?:(?:pub|abbrev|unfoldable|opaque|data|record|private)\s+)*([^\s(){}.,;:]+)", re.M)
 
 
 def listed_by_git(folders):
@@ -205,6 +208,8 @@ def idle(texts):
             cited |= tokens(text)
         elif file.suffix == ".md" and "history" not in file.parts:
             cited |= set(re.findall(r"[^\s`\[\]().,;:]+", text))
+        elif "proofs" in file.parts:
+            cited |= set(TAGGED.findall(text))
 
     def has_other_users(word, file, name):
         return word in cited or bool(users.get(word, set()) - {(file, name)})

@@ -5,7 +5,6 @@ import time as clock
 from collections import Counter, deque
 from contextlib import AbstractContextManager, contextmanager, nullcontext
 from dataclasses import asdict, dataclass, field, replace
-from datetime import datetime, timezone
 from functools import partial
 from itertools import islice
 from operator import itemgetter
@@ -24,6 +23,7 @@ from .unseen_events import warnings
 from .monitor import Monitor
 from .monitors import Monitors, Recorder, monitor_of
 from .rowtypes import judged
+from .run_date import run_date
 from .table import Row, Table
 from .violations import Spool, Violations
 from .window_text import window_text
@@ -73,9 +73,9 @@ class RowOutcome:
     @property
     def words(self) -> str:
         """What it reads, with what is not yet due, what was left out, and over how many stretches."""
-        if not self.verdict.startswith(SO_FAR) or self.verdict.endswith(IDLE):
+        if not self.verdict.startswith(SO_FAR):
             return self.verdict
-        found = [self.verdict, f"{self.not_yet_due:,} not yet due"]
+        found = [self.verdict, *([] if self.verdict.endswith(IDLE) else [f"{self.not_yet_due:,} not yet due"])]
         found += [f"{self.left_out:,} that began before left out"] if self.left_out else []
         found += [] if self.stretches is None else [f"in {self.stretches:,} stretch{'' if self.stretches == 1 else 'es'}"]
         return ", ".join(found)
@@ -276,7 +276,7 @@ def check(table: Table, path: str | Sequence[str], policy: Policy = Policy(), pr
     a row is broken, or for measuring, it is read a second time. ``violations`` is a file for every instance that is not as asked."""
     log, started = Log(path, table, policy), clock.perf_counter()
     outcome = Outcome(log.path, log.word, closed=policy.close and not policy.scope.cut_end, exercised=exercised, files=log.files)
-    outcome.started = datetime.now(timezone.utc).strftime("%Y-%m-%dT%H:%M:%S")
+    outcome.started = run_date().strftime("%Y-%m-%dT%H:%M:%S")
     partly = policy.scope.cut_begin or policy.scope.cut_end or any(row.window is not None for row in table.rows)
     try:
         how = partial(_check_scoped if partly else _check_whole, outcome=outcome, bar=progress or _without, measured=measured, violations=violations)
@@ -402,6 +402,8 @@ def _note_read(table: Table, log: Log, outcome: Outcome, seen: Counter[int | Non
     outcome.scope, outcome.scope_chosen = scope.words(log.policy.close, windows, log.ended), scope.chosen or bool(windows)
     outcome.cut = scope.cut_begin or scope.cut_end
     outcome.warnings = warnings(table, log, seen)
+    if scope.begin is not None or scope.end is not None:
+        outcome.warnings = [line.replace(": the log has no ", ": this part of the log has no ", 1) for line in outcome.warnings]
 
 
 def _fill(table: Table, log: Log, outcome: Outcome, found: _Checked) -> None:

@@ -2,6 +2,7 @@
 from __future__ import annotations
 
 import argparse
+import gzip
 import json
 import math
 import os
@@ -136,7 +137,7 @@ def _measured(given: argparse.Namespace) -> bool:
 def _write_outputs(given: argparse.Namespace, table: Table, how: Policy, outcomes: Sequence[Outcome]) -> None:
     """What is asked for besides the messages."""
     if len(outcomes) > 1 and not (given.json or given.page or given.quiet):
-        out(overall(outcomes) + "\n")
+        out(wrapped(overall(outcomes), given.width))
     if given.json:
         out(as_json(table, outcomes, given.takeover))
     if given.junit:
@@ -162,7 +163,7 @@ def _check_one(given: argparse.Namespace, how: Policy, path: str | list[str], sp
 
 def _violations(path: str, table: Table, outcomes: Sequence[Outcome]) -> None:
     """One file with the violations of all logs."""
-    found = chain.from_iterable(outcome.violations for outcome in outcomes if outcome.violations is not None)
+    found = chain.from_iterable(outcome.violations.values() for outcome in outcomes if outcome.violations is not None)
     try:
         with open(path, "wb") as file:
             write_violations(file, suffix_of(path), table.unit, found)
@@ -211,7 +212,7 @@ def _trace(path: str, table: Table, how: Policy, outcomes: Sequence[Outcome]) ->
     """A trace for each log."""
     for name, outcome in _files(path, outcomes):
         try:
-            with open(name, "w", encoding="utf-8") as file:
+            with gzip.open(name, "wt", encoding="utf-8") if name.endswith(".gz") else open(name, "w", encoding="utf-8") as file:
                 write_trace(file, table, Log(outcome.files, table, how), outcome)
         except OSError as error:
             raise NotWritten(f"{name}: {error.strerror or error}") from None
@@ -223,7 +224,8 @@ def _table(given: argparse.Namespace) -> int:
         return KEPT
     if given.table is None:
         raise LogError("delkuthi table", "", "expected a table, or --grammar")
-    data = Path(given.table).read_bytes()[:1]
+    with open(given.table, "rb") as file:
+        begin = file.read(1)
     if is_arxml(given.table):
         table = timing_table(given, given.unit)
         if given.json:
@@ -236,8 +238,8 @@ def _table(given: argparse.Namespace) -> int:
     if given.unit and given.takeover is None:
         if table.unit is not None:
             raise LogError(given.table, "", f"the table has the unit {table.unit} already")
-        table = Table(table.rows, table.events, given.unit, table.databases, table.folder)
-    to_text = given.text or not given.bytes and (is_bytes(data) or given.takeover is not None or given.output is None)
+        table = Table(table.rows, table.events, given.unit, table.databases, table.folder, table.comments)
+    to_text = given.text or not given.bytes and (is_bytes(begin) or given.takeover is not None or given.output is None)
     if not to_text:
         refuse_windows(table, given.table, range(len(table.rows)), "the bytes of a table do not take it")
     write(given.output, table.text() if to_text else table.bytes())
@@ -304,7 +306,8 @@ def _add_check(commands: Any) -> None:
     one = commands.add_parser("check", help="check logs against a table", epilog=_EXAMPLES, formatter_class=_PLAIN)
     one.add_argument("table", metavar="TABLE", help="a text table, table.bin, or an ARXML file with AUTOSAR timing requirements")
     one.add_argument("log", metavar="LOG", nargs="+",
-                     help=".csv, .tsv, .xlsx, .log (candump), .asc, .trc, .btf, .bin; with python-can .blf ..; - is the standard input")
+                     help=".csv, .tsv, .xlsx, .log (candump), .asc, .blf, .trc, .btf, .pcap, .pcapng, .tessla, .bin; a CTF folder, .mf4, what "
+                          "python-can reads; - is the standard input")
     one.add_argument("--exercised", action="store_true", help="a row that the log never exercises is a failure: status 1")
     one.add_argument("--measure", action="store_true", help="what each row measures beside what it asks, and the margin to its limit")
     one.add_argument("--as-one", action="store_true", help="the logs are one drive, one behind the other")
@@ -319,8 +322,8 @@ def _add_check(commands: Any) -> None:
     one.add_argument("--note", metavar="NAME=TEXT", type=_note, action="append", default=[],
                      help="say this on the page and with the results, such as build=1234")
     one.add_argument("--plot", metavar="FILE", help="a picture: SVG, or PNG by matplotlib")
-    one.add_argument("--trace", metavar="FILE", help="a trace for Perfetto or chrome://tracing")
-    one.add_argument("--jobs", metavar="N", type=positive, default=1, help="check so many logs at a time")
+    one.add_argument("--trace", metavar="FILE", help="a trace for Perfetto or chrome://tracing; .json.gz is packed")
+    one.add_argument("--jobs", metavar="N", type=positive, default=1, help="check N logs at a time")
     one.add_argument("--quiet", action="store_true", help="messages only, no last line")
     one.add_argument("--width", metavar="COLUMNS", type=columns, default=COLUMNS,
                      help=f"text has so many columns ({COLUMNS}); with 0 each message is one line")

@@ -24,6 +24,8 @@ from .units import shown
 TOGETHER = 6
 #: More warnings than this are folded.
 WARNINGS = 4
+#: The headline has the first few short notes. All notes are at the end of the page.
+NOTES, SHORT_NOTE = 6, 60
 
 
 def as_html(table: Table, table_name: str, logs: Sequence[Evidence], made: Provenance) -> str:
@@ -38,9 +40,11 @@ def whole_page(title: str, headline: Markup, sections: list[Markup], made: Prove
     """A page of some sections, with the style and the script that every page has."""
     script = file_text("page.js")
     digest = base64.b64encode(hashlib.sha256(b"\n" + script.encode()).digest()).decode()  # the element's text begins with a line feed
-    return fill("page", title=title, version=VERSION, date=made.date, notes=(fill("note", name=name, value=value) for name, value in made.notes),
-                style=joined([file_text("page.css"), style]), script=script, script_hash=digest, headline=headline, logs=sections,
-                provenance=_provenance(made)) + "\n"
+    return fill(
+        "page", title=title, version=VERSION, date=made.date,
+        notes=[fill("note", name=name, value=value) for name, value in made.notes if len(value) <= SHORT_NOTE][:NOTES],
+        style=joined([file_text("page.css"), style]), script=script, script_hash=digest, headline=headline, logs=sections,
+        provenance=_provenance(made)) + "\n"
 
 
 def _headline(outcomes: Sequence[Outcome]) -> str:

@@ -98,11 +98,12 @@ def _measured(found: Described, table: Table) -> Markup:
     times = {name: page_time(found[name], table.unit) for name in ("least", "greatest", "margin")}
     bad = {f"{name}_state": " bad" if found[name] else "" for name in ("outside", "missing")}
     negative = found["margin"] is not None and found["margin"] < 0
-    return fill("measured", outside=found["outside"], missing=found["missing"], mean=mean_text(found["mean"], _size(table.unit)), unit=page_unit(table.unit),
+    return fill("measured", outside=found["outside"], missing=found["missing"], mean=mean_number(found["mean"], _size(table.unit)),
+                unit=page_unit(table.unit),
                 margin_state=" bad" if negative else "", worst=worst_text(found), histogram=Markup(histogram_svg(found, table.unit)), **times, **bad)
 
 
-def mean_text(mean: float | None, size: int) -> str:
+def mean_number(mean: float | None, size: int) -> str:
     """A mean with three decimals, or with three significant digits if it is below 1."""
     if not mean:
         return "" if mean is None else "0"

@@ -161,7 +161,7 @@ class Measure:
             self.outside += 1
             if self.note is not None:
                 self.note(Finding("outside", what or self._side(value), value, -margin, begin, (time, place)))
-        if self.worst is None or margin is not None and (self.worst.margin is None or margin < self.worst.margin):
+        if self._is_worse(margin):
             self.worst = Instance(value, time, place, margin)
 
     def _side(self, value: int) -> str:
@@ -183,6 +183,28 @@ class Measure:
         least, greatest = min(values), max(values)
         if least < lower or upper is not None and greatest > upper:
             return False
+        margin = min(([least - lower] if lower else []) + ([] if upper is None else [upper - greatest]), default=None)
+        if self._is_worse(margin):
+            near = [] if margin is None else ([lower + margin] if lower else []) + ([] if upper is None else [upper - margin])
+            at = min((values.index(value) for value in near if least <= value <= greatest and value in values), default=0)
+            self.worst = Instance(values[at], ends[at], place(at), margin)
+        self._add_values(values, least, greatest)
+        return True
+
+    def add_with(self, values: Sequence[int], margins: Sequence[int | None], ends: Sequence[int], place: Callable[[int], int]) -> None:
+        """The same for instances whose margins are known, of which none is below 0."""
+        known = [margin for margin in margins if margin is not None]
+        margin = min(known, default=None)
+        if self._is_worse(margin):
+            at = margins.index(margin)
+            self.worst = Instance(values[at], ends[at], place(at), margin)
+        self._add_values(values, min(values), max(values))
+
+    def _is_worse(self, margin: int | None) -> bool:
+        """Is an instance with this margin the worst so far?"""
+        return self.worst is None or margin is not None and (self.worst.margin is None or margin < self.worst.margin)
+
+    def _add_values(self, values: Sequence[int], least: int, greatest: int) -> None:
         self.judged += len(values)
         self.measured += len(values)
         self.total += sum(values)
@@ -190,13 +212,6 @@ class Measure:
         self.greatest = greatest if self.greatest is None else max(self.greatest, greatest)
         self.histogram.add_all(values)
         self.sketch.add_all(values)
-        margins = ([least - lower] if lower else []) + ([] if upper is None else [upper - greatest])
-        margin = min(margins, default=None)
-        if self.worst is None or margin is not None and (self.worst.margin is None or margin < self.worst.margin):
-            near = [] if margin is None else ([lower + margin] if lower else []) + ([] if upper is None else [upper - margin])
-            at = min((values.index(value) for value in near if least <= value <= greatest and value in values), default=0)
-            self.worst = Instance(values[at], ends[at], place(at), margin)
-        return True
 
     def miss(self, moment: Moment, what: str, due: int | None = None, now: int | None = None) -> None:
         """One instance that has no partner, or is out of order, by the event of this moment; ``now`` is when that is certain."""
@@ -286,6 +301,27 @@ class HiddenPoints(RowMeasuring):
         self.before.append((time, place))
         self.step(time)
 
+    def take_all(self, times: Mapping[int, list[int]], place: Callable[[int, int], int]) -> bool:
+        event, before, points = self.values["event"], self.before.copy(), self.points.copy()
+        values: list[int] = []
+        margins: list[int | None] = []
+        for at, time in enumerate(times[event]):
+            margin = self.margin(time)
+            if margin is not None and margin < 0:
+                self.before, self.points = before, points
+                return False
+            if len(self.before) == self.before.maxlen:
+                values.append(time - self.before[0][0])
+                margins.append(margin)
+            # The place of an event is looked for below, where it is needed.
+            self.before.append((time, ~at))
+            self.step(time)
+        self.before = deque([(time, at if at >= 0 else place(event, ~at)) for time, at in self.before], self.before.maxlen)
+        first = len(times[event]) - len(values)
+        if values:
+            self.measure.add_with(values, margins, times[event][first:], lambda at: place(event, at + first))
+        return True
+
     def margin(self, time: int) -> int | None:
         """How far an event at this time is from the ends of the stretch in which it can come."""
         raise NotImplementedError
@@ -373,7 +409,15 @@ class Measuring:
 
 def measure(table: Table, steps: Iterable[tuple[int | None, int, int]], closed: bool = True) -> list[Measure]:
     """What each row of a table measures over the steps of a log: of each its signal or ``None`` for a tick, its time, its place."""
+    return measure_noting(table, steps, closed, lambda number: None)
+
+
+def measure_noting(table: Table, steps: Iterable[tuple[int | None, int, int]], closed: bool,
+                   note: Callable[[int], Callable[[Finding], None] | None]) -> list[Measure]:
+    """The same; ``note`` gives for the number of a row what takes each of its instances that is not as asked."""
     measuring, clock = Measuring(table), 0
+    for row, measure in enumerate(measuring.measures):
+        measure.note = note(row)
     for number, clock, place in steps:
         measuring.take(number, clock, place)
     return measuring.end(clock, closed)

@@ -25,7 +25,8 @@ def numbered(rows: list[Row], events: list[Event]) -> tuple[list[Row], list[Even
     for event in events:
         if event.kind < 0:
             kinds[event.kind] = next(colours if event.kind in coloured else plain)
-    return ([replace(row, values=row.with_kinds(kinds), window=row.window and (kinds[row.window[0]], kinds[row.window[1]])) for row in rows], [_renumbered(event, kinds[event.kind]) for event in events])
+    return ([replace(row, values=row.with_kinds(kinds), window=row.window and (kinds[row.window[0]], kinds[row.window[1]])) for row in rows],
+            [_renumbered(event, kinds[event.kind]) for event in events])
 
 
 def _free(taken: set[int], coloured: bool) -> Iterator[int]:

@@ -2,6 +2,7 @@
 from __future__ import annotations
 
 import json
+import re
 import textwrap
 from collections import Counter
 from dataclasses import asdict
@@ -44,13 +45,17 @@ def _row_line(outcome: Outcome, row: RowOutcome) -> str:
     return said if row.not_yet_due or row.left_out or row.stretches is not None and row.verdict != "broken" else ""
 
 
+#: Blanks at which a line is not broken: between a number and its unit, and between a line and its number.
+_KEPT = re.compile(r"(?<=\d) (?=(?:ns|us|ms|s|min|h)\b)|(?<=line) (?=\d)")
+
+
 def wrapped(line: str, columns: int, indent: str = "    ") -> str:
     """A line, broken at blanks where it is wider than so many columns; what follows is indented."""
     if not columns or len(line) <= columns:
         return line + "\n"
-    parts = textwrap.wrap(line, columns, subsequent_indent=indent, break_long_words=False, break_on_hyphens=False, expand_tabs=False,
-                          replace_whitespace=False)
-    return "".join(part + "\n" for part in parts)
+    parts = textwrap.wrap(_KEPT.sub("\x1f", line), columns, subsequent_indent=indent, break_long_words=False, break_on_hyphens=False,
+                          expand_tabs=False, replace_whitespace=False)
+    return "".join(part.replace("\x1f", " ") + "\n" for part in parts)
 
 
 def number_of(count: int, word: str) -> str:

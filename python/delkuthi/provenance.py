@@ -7,17 +7,16 @@ import platform
 import shlex
 import sys
 from dataclasses import dataclass
-from datetime import datetime, timezone
 from pathlib import Path
 from typing import Iterable, Sequence
 
 from .library import VERSION, library_version
-from .readers.base import LogError
 from .readers.standard_input import NAME, kept
+from .run_date import run_date
 from .table import Table
 
 #: Modules that may have read a log, and the names of their packages.
-_PACKAGES = {"can": "python-can", "canmatrix": "canmatrix", "openpyxl": "openpyxl"}
+_PACKAGES = {"can": "python-can", "canmatrix": "canmatrix", "openpyxl": "openpyxl", "bt2": "babeltrace", "asammdf": "asammdf"}
 
 
 @dataclass(frozen=True)
@@ -53,7 +52,8 @@ def provenance(table: Table, table_name: str, logs: Iterable[str | tuple[str, ..
 
 def made_by(words: Sequence[str], notes: Iterable[tuple[str, str]] = (), files: Iterable[File] = ()) -> Provenance:
     """The provenance of what a command made of some files."""
-    return Provenance(_date(), shlex.join(["delkuthi", *words]), tuple(files), _versions(), tuple(notes))
+    date = run_date().strftime("%Y-%m-%d %H:%M:%S UTC")
+    return Provenance(date, shlex.join(["delkuthi", *words]), tuple(files), _versions(), tuple(notes))
 
 
 def _file(what: str, name: str, path: str) -> File:
@@ -65,16 +65,6 @@ def _file(what: str, name: str, path: str) -> File:
     except OSError:
         pass
     return File(what, name, None, None)
-
-
-def _date() -> str:
-    """The time in UTC: now, or what ``SOURCE_DATE_EPOCH`` says."""
-    given = os.environ.get("SOURCE_DATE_EPOCH")
-    try:
-        moment = datetime.now(timezone.utc) if given is None else datetime.fromtimestamp(int(given), timezone.utc)
-    except (ValueError, OverflowError, OSError):
-        raise LogError("SOURCE_DATE_EPOCH", "", f"expected seconds since 1970, found {given}") from None
-    return moment.strftime("%Y-%m-%d %H:%M:%S UTC")
 
 
 def _versions() -> str:

@@ -29,7 +29,7 @@ from .time_format import TimeFormat
 from .monitor import Monitor
 from .monitors import Monitors, monitor_of
 from .options import refuse_windows
-from .output import number_of
+from .output import COLUMNS, number_of, wrapped
 from .recording import record_bytes, records
 from .rowtypes import judged
 from .signals import signal as signal_of
@@ -296,9 +296,9 @@ class Screen:
             sys.stderr.flush()
 
     def say(self, text: str) -> None:
-        """A line to the standard output."""
+        """A message to the standard output."""
         self.clear()
-        out(text + "\n")
+        out(wrapped(text, COLUMNS))
 
     def line(self, text: str) -> None:
         """A line to the standard error."""
@@ -447,11 +447,12 @@ def _ended(watch: Watch, name: str) -> int:
     """The last lines, and the status."""
     rows, broken, idle = len(watch.table.rows), len(watch.broken), watch.unexercised
     for row in idle:
-        out(f"{watch.table.row_name(row)} ({watch.table.rows[row].type.name}) {UNEXERCISED}\n")
+        out(wrapped(f"{watch.table.row_name(row)} ({watch.table.rows[row].type.name}) {UNEXERCISED}", COLUMNS))
     words = [number_of(rows, "row"), f"{rows - broken - len(idle)} kept"]
     words += [f"{len(idle)} never exercised"] if idle else []
     left = f", {watch.left_out} left out" if watch.left_out else ""
-    out(f"{name}: {', '.join(words)}, {broken} broken; {number_of(watch.frames, 'frame')}, {number_of(watch.number, 'step')}{left}\n")
+    read = f"{number_of(watch.frames, 'frame')}, {number_of(watch.number, 'step')}{left}"
+    out(wrapped(f"{name}: {', '.join(words)}, {broken} broken; {read}", COLUMNS))
     if not watch.frames:
         complain(f"{name}: no frame ever came, so nothing was checked")
         return 2

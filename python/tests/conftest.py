@@ -1,5 +1,6 @@
 """The tests run on this checkout: its package, and its shared library, which `make lib` builds where it is missing."""
 import os
+import re
 import subprocess
 import sys
 from pathlib import Path
@@ -22,6 +23,11 @@ if "DELKUTHI_LIB" not in os.environ:
 settings.register_profile("gate", max_examples=150, deadline=None, derandomize=True,
                           suppress_health_check=[HealthCheck.too_slow, HealthCheck.function_scoped_fixture])
 settings.load_profile("gate")
+
+
+def unwrapped(text):
+    """Text of the command with each message in one line."""
+    return re.sub(r"\n {4,}(?=\S)", " ", text)
 
 
 @pytest.fixture

@@ -16,7 +16,7 @@ from delkuthi.measured import HEADINGS
 from delkuthi.watch import Watch
 
 from bench_drive import FILES
-from conftest import EXAMPLES, ROOT
+from conftest import EXAMPLES, ROOT, unwrapped
 from test_examples import WHEN, stored
 
 BENCH = EXAMPLES / "bench"
@@ -48,7 +48,8 @@ def test_the_commands_of_the_manual(command, tmp_path):
         said += f"$ {line}\n{printed}"
         stored(f"bench/{page}", (tmp_path / page).read_text(encoding="utf-8").replace(f"{tmp_path}/", ""))
     stored("bench/messages.txt", said)
-    assert said.split("\n")[1] in manual
+    first = said.split("\n", 1)[1].split("\nbus.log: ")[0]
+    assert "".join(f"    {line}\n" for line in first.splitlines()) in manual
 
 
 def test_measured_in_json_junit_and_html(command, tmp_path):
@@ -59,9 +60,10 @@ def test_measured_in_json_junit_and_html(command, tmp_path):
     assert (found["least"], found["mean"], found["greatest"], found["margin"]) == (28700, 44700.0, 60700, -10700)
     assert found["worst"] == {"value": 60700, "time": 1462700, "where": "line 1025"}
     assert sum(found["histogram"]["counts"]) == 2
-    case = xml.parse(tmp_path / "a.xml").getroot()[0][0]
-    named = {one.get("name"): one.get("value") for one in case.find("properties")}
-    assert named == {"measures": "latency", "judged": "2", "outside": "1", "missing": "0", "least": "28.7 ms", "mean": "44.7 ms",
+    case = xml.parse(tmp_path / "a.xml").getroot()[0].find("testcase")
+    named = dict(line.split(": ", 1) for line in case.find("system-out").text.splitlines())
+    assert named == {"verdict": "broken", "file": "bus.log", "line": "1019",
+                     "measures": "latency", "judged": "2", "outside": "1", "missing": "0", "least": "28.7 ms", "mean": "44.7 ms",
                      "greatest": "60.7 ms", "asked": "0 ms .. 50 ms", "margin": "-10.7 ms", "worst": "line 1025"}
     page = (tmp_path / "a.html").read_text(encoding="utf-8")
     assert page.count('class="histogram"') == 4 and all(f'>{heading}' in page for heading in HEADINGS[2:] if heading != "asked")
@@ -104,8 +106,8 @@ def test_one_drive_in_several_files(command, tmp_path):
 def test_the_standard_input(command, name):
     log = {"bus": "bus.log", "tasks": "tasks.btf", "samples": "samples.csv"}[name]
     text = (BENCH / log).read_text(encoding="utf-8")
-    expected = command("check", f"{name}.txt", log, "--measure", cwd=BENCH)
-    found = command("check", f"{name}.txt", "-", "--measure", cwd=BENCH, input=text)
+    expected = command("check", f"{name}.txt", log, "--measure", "--width", "0", cwd=BENCH)
+    found = command("check", f"{name}.txt", "-", "--measure", "--width", "0", cwd=BENCH, input=text)
     assert found == (expected[0], expected[1].replace(log, "-"), expected[2])
 
 
@@ -115,8 +117,8 @@ def test_samples_in_a_workbook(command, tmp_path):
         cells = line.split(";")
         book.active.append(cells if not number else [cells[0], int(cells[1]), float(cells[2].replace(",", ".")), cells[3]])
     book.save(tmp_path / "samples.xlsx")
-    expected = command("check", "samples.txt", "samples.csv", "--measure", cwd=BENCH)
-    found = command("check", BENCH / "samples.txt", "samples.xlsx", "--measure")
+    expected = command("check", "samples.txt", "samples.csv", "--measure", "--width", "0", cwd=BENCH)
+    found = command("check", BENCH / "samples.txt", "samples.xlsx", "--measure", "--width", "0")
     assert found == (expected[0], expected[1].replace("samples.csv", "samples.xlsx"), "")
 
 
@@ -159,7 +161,7 @@ def test_an_encoding_that_is_none(command, name):
 def test_the_speed_of_logs():
     """The program that measures it runs, and finds the verdicts that its drive has."""
     done = subprocess.run([sys.executable, ROOT / "python/speed.py", "2000", "1"], capture_output=True, text=True)
-    assert done.returncode == 0 and done.stdout.count("\n") == 8, done.stderr
+    assert done.returncode == 0 and done.stdout.count("\n") == 15, done.stderr
 
 
 def test_what_one_monitor_cannot_take_says_so(command, tmp_path):
@@ -186,7 +188,7 @@ def test_more_rows_than_a_monitor_has_in_every_command(command, tmp_path):
     (tmp_path / "a.csv").write_text("time,event\n10,a\n20,b\n40,a\n75,a\n")
     status, printed, _ = command("check", "many.txt", "a.csv")
     assert status == 1 and printed.endswith("a.csv: 40 rows, 31 kept, 9 broken; 4 events in 4 lines\n")
-    assert 'a.csv:4: "row 31" (Repeat) broken at 40 ms: the a at 40 ms (line 4) came 30 ms after' in printed
+    assert 'a.csv:4: "row 31" (Repeat) broken at 40 ms: the a at 40 ms (line 4) came 30 ms after' in unwrapped(printed)
     status, page, _ = command("check", "many.txt", "a.csv", "--page")
     assert [line.split()[0] for line in page.splitlines() if not line.startswith("-")] == [str(number) for number in range(40)]
     assert command("stamps", "many.txt", "a.csv", "row 30", "1 ms")[1] == 'a.csv: "row 30" is unsure with stamps late by up to 1 ms\n'

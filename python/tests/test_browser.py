@@ -19,7 +19,7 @@ pytestmark = pytest.mark.skipif(BROWSER is None, reason="no browser (Debian: chr
 #: Measures the page, and writes what it found at its end. What a box of its own scrolls is not cut off.
 _MEASURE = """
   const wide = document.documentElement.clientWidth, cut = [];
-  const scrolls = one => one.closest(".picture, details.violations");
+  const scrolls = one => one.closest(".picture, details.violations") && !matchMedia("(width: 703px)").matches;
   for (const one of document.querySelectorAll("body *")) {
     const box = one.getBoundingClientRect();
     if (box.width && !scrolls(one) && (box.left < -1 || box.right > wide + 1)) cut.push(one.outerHTML.slice(0, 90));
@@ -52,18 +52,24 @@ event b = 1
 """)
 
 
-def run(tmp_path, page, width, script, dark=False):
-    """What a script gives that is run in the page once it is there."""
-    path = tmp_path / "page.html"
-    page = re.sub(r'<meta http-equiv="Content-Security-Policy"[^>]*>', "", page)  # it would not let the test's own script run
-    added = ('<script>addEventListener("load", () => { const found = (() => {' + script + "})();\n"
-             'const out = document.createElement("pre"); out.id = "measured"; out.textContent = JSON.stringify(found);\n'
-             "document.body.append(out); });</script></body>")
-    path.write_text(page.replace("</body>", added), encoding="utf-8")
-    words = [BROWSER, "--headless", "--no-sandbox", "--disable-gpu", "--hide-scrollbars", f"--window-size={width},900",
-             f"--user-data-dir={tmp_path}/profile", f"--blink-settings=preferredColorScheme={0 if dark else 1}", "--dump-dom", path.as_uri()]
-    done = subprocess.run(words, capture_output=True, text=True, timeout=90)
-    return json.loads(unescape(re.search(r'<pre id="measured">(.*?)</pre>', done.stdout)[1]))
+def run(tmp_path, frames, script, dark=False):
+    """What a script gives in each of some pages. They are frames of one page, each with its own width, as if it were a screen of that width."""
+    added = ('<script>addEventListener("load", () => {{ const found = (() => {{' + script.replace("{", "{{").replace("}", "}}") + "}})();\n"
+             'parent.postMessage(["{0}", found], "*"); }});</script></body>')
+    whole = """<body><pre id="measured"></pre><script>const all = {}; addEventListener("message", event => {
+      all[event.data[0]] = event.data[1]; document.querySelector("pre").textContent = JSON.stringify(all); });</script>"""
+    for name, (page, width) in frames.items():
+        page = re.sub(r'<meta http-equiv="Content-Security-Policy"[^>]*>', "", page)  # it would not let the test's own script run
+        (tmp_path / f"{name}.html").write_text(page.replace("</body>", added.format(name)), encoding="utf-8")
+        whole += f'<iframe src="{name}.html" style="width: {width}px; height: 900px; border: 0"></iframe>'
+    (tmp_path / "all.html").write_text(whole + "</body>", encoding="utf-8")
+    words = [BROWSER, "--headless", "--no-sandbox", "--disable-gpu", "--hide-scrollbars", "--window-size=2000,900", "--virtual-time-budget=20000",
+             f"--user-data-dir={tmp_path}/profile", f"--blink-settings=preferredColorScheme={0 if dark else 1}", "--dump-dom",
+             (tmp_path / "all.html").as_uri()]
+    done = subprocess.run(words, capture_output=True, text=True, timeout=300)
+    found = json.loads(unescape(re.search(r'<pre id="measured">(.*?)</pre>', done.stdout, re.S)[1]))
+    assert found.keys() == frames.keys()
+    return found
 
 
 @pytest.fixture(scope="module")
@@ -74,9 +80,9 @@ def pages(tmp_path_factory):
         f"1600000000.{number:06d},{LONG_NAME if number % 3 else 'b'}\n" for number in range(0, 500000, 7001)))
     (folder / "b.csv").write_text("time,event\n" + "".join(f"{10 * number},a{number}\n" for number in range(40)))
     (folder / "c.csv").write_text("time,event\n" + "".join(f"{10 * number},{'ab'[number % 2]}{number % 60 // 2}\n" for number in range(6000)))
-    return {"drive": page_of(Table.read(EXAMPLES / "drive.txt"), EXAMPLES / "drive.csv"),
-            "long": page_of(LONG, folder / "a.csv", folder / "nowhere.csv"),
-            "broken": page_of(many_rows(40), folder / "b.csv"), "large": page_of(many_rows(30), folder / "c.csv")}
+    logs = {"drive": (Table.read(EXAMPLES / "drive.txt"), EXAMPLES / "drive.csv"), "long": (LONG, folder / "a.csv", folder / "nowhere.csv"),
+            "broken": (many_rows(40), folder / "b.csv"), "large": (many_rows(30), folder / "c.csv")}
+    return {name: page_of(*given, violations=str(folder / name)) for name, given in logs.items()}
 
 
 def right(found, dark):
@@ -85,21 +91,25 @@ def right(found, dark):
     assert (found["dark"], found["back"]) == (dark, "rgb(16, 18, 22)" if dark else "rgb(255, 255, 255)")
 
 
-@pytest.mark.parametrize("name", ["drive", "long", "broken", "large"])
-@pytest.mark.parametrize("width, dark", [(1400, False), (1400, True), (1920, False), (390, True), (800, False)])
-def test_nothing_is_cut_off(tmp_path, pages, name, width, dark):
-    right(run(tmp_path, pages[name], width, _MEASURE, dark), dark)
+@pytest.mark.parametrize("dark", [False, True])
+def test_nothing_is_cut_off(tmp_path, pages, dark):
+    """On a wide screen, a very wide one, a tablet and a phone."""
+    frames = {f"{name}-{width}": (page, width) for name, page in pages.items() for width in (1400, 1920, 800, 390)}
+    for name, found in run(tmp_path, frames, _MEASURE, dark).items():
+        assert found["wide"] == frames[name][1]
+        right(found, dark)
 
 
-@pytest.mark.parametrize("name", ["drive", "long", "broken", "large"])
-def test_on_paper(tmp_path, pages, name):
+def test_on_paper(tmp_path, pages):
     """A4 without its margins is 186 mm wide, 703 px; what is for print is measured as if it were for all."""
-    page = pages[name].replace("@media screen and", "@media speech and").replace("@media print", "@media all")
-    right(run(tmp_path, page, 703, _MEASURE), False)
+    frames = {name: (page.replace("@media screen and", "@media speech and").replace("@media print", "@media all")
+                     .replace('<details class="violations">', '<details class="violations" open>'), 703) for name, page in pages.items()}
+    for found in run(tmp_path, frames, _MEASURE).values():
+        right(found, False)
 
 
 def test_sorting_and_filtering(tmp_path, pages):
-    found = run(tmp_path, pages["drive"], 1400, """
+    found = run(tmp_path, {"drive": (pages["drive"], 1400)}, """
       const rows = () => [...document.querySelectorAll("tbody.row")].filter(row => !row.hidden).map(row => row.id.split("row")[1]).join(" ");
       const press = text => [...document.querySelectorAll("th [role=button]")].find(one => one.textContent.startsWith(text)).click();
       const tools = document.querySelector("form.tools"), found = {tools: !tools.hidden, first: rows()};
@@ -113,7 +123,7 @@ def test_sorting_and_filtering(tmp_path, pages):
       found.said = tools.querySelector(".found").textContent;
       location.hash = "#log1-row1";
       dispatchEvent(new Event("hashchange")); found.link = rows();
-      return found;""")
+      return found;""")["drive"]
     first = "1 9 7 0 2 3 4 5 6 8 10 11 12"
     assert found == {"tools": True, "first": first, "number": " ".join(map(str, range(13))), "judged": "2", "margin": "1 0",
                      "verdict": first, "broken": "1 9 7", "tyre": "9", "said": "1 of 13 rows", "link": first}
@@ -121,13 +131,13 @@ def test_sorting_and_filtering(tmp_path, pages):
 
 def test_one_rows_stretches(tmp_path, pages):
     """The reader chooses a row, without a script of the page."""
-    found = run(tmp_path, re.sub(r"<script>.*?</script>", "", pages["drive"], flags=re.S), 1400, """
+    found = run(tmp_path, {"drive": (re.sub(r"<script>.*?</script>", "", pages["drive"], flags=re.S), 1400)}, """
       const shown = () => [...document.querySelectorAll(".timeline g")].filter(one => getComputedStyle(one).display != "none").map(
         one => one.getAttribute("class")).join(" ");
       const found = {tools: document.querySelector("form.tools").getBoundingClientRect().height, first: shown()};
       document.querySelector(".choice [value='4']").click(); found.other = shown();
       document.querySelector(".choice [value='all']").click(); found.all = shown().split(" ").length;
-      return found;""")
+      return found;""")["drive"]
     assert found == {"tools": 0, "first": "row1", "other": "row4", "all": 13}
 
 
@@ -135,5 +145,5 @@ def test_the_policy_of_the_page_lets_its_own_script_run_and_no_other(tmp_path, p
     path = tmp_path / "page.html"
     path.write_text(pages["drive"].replace("</body>", "<script>document.body.id = 'other'</script></body>"), encoding="utf-8")
     words = [BROWSER, "--headless", "--no-sandbox", "--disable-gpu", f"--user-data-dir={tmp_path}/profile", "--dump-dom", path.as_uri()]
-    found = subprocess.run(words, capture_output=True, text=True, timeout=90).stdout
+    found = subprocess.run(words, capture_output=True, text=True, timeout=300).stdout
     assert 'role="button"' in found and 'id="other"' not in found and '<form class="tools">' in found

@@ -14,10 +14,10 @@ from delkuthi.logs import Policy
 from delkuthi.output import as_json, as_junit
 from delkuthi.recording import recording_bytes
 
-from conftest import EXAMPLES, ROOT
+from conftest import EXAMPLES, ROOT, unwrapped
 from strategies import played
 
-MESSAGES = (EXAMPLES / "messages.txt").read_text(encoding="utf-8").splitlines()
+MESSAGES = unwrapped((EXAMPLES / "messages.txt").read_text(encoding="utf-8")).splitlines()
 REPORT = (EXAMPLES / "report.txt").read_text().splitlines()
 ROWS, BROKEN = len(REPORT) - 1, sum("broken" in line for line in REPORT)
 
@@ -131,10 +131,38 @@ def test_json():
     assert {*found["logs"][0], *rows[0]} - told == set(), "the manual names each"
 
 
+#: What Jenkins' and Surefire's schema allow: for each element its attributes, those that are needed first, and its children in order.
+SCHEMA = {
+    "testsuites": (["name"], ["time", "tests", "failures", "disabled", "errors"], ["testsuite"]),
+    "testsuite": (["name", "tests"], ["failures", "errors", "time", "disabled", "skipped", "timestamp", "hostname", "id", "package"],
+                  ["properties", "testcase", "system-out", "system-err"]),
+    "properties": ([], [], ["property"]), "property": (["name", "value"], [], []),
+    "testcase": (["name", "classname"], ["assertions", "time", "status"], ["skipped", "error", "failure", "system-out", "system-err"]),
+    "skipped": ([], ["message"], []), "error": ([], ["type", "message"], []), "failure": ([], ["type", "message"], []),
+    "system-out": ([], [], []), "system-err": ([], [], []),
+}
+SHAPES = {"time": r"\d+\.\d{3}", "timestamp": r"\d{4}-\d\d-\d\dT\d\d:\d\d:\d\d", **dict.fromkeys(("tests", "failures", "errors", "skipped"), r"\d+")}
+
+
+def as_the_schema_has_it(element):
+    """The element has what the schema asks for, and nothing that it does not know."""
+    needed, allowed, children = SCHEMA[element.tag]
+    assert set(needed) <= set(element.attrib) <= {*needed, *allowed}, element.attrib
+    for name, value in element.attrib.items():
+        assert re.fullmatch(SHAPES.get(name, ".*"), value, re.DOTALL), (name, value)
+    places = [children.index(child.tag) for child in element]
+    assert places == sorted(places)
+    for child in element:
+        as_the_schema_has_it(child)
+
+
 def test_junit():
     table = Table.read(EXAMPLES / "drive.txt")
     tree = xml.fromstring(as_junit(table, [drive(), drive("drive.log"), check(table, "no<where&.csv")]).encode())
-    assert tree.attrib == {"name": "delkuthi", "tests": f"{2 * ROWS + 1}", "failures": f"{2 * BROKEN}", "errors": "1", "skipped": "0"}
+    assert {**tree.attrib, "time": ""} == {"name": "delkuthi", "tests": f"{2 * ROWS + 1}", "failures": f"{2 * BROKEN}", "errors": "1", "time": ""}
     assert [suite.get("failures") for suite in tree] == [f"{BROKEN}", f"{BROKEN}", "0"]
-    failure = tree[0][1].find("failure")
+    as_the_schema_has_it(tree)
+    case = tree[0].findall("testcase")[1]
+    assert f"\nfile: {EXAMPLES}/drive.csv\nline: 39" in case.find("system-out").text
+    failure = case.find("failure")
     assert failure.get("type") == "StrongDelay" and MESSAGES[0].split(": ", 1)[1] in failure.get("message")

@@ -54,8 +54,11 @@ def options(chance):
     """Some options of a log."""
     found = []
     for some in (["--equal", "drop"], ["--equal", "later"], ["--unsorted", "sort"], ["--round"], ["--from-zero"], ["--as-stamped"],
-                 ["--no-close"], ["--encoding", chance.choice(["cp1252", "utf-16", "ascii"])], ["--time-unit", "ms"],
-                 ["--format", chance.choice(["csv", "asc", "blf", "btf", "trc", "log", "xlsx", "bin", "db"])], ["--until", chance.choice(["300 ms", "9" * 30, "1152921504606846976", "1.5", "-1", "x"])]):
+                 ["--no-close"], ["--from", chance.choice(["brake_pedal", "wheel_speed", "100 ms", "+1 ms", "-5", "x", ""])],
+                 ["--to", chance.choice(["camera_frame", "200 ms", "+9 s", "9" * 30])],
+                 ["--encoding", chance.choice(["cp1252", "utf-16", "ascii"])], ["--time-unit", "ms"],
+                 ["--format", chance.choice(["csv", "asc", "blf", "btf", "trc", "log", "xlsx", "bin", "db"])],
+                 ["--until", chance.choice(["300 ms", "9" * 30, "1152921504606846976", "1.5", "-1", "x"])]):
         if chance.randrange(24 if some[0] in ("--format", "--encoding") else 4) == 0:
             found += some
     return found
@@ -76,7 +79,8 @@ def command(chance, table, log):
     if what == 4:
         return ["stamps", table, log, row, chance.choice(["1 ms", "0", "9" * 30, "-1", "1.0000001 s"]), *options(chance)]
     shown = chance.choice(([], [], ["--json"], ["--junit", "out.xml"], ["--html", "out.html"], ["--plot", "out.svg"], ["--page"],
-                           ["--exercised"], ["--measure"],
+                           ["--exercised"], ["--measure"], ["--cut"], ["--close"], ["--cut", "--measure"],
+                           ["--violations", "out.csv"], ["--violations", "out.json", "--cut"],
                            ["--trace", "out.json"], ["--measure", "--html", "out.html"], ["--as-one", log]))
     return ["check", table, log, *shown, *options(chance)]
 

@@ -21,7 +21,7 @@ def test_what_is_made_is_what_the_list_says():
 
 def test_a_new_type_is_made(tmp_path):
     """A line that is missing is said, what a new type lacks is said, and the rest is written wherever it belongs."""
-    for part in ("release", "crates", "python/delkuthi", "python/README.md", "docs/CONTRACT.md", "docs/READING.md", "include",
+    for part in ("release", "crates", "python/delkuthi", "python/README.md", "docs/CONTRACT.md", "include",
                  "examples/rows", "host/c/make_table.c", "host/delkuthi/src/table.rs", "host/checks/src/rows.rs", "host/model/src"):
         (tmp_path / part).parent.mkdir(parents=True, exist_ok=True)
         copy = shutil.copytree if (ROOT / part).is_dir() else shutil.copy

@@ -16,7 +16,7 @@ from delkuthi.scope import Edge, Scope
 from delkuthi.signals import colours
 from delkuthi.time_format import TimeFormat
 
-from conftest import ROOT
+from conftest import EXAMPLES, ROOT
 from test_measure import closes_well, random_row, random_steps
 
 CUT = Scope(edges="cut")
@@ -382,7 +382,11 @@ def test_a_part_of_a_long_log_takes_no_more_than_the_step_by_step_path(tmp_path)
     assert outcome.seconds < 20 and outcome.rows[0].verdict == "kept so far" and outcome.rows[0].instances == 50_000
 
 
-def test_the_manual_has_the_words():
+def test_the_manual(command):
+    """The example of a log that is cut is what the command prints."""
     manual = (ROOT / "python/README.md").read_text(encoding="utf-8")
+    line = "delkuthi check drive.txt drive.csv --cut --quiet"
+    status, out, _ = command(*line.split()[1:], cwd=EXAMPLES)
+    assert status == 1 and f"    {line}\n\n" + "".join(f"    {one}\n" for one in out.splitlines()) in manual
     for word in ("--from", "--to", "--cut", "--close", "while ignition_on .. ignition_off", "not yet due", "left out"):
         assert word in manual

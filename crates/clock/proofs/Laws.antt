@@ -10,14 +10,15 @@ use Rattle.constraint.specs.Recording.{record-taken, recordQuestions, recording
 use Rattle.constraint.specs.{Accepted.Accepted, Accepted.rowsQuestions, Limits.streamCount, Promise.play, Questions.Judged, Run.Left, Run.asks}
 use Rattle.constraint.specs.{Run.done, Run.questions, Run.stepFor, Steps.Step, Steps.at, Steps.clock, Table.lengthAt}
 use Rattle.constraint.specs.{declared.Answer.the-variants.Refused, declared.Answer.the-variants.Taken, declared.Call.Call}
-use Rattle.machine.specs.Parts.{plus}
-use Rattle.monitor.proofs.{Following.Follows, Withdrawing.after-call, Withdrawing.remains-follows, Withdrawing.steps-keep, Withdrawing.takes-more}
+use Rattle.row_type.specs.Parts.{plus}
+use Rattle.monitor.proofs.{StepRefinement.Follows, Withdrawing.after-call, Withdrawing.remains-follows, Withdrawing.steps-keep}
+use Rattle.monitor.proofs.{Withdrawing.takes-more}
 use Rattle.monitor.specs.Machine.{anyFirst, monitorOf, refuses, stepOf, steppedBy, takenCall, takes}
 use Rattle.monitor.specs.{Beside.allTaken, Contract.Steps, Contract.after, declared.Monitor.Monitor, declared.Stepped.Stepped}
-use Rattle.questions.specs.Questions.{closedAfter, freeAfter, occurrenceBy, placeFor, refusalBy}
+use Rattle.questions.specs.Questions.{closedAfter, freeAfter, stepInputBy, placeFor, refusalBy}
 use Rattle.recording.proofs.Records.{record-judged, record-refused as record-not-there}
 use Rattle.recording.specs.Record.{CallAt}
-use Rattle.row.proofs.Engine.{engine}
+use Rattle.row.proofs.EveryType.{every-type-exact}
 
 -- ---- a call, on the clock's numbers
 
@@ -33,7 +34,7 @@ refusalOf o s = refusalBy s (o .closed) (o .count) (o .time) (freeFor o s)
 abbrev pub clockAfter : Clock → Call → Clock
 clockAfter o s =
     record {
-      time = occurrenceBy s (o .time) .time;
+      time = stepInputBy s (o .time) .time;
       count = plus (o .count) 1;
       next = set (o .next) (placeFor s) (freeAfter s (freeFor o s));
       closed = closedAfter s (o .closed);
@@ -61,9 +62,9 @@ module _ (steps : List Step) (o : Clock) (before : After steps o) where
   m : Monitor
   m = after [] (map asks (before .calls))
 
-  follows : Follows engine [] steps m
+  follows : Follows every-type-exact [] steps m
   unfolding m
-  follows = remains-follows engine [] none-accepted (map asks (before .calls)) (allTaken (before .calls), before .all-taken .1)
+  follows = remains-follows every-type-exact [] none-accepted (map asks (before .calls)) (allTaken (before .calls), before .all-taken .1)
 
   -- the clock is that of the steps, which could all be taken
   pub after-valid : Valid steps
@@ -75,7 +76,7 @@ module _ (steps : List Step) (o : Clock) (before : After steps o) where
 
   module _ (s : Call) where
     kept : Steps m (asks s) (stepOf m s)
-    kept = steps-keep engine m (asks s)
+    kept = steps-keep every-type-exact m (asks s)
 
     judged : Judged (questions [] steps s) (stepOf m s .answer)
     unfolding m

@@ -1,7 +1,7 @@
 // The clock of a recording: its time, its count and the first free time of each stream, with the questions of a step but 12. Records are read over
 // it one by one, with no row stepped.
 use constraint::Call;
-use machine::parts::plus;
+use row_type::parts::plus;
 ghost use mathlib.Core.Path.{_≡_};
 ghost use Rattle.clock.specs.Clock.{Starts, TakesCall, refusedRead, AsksCall, ReadsNext};
 
@@ -55,7 +55,7 @@ impl Clock {
                 clock: self,
             };
         }
-        let o = questions::occurrence(call, self.time);
+        let o = questions::step_input(call, self.time);
         let mut clock = self;
         clock.next[at] = questions::free(call, next);
         clock.time = o.time;

@@ -1,7 +1,8 @@
 -- What colours leave as it was, for tables and events of plain kinds: their questions have the answers that they had, and a row of any type but 9
 -- is open just where it was over continuations of kinds 0 to 63, since of any continuation the row's own events alone will do.
 use Rattle.constraint.proofs.Names.{Answer, Call, Constraint, Continues, EventInOrder, Field, InRange, Judged, KindsFit, KindsSuit, List}
-use Rattle.constraint.proofs.Names.{LowerFirst, Meets, Open, Question, Room, SortsFit, Step, [], _++_, _<_, _↔_, _∙_, _∷_, _≡_, _≤_, among, ap}
+use Rattle.constraint.proofs.Names.{LowerFirst, Meets, Open, Question, Room, KindClassesFit, Step, [], _++_, _<_, _↔_, _∙_, _∷_, _≡_, _≤_}
+use Rattle.constraint.proofs.Names.{among, ap}
 use Rattle.constraint.proofs.Names.{arith, at, byte, clock, clockFrom, close, closed, coloured, cond, count, event, false, fieldsOf}
 use Rattle.constraint.proofs.Names.{firstColoured, kind, kinds, lastCount, lastKind, lastTime, length, more, own, questions, refl}
 use Rattle.constraint.proofs.Names.{rowQuestions, span, stop, sym, tick, time, times, true, typeOf, ℕ}
@@ -16,6 +17,7 @@ use Rattle.constraint.proofs.{Continuations.meets-same, Judged.put-in, 
 abbrev pub rowQuestionsBefore : Constraint → List Question
 rowQuestionsBefore c = (5, KindsFit (kinds c)) ∷ (6, InRange c) ∷ (7, LowerFirst c) ∷ []
 
+-- §8.18
 pub row-as-before : (c : Constraint) → KindsSuit c → (a : Answer) → Judged (rowQuestions c) a ↔ Judged (rowQuestionsBefore c) a
 row-as-before c suit a =
     let first : List Question = (5, KindsFit (kinds c)) ∷ [] in
@@ -28,6 +30,7 @@ eventQuestionsBefore rows steps k t =
     (8, closed steps ≡ false) ∷ (24, length steps < lastCount) ∷ (9, k ≤ lastKind) ∷ (10, t ≤ lastTime) ∷ (11, EventInOrder steps k t)
     ∷ (12, Room rows (steps ++ (event k t ∷ []))) ∷ []
 
+-- §8.19
 pub event-as-before : (rows : List Constraint) (steps : List Step) (k t : ℕ) → k < firstColoured → (a : Answer)
     → Judged (questions rows steps (Call.Event k t)) a ↔ Judged (eventQuestionsBefore rows steps k t) a
 unfolding questions
@@ -96,7 +99,7 @@ module _ (ks : List ℕ) (small : Each (λ k. k ≤ lastKind) ks) where
       refl
 
 -- the streams of fields of which none is coloured are plain kinds
-plain-streams : (fields : List Field) → SortsFit fields → Uncoloured fields → Each (λ k. k ≤ lastKind) (streamsIn fields)
+plain-streams : (fields : List Field) → KindClassesFit fields → Uncoloured fields → Each (λ k. k ≤ lastKind) (streamsIn fields)
 plain-streams [] suit plain = each-none (λ k. k ≤ lastKind)
 plain-streams (byte kind x ∷ fields) suit plain =
     each-cons (λ k. k ≤ lastKind) x (streamsIn fields) (omega (arith, suit .0)) (plain-streams fields (suit .1) plain)
@@ -105,7 +108,7 @@ plain-streams (byte count x ∷ fields) suit plain = plain-streams fields (suit 
 plain-streams (byte (span limit) x ∷ fields) suit plain = plain-streams fields (suit .1) plain
 plain-streams (time role x ∷ fields) suit plain = plain-streams fields (suit .1) plain
 
--- a row of any type but 9 whose kinds are plain is open just where it was; and its verdict is read off that alone (§2.4, §2.5, §2.6)
+-- §2.4: a row of any type but 9 whose kinds are plain is open just where it was; and its verdict is read off that alone (§2.4, §2.5, §2.6)
 pub open-as-before : (c : Constraint) → KindsSuit c → ¬ (typeOf c ≡ 9) → (steps : List Step) → Open c steps ↔ OpenBefore c steps
 unfolding KindsSuit
 open-as-before c suit other steps = (

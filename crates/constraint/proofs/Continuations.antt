@@ -10,7 +10,7 @@ use Rattle.constraint.proofs.{Streams.streams, Types.lawful}
 unfoldable pub use Rattle.constraint.proofs.Lawful.{timesIn}
 pub use Rattle.constraint.proofs.Lawful.{own-times, SameTimes, same-times, of-colour, not-later-earlier}
 
--- what a row says of some events and a clock it says of the same events and every earlier clock
+-- §2.2: what a row says of some events and a clock it says of the same events and every earlier clock
 pub meets-same : (c : Constraint) (a b : List Step) → own (streams c) a ≡ own (streams c) b → clock b ≤ clock a → Meets c a → Meets c b
 meets-same c a b same earlier m = lawful c .same a b same (same-times (streams c) a b same) earlier m
 
@@ -34,7 +34,7 @@ continues-clock (more {steps = steps} {further = further} j t o kind order rest)
     subst (λ (all : List Step). clock (steps ++ (event j t ∷ [])) ≤ clock all) (append-assoc steps (event j t ∷ []) further) (continues-clock rest) in
     omega (arith, clock-event j t steps, order .0)
 
--- "After the close only the empty one is left."
+-- §2.3: "After the close only the empty one is left."
 pub continues-closed : {steps further : List Step} → closed steps ≡ true → Continues steps further → further ≡ []
 continues-closed c stop = refl
 continues-closed c (more j t o kind order rest) = absurd (let z : _≡_ {A = ℕ} 0 1 = cc in omega arith)

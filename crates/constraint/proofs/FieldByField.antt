@@ -1,6 +1,7 @@
 -- A row's fields are asked one by one: what is asked of those from a place on is asked of the one at that place and of those behind it.
 use Rattle.constraint.proofs.Names.{Answer, Bool, Constraint, Decides, Field, Fields, FieldsInRange, HoldsRow, InRange, Judged, KindsFit}
-use Rattle.constraint.proofs.Names.{KindsSuit, List, LowerFirst, NotBelow, Refused, SortsFit, TimeRole, [], _++_, _+_, _<_, _∙_, _∷_, _≡_, _≢_}
+use Rattle.constraint.proofs.Names.{KindsSuit, List, LowerFirst, NotBelow, Refused, KindClassesFit, TimeRole, [], _++_, _+_, _<_, _∙_, _∷_}
+use Rattle.constraint.proofs.Names.{_≡_, _≢_}
 use Rattle.constraint.proofs.Names.{_≤_, add-one, ap, append-nil, arith, at, byte, byteField, bytesFrom, coloured, cond, count, drop}
 use Rattle.constraint.proofs.Names.{drop-cons, drop-of-length-le, eqb, eqb-true, false, fieldAt, fieldsAs, isKind, kind, kinds, kindsIn}
 use Rattle.constraint.proofs.Names.{lastTime, leb, length, lower, ne-eqb, plain, plainRole, refl, rowQuestions, span, subst, subst⁻¹, sym}
@@ -117,30 +118,30 @@ span-test r x some = same-test (λ h. (omega arith, h, tt)) (λ h. h .1) (leb x 
 
 -- Plain and coloured kinds
 
-sorts-join : (a b : List Field) → SortsFit a → SortsFit b → SortsFit (a ++ b)
+sorts-join : (a b : List Field) → KindClassesFit a → KindClassesFit b → KindClassesFit (a ++ b)
 sorts-join [] b h k = k
 sorts-join (f ∷ a) b h k = (h .0, sorts-join a b (h .1) k)
 
-sorts-parts : (a b : List Field) → SortsFit (a ++ b) → SortsFit a × SortsFit b
+sorts-parts : (a b : List Field) → KindClassesFit (a ++ b) → KindClassesFit a × KindClassesFit b
 sorts-parts [] b h = (tt, h)
 sorts-parts (f ∷ a) b h = let parts = sorts-parts a b (h .1) in ((h .0, parts .0), parts .1)
 
-pub sort-wise : FieldWise SortsFit
+pub sort-wise : FieldWise KindClassesFit
 sort-wise = record { join = sorts-join; parts = sorts-parts }
 
 -- a byte of another role, or a time, is of no sort
-pub other-sorts : (r x : ℕ) → r ≢ 255 → r ≢ 253 → SortsFit (fieldAt byteField r x)
+pub other-sorts : (r x : ℕ) → r ≢ 255 → r ≢ 253 → KindClassesFit (fieldAt byteField r x)
 other-sorts r x plainless uncoloured =
     rw (ne-eqb r 255 plainless, ne-eqb r 253 uncoloured)
-    (split (eqb r 0) (λ none. SortsFit (cond none [] (byte (cond (eqb r 254) count (span r)) x ∷ []))) (λ e. tt)
-    (λ e. split (eqb r 254) (λ n. SortsFit (byte (cond n count (span r)) x ∷ [])) (λ e. (tt, tt)) (λ e. (tt, tt))))
+    (split (eqb r 0) (λ none. KindClassesFit (cond none [] (byte (cond (eqb r 254) count (span r)) x ∷ []))) (λ e. tt)
+    (λ e. split (eqb r 254) (λ n. KindClassesFit (byte (cond n count (span r)) x ∷ [])) (λ e. (tt, tt)) (λ e. (tt, tt))))
 
-times-sorts : (roles values : List ℕ) → SortsFit (fieldsAs timeField roles values)
+times-sorts : (roles values : List ℕ) → KindClassesFit (fieldsAs timeField roles values)
 unfolding fieldsAs
 times-sorts [] values = tt
 times-sorts (r ∷ roles) [] = tt
 times-sorts (r ∷ roles) (x ∷ values) =
-    split (eqb r 0) (λ none. SortsFit (cond none [] (timeField r x ∷ []) ++ fieldsAs timeField roles values))
+    split (eqb r 0) (λ none. KindClassesFit (cond none [] (timeField r x ∷ []) ++ fieldsAs timeField roles values))
     (λ e. times-sorts roles values) (λ e. (tt, times-sorts roles values))
 
 -- a time that may not be the mark
@@ -211,21 +212,21 @@ module _ (c : Constraint) (f : Fields) (holds : HoldsRow c f) where
   unfolding LowerFirst
   row-bounds = sym (bytes-bounds 0 (f .line .bytes) (f .bytes) (timeFields f)) ∙ ap (NotBelow 0) (holds .all)
 
-  row-sorts : SortsFit (byteFields f) → KindsSuit c
+  row-sorts : KindClassesFit (byteFields f) → KindsSuit c
   unfolding KindsSuit
-  row-sorts h = subst SortsFit (holds .all) (sorts-join (byteFields f) (timeFields f) h (times-sorts (f .line .times) (f .times)))
+  row-sorts h = subst KindClassesFit (holds .all) (sorts-join (byteFields f) (timeFields f) h (times-sorts (f .line .times) (f .times)))
 
   pub row-kinds-no : ¬ KindsFit (kindsIn (byteFields f)) → Judged (rowQuestions c) (Refused 5)
   row-kinds-no shut = judged-no 5 _ _ (subst (λ (ks : List ℕ). ¬ KindsFit ks) row-kinds shut)
 
   module _ (fit : KindsFit (kindsIn (byteFields f))) where
-    pub row-sorts-no : ¬ SortsFit (byteFields f) → Judged (rowQuestions c) (Refused 18)
+    pub row-sorts-no : ¬ KindClassesFit (byteFields f) → Judged (rowQuestions c) (Refused 18)
     unfolding KindsSuit
     row-sorts-no shut =
         judged-yes 5 _ _ _ (subst KindsFit row-kinds fit)
-        (judged-no 18 _ _ (λ all. shut (sorts-parts (byteFields f) (timeFields f) (subst⁻¹ SortsFit (holds .all) all) .0)))
+        (judged-no 18 _ _ (λ all. shut (sorts-parts (byteFields f) (timeFields f) (subst⁻¹ KindClassesFit (holds .all) all) .0)))
 
-    module _ (suit : SortsFit (byteFields f)) where
+    module _ (suit : KindClassesFit (byteFields f)) where
       asked-on : (a : Answer) → Judged ((6, InRange c) ∷ (7, LowerFirst c) ∷ []) a → Judged (rowQuestions c) a
       asked-on a later = judged-yes 5 _ _ a (subst KindsFit row-kinds fit) (judged-yes 18 _ _ a (row-sorts suit) later)
 

@@ -200,6 +200,7 @@ counted-of (event k t) steps a = a .counted
 counted-of (tick t) steps a = a .counted
 counted-of close steps a = a .counted
 
+-- §1.7, §3.9
 pub count-of : {steps : List Step} → Valid steps → length steps ≤ lastCount
 count-of valid-none = omega arith
 count-of (valid-more {steps = steps} s v a) = omega (arith, length-append steps (s ∷ []), counted-of s steps a)

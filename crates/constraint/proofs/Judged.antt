@@ -119,7 +119,7 @@ widened [] later n asked wider less a other (inr h) = absurd (other (h .1))
 widened (q ∷ first) later n asked wider less a other (inl h) = inl (h .0, widened first later n asked wider less a other (h .1))
 widened (q ∷ first) later n asked wider less a other (inr h) = inr h
 
--- questions have one answer
+-- §9.1: questions have one answer
 pub judged-once : (questions : List Question) (a b : Answer) → Judged questions a → Judged questions b → a ≡ b
 unfolding Judged
 judged-once [] a b h k = h ∙ sym k

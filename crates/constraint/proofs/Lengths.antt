@@ -20,7 +20,7 @@ at-most most (x ∷ xs) h (suc i) = at-most most xs (h .1) i
 pub last-listed : (edition : ℕ) → lastType edition < length lengths
 last-listed edition = omega (arith, at-most (length lengths - 1) lastTypes (omega arith) edition)
 
--- a row's shape fits in the editions that have its type
+-- §8.4: a row's shape fits in the editions that have its type
 pub row-fits : (edition : ℕ) (c : Constraint) → typeOf c ≤ lastType edition → ShapeFits edition (rowBody c)
 unfolding rowBody
 row-fits edition c known =

@@ -15,7 +15,7 @@ use Rattle.constraint.proofs.Judged.{judged-all, judged-yes, put-in, wi
 use Rattle.constraint.proofs.{Counting.next-least, Counting.next-snoc, Counting.nextFree, Lists.Each, Runs.accepts-taken, Runs.valid-less}
 use Rattle.constraint.proofs.{Withdrawals.but-last, Withdrawals.butLast}
 
--- the last time before clocks were longer
+-- §1.11: the last time before clocks were longer
 abbrev pub lastTimeBefore : ℕ
 lastTimeBefore = 2 ^ 56 - 1
 
@@ -67,7 +67,7 @@ rows-still i (c ∷ rows) judged =
     judged-yes 3 _ _ Taken (room .0) (judged-yes 4 _ _ Taken (known .0) (judged-yes 5 _ _ Taken (fit .0) (judged-yes 18 _ _ Taken (suit .0)
     (judged-yes 6 _ _ Taken (range-still (fieldsOf c) (range .0)) (judged-yes 7 _ _ Taken (first .0) (rows-still (i + 1) rows (first .1)))))))
 
--- a table that was accepted is accepted; its bytes (§4.3) name no last time
+-- §1.11: a table that was accepted is accepted; its bytes (§4.3) name no last time
 pub accepted-still : (rows : List Constraint) → Judged (rowsQuestionsBefore 0 rows) Taken → Accepted rows
 accepted-still rows judged = (1, rows-still 0 rows judged)
 

@@ -8,7 +8,8 @@ pub use Rattle.constraint.proofs.Library.{lt-ltb, ltb}
 pub use Rattle.constraint.proofs.Library.{ltb-false, ltb-true, map, max, ne-eqb, needs, none, not, not-false}
 pub use Rattle.constraint.proofs.Library.{or-true as either-true, refl, replicate, set, some, subst, subst⁻¹, subst₂, suc, sym, take}
 pub use Rattle.constraint.proofs.Library.{take-all, take-append-le, take-append-seam, take-suc-set, true, zero, ℕ, ℕ-discrete, ⊎-elim}
-pub use Rattle.constraint.specs.Accepted.{Accepted, AcceptedIn, FieldsInRange, NotBelow, SortsFit, kinds, kindsIn, rowQuestions, rowQuestionsIn}
+pub use Rattle.constraint.specs.Accepted.{Accepted, AcceptedIn, FieldsInRange, NotBelow, KindClassesFit, kinds, kindsIn, rowQuestions}
+pub use Rattle.constraint.specs.Accepted.{rowQuestionsIn}
 pub use Rattle.constraint.specs.Continuation.{BrokenAt, Continues, EventInOrder, Open, Reads, more, reads-broken, reads-kept, reads-open, stop}
 pub use Rattle.constraint.specs.Limits.{firstColoured, lastColour, lastCount, lastKind, lastTime, noLimit, rowLimit, streamCount}
 pub use Rattle.constraint.specs.Meets.{Apart, AtLeastApart, Between, Executes, HiddenPoints, NotLater, Recorded, no-event, paused, started}

@@ -23,14 +23,14 @@ unfolding questions
 accepts-taken rows steps (Call.Event k t) judged =
     let eight = judged-all 8 _ _ judged in
     let full = judged-all 24 _ _ (eight .1) in
-    let form = judged-all 19 _ _ (judged-all 9 _ _ (full .1) .1) in
-    accepts-event rows steps k t (eight .0) (full .0) (omega (arith, form .0)) (form .1)
+    let tag = judged-all 19 _ _ (judged-all 9 _ _ (full .1) .1) in
+    accepts-event rows steps k t (eight .0) (full .0) (omega (arith, tag .0)) (tag .1)
 accepts-taken rows steps (Call.ColouredEvent k c t) judged =
     let eight = judged-all 8 _ _ judged in
     let full = judged-all 24 _ _ (eight .1) in
     let nine = judged-all 9 _ _ (full .1) in
-    let form = judged-all 19 _ _ (nine .1) in
-    accepts-event rows steps (stream k c) t (eight .0) (full .0) (stream-below k c (nine .0) (form .0 .1)) (form .1)
+    let tag = judged-all 19 _ _ (nine .1) in
+    accepts-event rows steps (stream k c) t (eight .0) (full .0) (stream-below k c (nine .0) (tag .0 .1)) (tag .1)
 accepts-taken rows steps (Call.Tick t) judged =
     let eight = judged-all 8 _ _ judged in
     let full = judged-all 24 _ _ (eight .1) in

@@ -9,7 +9,7 @@ use Rattle.constraint.proofs.Judged.{judged-no, judged-once, judged-yes
 
 -- ---- lists of requests
 
--- a list of requests has at most one list of answers, and leaves one list of steps
+-- §3.3, §3.13: a list of requests has at most one list of answers, and leaves one list of steps
 pub run-once : (rows : List Constraint) {left end end′ : Left} {requests : List Request} {xs ys : List Answer}
     → Run rows left requests xs end → Run rows left requests ys end′ → (xs ≡ ys) × (end ≡ end′)
 run-once rows done done = (refl, refl)
@@ -26,7 +26,7 @@ judged-some (q ∷ later) denied =
     let answered-no : ¬ ¬ q .1 = λ shut. denied (Refused (q .0), inr (shut, refl)) in
     answered-no (λ asked. judged-some later (λ found. denied (found .0, inl (asked, found .1))))
 
--- at the last count every call is answered 24, whatever it gives, until the recording is closed (§8.24)
+-- §8.24: at the last count every call is answered 24, whatever it gives, until the recording is closed
 pub full-refused : (rows : List Constraint) (steps : List Step) → closed steps ≡ false → length steps ≡ lastCount → (s : Call)
     → Judged (questions rows steps s) (Refused 24)
 unfolding questions
@@ -35,7 +35,7 @@ full-refused rows steps open-still full (Call.ColouredEvent k c t) = judged-yes 
 full-refused rows steps open-still full (Call.Tick t) = judged-yes 8 _ _ _ open-still (judged-no 24 _ _ (λ h. omega (arith, full)))
 full-refused rows steps open-still full Call.Close = judged-yes 8 _ _ _ open-still (judged-no 24 _ _ (λ h. omega (arith, full)))
 
--- a list of requests cannot fail to have answers
+-- §3.3: a list of requests cannot fail to have answers
 pub run-some : (rows : List Constraint) (requests : List Request) (left : Left)
     → ¬ ¬ ((answers : List Answer) × (end : Left) × Run rows left requests answers end)
 run-some rows [] left denied = denied ([], left, done)
@@ -49,7 +49,7 @@ run-some rows (r ∷ requests) left denied =
 apart-between : (lower upper x y : ℕ) → ¬ (upper ≡ noLimit) → Apart lower upper x y → Between lower upper x y
 apart-between lower upper x y limit b = (b .0, ⊎-elim (λ e. absurd (limit e)) (λ h. h) (b .1))
 
--- it asks for a target between the two, and nothing else: the mark says something only where it stands
+-- §5.1: it asks for a target between the two, and nothing else: the mark says something only where it stands
 pub delay-as-before : (lower upper : ℕ) (sources targets : List ℕ) → ¬ (upper ≡ noLimit)
     → MeetsDelay lower upper sources targets
     ↔ ((i : ℕ) → i < length sources → (j : ℕ) × (j < length targets) × Between lower upper (at sources i) (at targets j))
@@ -59,7 +59,7 @@ delay-as-before lower upper sources targets limit = (
   λ m i h. let a = m i h in (a .0, a .1, (a .2 .0, inr (a .2 .1))),
 )
 
--- and a source waits while no target is between them
+-- §5.1: and a source waits while no target is between them
 pub answered-as-before : (lower upper s t : ℕ) (targets : List ℕ) → ¬ (upper ≡ noLimit)
     → answered lower upper s (t ∷ targets) ≡ ((leb (s + lower) t && leb t (s + upper)) || answered lower upper s targets)
 unfolding answered
@@ -67,12 +67,13 @@ answered-as-before lower upper s t targets limit = rw (ne-eqb upper noLimit limi
 
 -- ---- rows that silence does not break
 
--- without an upper limit a Repeat and a Sporadic ask of the events alone, at every clock
+-- §5.3: without an upper limit a Repeat and a Sporadic ask of the events alone, at every clock
 pub unlimited-repeat-as-before : (span lower : ℕ) (events : List ℕ) (now : ℕ)
     → MeetsRepeat span lower noLimit events now ↔ SpansApart span lower noLimit events
 unfolding MeetsRepeat
 unlimited-repeat-as-before span lower events now = (λ m. m .0, λ m. (m, λ i h end. inl refl))
 
+-- §5.4
 pub unlimited-sporadic-as-before : (lower jitter minimum : ℕ) (events : List ℕ) (now : ℕ)
     → MeetsSporadic lower noLimit jitter minimum events now
     ↔ (((points : List ℕ) × HiddenPoints 1 lower noLimit jitter events points) × AtLeastApart minimum events)
@@ -82,7 +83,7 @@ unlimited-sporadic-as-before lower jitter minimum events now = (
   λ m. ((m .0 .0, m .0 .1, λ i e. inl refl), m .1),
 )
 
--- and so does a Burst
+-- §5.5: and so does a Burst
 pub burst-as-before : (kind maximum len minimum : ℕ) (a b : List Step) → times kind a ≡ times kind b
     → Meets (Burst kind maximum len minimum) a → Meets (Burst kind maximum len minimum) b
 unfolding Meets

@@ -1,5 +1,6 @@
 -- Streams and their kinds: the numbering is one to one, and a stream is one of a row's just where its kind is one of the row's.
-use Rattle.constraint.proofs.Names.{Constraint, Field, List, SortsFit, [], _++_, _+_, _-_, _/_, _<_, _||_, _∙_, _∷_, _≡_, _≤_, among, ap, ap₂}
+use Rattle.constraint.proofs.Names.{Constraint, Field, List, KindClassesFit, [], _++_, _+_, _-_, _/_, _<_, _||_, _∙_, _∷_, _≡_, _≤_, among, ap}
+use Rattle.constraint.proofs.Names.{ap₂}
 use Rattle.constraint.proofs.Names.{arith, at, by-cases, byte, coloured, count, decLt, either-true, eq-eqb, eqb, eqb-false, eqb-true, false}
 use Rattle.constraint.proofs.Names.{fieldsOf, firstColoured, kind, kindOf, kindsIn, lastColour, lastKind, le-ltb, length, lt-ltb, ne-eqb, refl}
 use Rattle.constraint.proofs.Names.{span, stream, streamCount, subst, suc, sym, time, true, zero, ℕ, ⊎-elim}
@@ -20,7 +21,7 @@ streamsIn (byte count x ∷ fields) = streamsIn fields
 streamsIn (byte (span limit) x ∷ fields) = streamsIn fields
 streamsIn (time role x ∷ fields) = streamsIn fields
 
--- the streams that concern a row: its plain kinds, and each colour of its coloured ones
+-- §1.9: the streams that concern a row: its plain kinds, and each colour of its coloured ones
 abbrev pub streams : Constraint → List ℕ
 streams c = streamsIn (fieldsOf c)
 
@@ -29,7 +30,7 @@ streams c = streamsIn (fieldsOf c)
 pub stream-below : (k c : ℕ) → k ≤ lastKind → c ≤ lastColour → stream k c < streamCount
 stream-below k c small few = omega arith
 
--- no two kinds and colours share a stream
+-- §1.9: no two kinds and colours share a stream
 pub streams-apart : (j k c d : ℕ) → firstColoured ≤ j → firstColoured ≤ k → c ≤ lastColour → d ≤ lastColour → stream j c ≡ stream k d → (j ≡ k)
     × (c ≡ d)
 streams-apart j k c d a b p q same = (omega arith, omega arith)
@@ -41,6 +42,7 @@ plain-kind s h = rw (lt-ltb s firstColoured h)
 pub coloured-kind : (s : ℕ) → firstColoured ≤ s → kindOf s ≡ firstColoured + (s - firstColoured) / 8
 coloured-kind s h = rw (le-ltb s firstColoured h)
 
+-- §1.9
 pub stream-kind : (k c : ℕ) → firstColoured ≤ k → c ≤ lastColour → kindOf (stream k c) ≡ k
 stream-kind k c h few = coloured-kind (stream k c) (omega arith) ∙ omega arith
 
@@ -110,8 +112,8 @@ coloured-alone s k h =
         absurd (other (ap kindOf (sym is ∙ colour-at k c (omega arith)) ∙ stream-kind k c h (omega arith))))
         (λ e. refl)
 
--- the kinds fitting, a stream is among those of some fields just where its kind is among theirs
-pub among-kinds : (s : ℕ) (fields : List Field) → SortsFit fields → among (kindOf s) (kindsIn fields) ≡ among s (streamsIn fields)
+-- §1.9: the kinds fitting, a stream is among those of some fields just where its kind is among theirs
+pub among-kinds : (s : ℕ) (fields : List Field) → KindClassesFit fields → among (kindOf s) (kindsIn fields) ≡ among s (streamsIn fields)
 among-kinds s [] h = refl
 among-kinds s (byte kind x ∷ fields) h = ap₂ _||_ (plain-alone s x (h .0)) (among-kinds s fields (h .1))
 among-kinds s (byte coloured x ∷ fields) h =

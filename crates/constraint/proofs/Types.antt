@@ -92,6 +92,7 @@ pub record Regular (c : Constraint) : Type 0 where
   pub sized : Sized c
   pub uncoloured : ¬ (typeOf c ≡ 9) → Uncoloured (fieldsOf c)
 
+-- §4.5
 pub regular : (c : Constraint) → Regular c
 -- Made by release/row-types.py, to the end of the list.
 unfolding rowRead strongSynchronizationRead synchronizationRead rowBody fieldsBytes timesBytes bytesOf
@@ -112,7 +113,7 @@ regular (Constraint.Synchronization3 a b c x) = record { again = λ more later. 
 regular (Constraint.Synchronization4 a b c d x) = record { again = λ more later. refl; parts = refl; sized = omega arith; uncoloured = λ e. tt }
 
 -- so the numbers of a row are read as the row
-pub numbers-read : (c : Constraint) (f : Fields) → HoldsRow c f → rowRead (f .line .form) (f .bytes) (f .times) ≡ c
+pub numbers-read : (c : Constraint) (f : Fields) → HoldsRow c f → rowRead (f .line .tag) (f .bytes) (f .times) ≡ c
 numbers-read c f holds =
     rw (holds .typed)
     (ap₂ (rowRead (typeOf c)) (whole (f .bytes) (bytesIn (fieldsOf c)) (holds .bytes)) (whole (f .times) (timesIn (fieldsOf c)) (holds .times))
@@ -197,6 +198,7 @@ module _ (b0 b1 b2 b3 b4 x0 x1 x2 x3 : ℕ) where
 
   -- End of what is made.
 
+  -- §4.5
   pub read-back : (t : ℕ) → (1 ≤ t) × (t < length lengths) → (takesCount t ≡ true → (2 ≤ b0) × (b0 ≤ 4)) → Back t
   unfolding rowRead
   read-back t known several =

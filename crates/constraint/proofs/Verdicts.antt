@@ -47,7 +47,7 @@ module _ (c : Constraint) where
   pub broken-shut : {steps : List Step} (n : ℕ) → Valid steps → BrokenAt c steps n → ¬ Open c steps
   broken-shut n v b o = b .after (open-prefix v o n)
 
-  -- the step is one that was taken: every row is open before any step
+  -- §2.5: the step is one that was taken: every row is open before any step
   pub broken-once : (steps : List Step) (n m : ℕ) → BrokenAt c steps n → BrokenAt c steps m → n ≡ m
   broken-once steps n m p q =
       by-cases (decLt n m) (λ h. absurd (p .after (q .before n h)))

@@ -34,6 +34,7 @@ begins-less : (first steps : List Step) (n : ℕ) → length first ≤ length (t
 begins-less first steps n enough b =
     subst (λ (l : List Step). Begins first (take n l)) (sym (b .1)) (take-begins n first (b .0) (omega (arith, enough, length-take n steps)))
 
+-- §3.15
 pub keeps-begins : (first : List Step) {rows : List Constraint} {left end : Left} {requests : List Request} {answers : List Answer}
     (run : Run rows left requests answers end) → Keeps (length first) run → Begins first (left .steps) → Begins first (end .steps)
 keeps-begins first done keeps b = b
@@ -43,7 +44,7 @@ keeps-begins first (request {left = left} withdraws Taken judged rest) keeps b =
     keeps-begins first rest (keeps .1) (begins-less first (left .steps) (length (left .steps) - 1) (keeps .0) b)
 keeps-begins first (request r (Refused n) judged rest) keeps b = keeps-begins first rest (keeps .1) b
 
--- a list of calls withdraws nothing
+-- §3.7: a list of calls withdraws nothing
 pub calls-keep : (n : ℕ) {rows : List Constraint} (calls : List Call) {left end : Left} {answers : List Answer}
     (run : Run rows left (map asks calls) answers end) → n ≤ length (left .steps) → Keeps n run
 calls-keep n [] done h = tt

@@ -31,21 +31,21 @@ unfoldable pub KindsFit : List ℕ → Type 0
 KindsFit ks = ((i : ℕ) → i < length ks → at ks i ≤ lastKind) × ((i j : ℕ) → i < j → j < length ks → ¬ (at ks i ≡ at ks j))
 
 -- §8.18; CR 6: a plain kind where the type takes plain ones, a coloured one where it takes coloured ones
-abbrev pub SortFits : Field → Type 0
-SortFits (byte kind x) = x < firstColoured
-SortFits (byte coloured x) = firstColoured ≤ x
-SortFits (byte count x) = Unit {0}
-SortFits (byte (span limit) x) = Unit {0}
-SortFits (time role x) = Unit {0}
+abbrev pub KindClassFits : Field → Type 0
+KindClassFits (byte kind x) = x < firstColoured
+KindClassFits (byte coloured x) = firstColoured ≤ x
+KindClassFits (byte count x) = Unit {0}
+KindClassFits (byte (span limit) x) = Unit {0}
+KindClassFits (time role x) = Unit {0}
 
 -- §8.18; CR 6: so it is in each of some fields
-abbrev pub SortsFit : List Field → Type 0
-SortsFit [] = Unit {0}
-SortsFit (f ∷ fields) = SortFits f × SortsFit fields
+abbrev pub KindClassesFit : List Field → Type 0
+KindClassesFit [] = Unit {0}
+KindClassesFit (f ∷ fields) = KindClassFits f × KindClassesFit fields
 
 -- §8.18; CR 6: and in each field of a row
 unfoldable pub KindsSuit : Constraint → Type 0
-KindsSuit c = SortsFit (fieldsOf c)
+KindsSuit c = KindClassesFit (fieldsOf c)
 
 -- §8.6, §4.7; 01, table; CR 1, 10: each of some fields is in its range; an upper may be the mark for no limit where the type has one
 abbrev pub FieldsInRange : List Field → Type 0
@@ -59,7 +59,7 @@ FieldsInRange (time lower x ∷ fields) = (x ≤ lastTime) × FieldsInRange fiel
 FieldsInRange (time upper x ∷ fields) = (x ≤ lastTime) × FieldsInRange fields
 FieldsInRange (time upper-or-none x ∷ fields) = ((x ≤ lastTime) ⊎ (x ≡ noLimit)) × FieldsInRange fields
 
--- §8.6; 01, questions: each field of a row is
+-- §4.6, §4.7, §5.9.6, §8.6; 01, questions: each field of a row is
 unfoldable pub InRange : Constraint → Type 0
 InRange c = FieldsInRange (fieldsOf c)
 
@@ -80,11 +80,11 @@ LowerFirst c = NotBelow 0 (fieldsOf c)
 abbrev pub rowQuestions : Constraint → List Question
 rowQuestions c = (5, KindsFit (kinds c)) ∷ (18, KindsSuit c) ∷ (6, InRange c) ∷ (7, LowerFirst c) ∷ []
 
--- §8.4, §9.7; 01, questions: 4, whether the type is one of the edition, and then these
+-- §8.4, §9.7, §16.5; 01, questions: 4, whether the type is one of the edition, and then these
 abbrev pub rowQuestionsIn : ℕ → Constraint → List Question
 rowQuestionsIn edition c = (4, typeOf c ≤ lastType edition) ∷ rowQuestions c
 
--- §9.7; 01, questions: 3 with i rows before (§8.3), then the row's own questions, row after row; and the questions that come after the rows
+-- §8.3, §9.7; 01, questions: 3 with i rows before (§8.3), then the row's own questions, row after row; and the questions that come after the rows
 unfoldable pub rowsQuestions : ℕ → ℕ → List Constraint → List Question → List Question
 rowsQuestions edition i [] after = after
 rowsQuestions edition i (c ∷ rows) after = (3, i < rowLimit) ∷ rowQuestionsIn edition c ++ rowsQuestions edition (i + 1) rows after

@@ -10,7 +10,7 @@ use Rattle.constraint.specs.Meets.{Meets}
 use Rattle.constraint.specs.declared.Constraint.{Constraint}
 use Rattle.constraint.specs.declared.Verdict.{Verdict}
 
--- §1.3; 01, time; CR 6: the time is the clock's or later, and later than those of all earlier events of the stream
+-- §1.3, §8.11; 01, time; CR 6: the time is the clock's or later, and later than those of all earlier events of the stream
 abbrev pub EventInOrder : List Step → ℕ → ℕ → Type 0
 EventInOrder steps s t = (clock steps ≤ t) × ((i : ℕ) → i < length (times s steps) → at (times s steps) i < t)
 

@@ -22,7 +22,7 @@ pub record Example : Type 0 where
 abbrev pub reads : Constraint → List Call → Verdict → Example
 reads c calls v = record { constraint = c; requests = map asks calls; answers = map (λ call. Taken) calls; verdict = v }
 
--- the examples of the contract
+-- §10.1 to §10.12, §10.14, §10.15: the examples of the contract
 abbrev pub examples : List Example
 examples =
     -- §10.1: a target in time

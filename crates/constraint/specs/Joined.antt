@@ -53,7 +53,7 @@ colouredBytes kind colour t = 0 ∷ 10 ∷ kind ∷ colour ∷ bytesOf 8 t
 abbrev pub tickBytes : ℕ → List ℕ
 tickBytes t = 0 ∷ 8 ∷ bytesOf 8 t
 
--- §7.2; 01, recording; CR 6: of a record
+-- §7.2, §13.3; 01, recording; CR 6: of a record
 unfoldable pub stepBytes : Step → List ℕ
 stepBytes (event s t) = cond (ltb s firstColoured) (eventBytes s t) (colouredBytes (kindOf s) ((s - firstColoured) % 8) t)
 stepBytes (tick t) = tickBytes t
@@ -64,7 +64,7 @@ unfoldable pub stepsBytes : List Step → List ℕ
 stepsBytes [] = []
 stepsBytes (s ∷ steps) = stepBytes s ++ stepsBytes steps
 
--- §7.1; 01, recording; CR 6: the version byte, then the records
+-- §7.1, §13.3; 01, recording; CR 6: the version byte, then the records
 abbrev pub recordingBytes : ℕ → List Step → List ℕ
 recordingBytes version steps = version ∷ stepsBytes steps
 
@@ -89,13 +89,13 @@ ofKinds kinds close = false
 unfoldable pub NoneInCommon : List Step → List Step → Type 0
 NoneInCommon first second = (k : ℕ) → among k (kindsOf first) ≡ true → among k (kindsOf second) ≡ false
 
--- §8.20; CR 8: the place of the first record, from a place on, that is of one of these kinds
+-- §8.20, §13.6; CR 8: the place of the first record, from a place on, that is of one of these kinds
 pub data FirstOf (kinds : List ℕ) (bytes : List ℕ) : ℕ → ℕ → Type 0 where
   here : {place : ℕ} → place < length bytes → ofKinds kinds (stepFor (callAt bytes place)) ≡ true → FirstOf kinds bytes place place
   later : {place found : ℕ} → place < length bytes → ofKinds kinds (stepFor (callAt bytes place)) ≡ false
       → FirstOf kinds bytes (place + 2 + lengthAt bytes place) found → FirstOf kinds bytes place found
 
--- §13.4 to §13.8; CR 8: the answer to a join, and what is then in the buffer
+-- §8.16, §8.20, §13.4 to §13.8; CR 8: the answer to a join, and what is then in the buffer
 pub data AnswersJoin (one two before : List ℕ) : JoinAnswer → List ℕ → Type 0 where
   no-first : (n place : ℕ) → ReadsInOrder one (recording-refused n place) → AnswersJoin one two before (JoinAnswer.FirstRefused n place) before
   no-second : (first : List Step) (n place : ℕ) → ReadsInOrder one (recording-of first) → ReadsInOrder two (recording-refused n place)

@@ -1,7 +1,7 @@
 -- The limits, one name each. The code's constants have the same names in capitals.
 use Prim.Native.Nat.{ℕ, _^_, _-_}
 
--- §1.2; 01, time: the last kind
+-- §1.2, §8.9; 01, time: the last kind
 abbrev pub lastKind : ℕ
 lastKind = 63
 
@@ -17,11 +17,11 @@ lastColour = 7
 abbrev pub streamCount : ℕ
 streamCount = 176
 
--- §1.1; CR 12: the last time
+-- §1.1, §8.10; CR 12: the last time
 abbrev pub lastTime : ℕ
 lastTime = 2 ^ 60 - 1
 
--- §1.7; CR 12: the last count of steps
+-- §1.7, §8.24; CR 12: the last count of steps
 abbrev pub lastCount : ℕ
 lastCount = 2 ^ 64 - 1
 
@@ -29,7 +29,7 @@ lastCount = 2 ^ 64 - 1
 abbrev pub noLimit : ℕ
 noLimit = 2 ^ 64 - 1
 
--- §4.2; 01, table: how many rows a table has at most
+-- §4.2, §8.3; 01, table: how many rows a table has at most
 abbrev pub rowLimit : ℕ
 rowLimit = 32
 
@@ -41,6 +41,6 @@ spanLimit = 64
 abbrev pub repetitionSpanLimit : ℕ
 repetitionSpanLimit = 8
 
--- §6.5; 01, what waits: how many wait in a row at most
+-- §6.5, §8.12; 01, what waits: how many wait in a row at most
 abbrev pub waitingLimit : ℕ
 waitingLimit = 64

@@ -25,7 +25,7 @@ NotLater upper x y = (upper ≡ noLimit) ⊎ (y ≤ x + upper)
 abbrev pub Apart : ℕ → ℕ → ℕ → ℕ → Type 0
 Apart lower upper x y = (x + lower ≤ y) × NotLater upper x y
 
--- §5.1; 01, row 1; CR 1: each source has a target lower to upper after it, or however late where upper is the mark
+-- §5.1, §5.1.6; 01, row 1; CR 1: each source has a target lower to upper after it, or however late where upper is the mark
 unfoldable pub MeetsDelay : ℕ → ℕ → List ℕ → List ℕ → Type 0
 MeetsDelay lower upper sources targets =
     (i : ℕ) → i < length sources → (j : ℕ) × (j < length targets) × Apart lower upper (at sources i) (at targets j)
@@ -120,7 +120,7 @@ unfoldable pub MeetsReaction : ℕ → ℕ → List ℕ → List ℕ → Type 0
 MeetsReaction minimum maximum stimuli responses =
     (i : ℕ) → i < length stimuli → (0 < length responses) × Between minimum maximum (at stimuli i) (at responses 0)
 
--- §2.2; 01, rows; CR 3: what a row asks of all events together, with the clock that they close at
+-- §2.1, §2.2, §5.9; 01, rows; CR 3: what a row asks of all events together, with the clock that they close at
 unfoldable pub Meets : Constraint → List Step → Type 0
 Meets (Delay source target lower upper) steps = MeetsDelay lower upper (times source steps) (times target steps)
 Meets (StrongDelay source target lower upper) steps = MeetsStrongDelay lower upper (times source steps) (times target steps)

@@ -75,7 +75,7 @@ unfoldable pub pageLines : (ℕ → ℕ) → (ℕ → Verdict) → ℕ → List 
 pageLines types verdicts zero = []
 pageLines types verdicts (suc i) = pageLines types verdicts i ++ heading i ++ pageLine i (types i) (verdicts i)
 
--- §7.17; CR 5: the page of n rows; of none, one heading
+-- §7.14, §7.17; CR 5: the page of n rows; of none, one heading
 abbrev pub pageText : (ℕ → ℕ) → (ℕ → Verdict) → ℕ → List ℕ
 pageText types verdicts zero = hyphens
 pageText types verdicts (suc n) = pageLines types verdicts (suc n)

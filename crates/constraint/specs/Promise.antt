@@ -40,7 +40,8 @@ module _ {Monitor : Type 0} (fresh : List Constraint → Monitor) (step : Monito
     (verdict : Monitor → ℕ → Option Verdict) where
   -- §3.6 to §3.8, §3.13 to §3.15; 01, time; CR 9: what a monitor promises
   pub record Promise : Type 0 where
-    -- §3.6, §3.13; 01, time; CR 9: over an accepted table and after any list of requests the answers are those of the questions, and each row reads
+    -- §3.1, §3.6, §3.13; 01, time; CR 9:
+    -- over an accepted table and after any list of requests the answers are those of the questions, and each row reads
     -- what the definitions say of the steps that are left
     pub exact : (rows : List Constraint) → Accepted rows → (requests : List Request)
         → (left : Left) × Run rows noneLeft requests (play step (fresh rows) requests .answers) left

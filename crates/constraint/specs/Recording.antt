@@ -41,7 +41,7 @@ pub data RecordingRead : Type 0 where
   recording-of : List Step → RecordingRead
   recording-refused : ℕ → ℕ → RecordingRead
 
--- §9.4; 01, questions: record by record, from a place on, over the steps accepted before
+-- §7.1, §9.4; 01, questions: record by record, from a place on, over the steps accepted before
 pub data ReadsRecords (rows : List Constraint) (bytes : List ℕ) : List Step → ℕ → RecordingRead → Type 0 where
   no-more : {before : List Step} {place : ℕ} → length bytes ≤ place → ReadsRecords rows bytes before place (recording-of before)
   record-refused : {before : List Step} {place : ℕ} (n : ℕ) → place < length bytes → Judged (recordQuestions rows before bytes place) (Refused n)
@@ -55,7 +55,7 @@ pub data ReadsRecords (rows : List Constraint) (bytes : List ℕ) : List Step �
 abbrev pub VersionKnown : List ℕ → Type 0
 VersionKnown bytes = (0 < length bytes) × (1 ≤ at bytes 0) × (at bytes 0 ≤ 2)
 
--- §9.4; 01, questions: 13, then record by record
+-- §7.1, §8.13, §9.4; 01, questions: 13, then record by record
 pub data ReadsRecording (rows : List Constraint) (bytes : List ℕ) : RecordingRead → Type 0 where
   version-refused : ¬ VersionKnown bytes → ReadsRecording rows bytes (recording-refused 13 0)
   version-taken : {read : RecordingRead} → VersionKnown bytes → ReadsRecords rows bytes [] 1 read → ReadsRecording rows bytes read

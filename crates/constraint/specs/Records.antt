@@ -102,7 +102,7 @@ timesBytes (x ∷ xs) = bytesOf 8 x ++ timesBytes xs
 
 -- the numbers are those of a row, and stand first in their arrays
 pub record HoldsRow (c : Constraint) (fields : Fields) : Type 0 where
-  pub typed : fields .line .form ≡ typeOf c
+  pub typed : fields .line .tag ≡ typeOf c
   pub all : bytesFrom (fields .line .bytes) (fields .bytes) 0 ++ timesFrom (fields .line .times) (fields .times) 0 ≡ fieldsOf c
   pub bytes : take (length (bytesIn (fieldsOf c))) (fields .bytes) ≡ bytesIn (fieldsOf c)
   pub times : take (length (timesIn (fieldsOf c))) (fields .times) ≡ timesIn (fieldsOf c)

@@ -64,7 +64,7 @@ closedText count verdicts = closedWord ++ blank ∷ decimal count ++ lineEnd ∷
 abbrev pub refusedText : ℕ → ℕ → List ℕ
 refusedText n place = refusedWord ++ blank ∷ decimal n ++ blank ∷ decimal place ++ lineEnd ∷ []
 
--- §2.4 to §2.6; 01, time: what each row reads
+-- §2.4 to §2.6, §7.4, §7.14; 01, time: what each row reads
 pub data EachReads (after : List Step) : List Constraint → List Verdict → Type 0 where
   no-row : EachReads after [] []
   row-reads : {c : Constraint} {rows : List Constraint} {v : Verdict} {verdicts : List Verdict} → Reads c after v → EachReads after rows verdicts
@@ -79,17 +79,17 @@ pub data ReportOfUpTo (newest : ℕ) (table recording : List ℕ) : List ℕ →
       → ReadsRecording rows recording (recording-of accepted) → EachReads (accepted ++ (close ∷ [])) rows verdicts
       → ReportOfUpTo newest table recording (closedText (length (accepted ++ (close ∷ []))) verdicts)
 
--- §7.8; 01, report: the answer, and what is then in the buffer
+-- §7.8, §16.3; 01, report: the answer, and what is then in the buffer
 pub data ReportsUpTo (newest : ℕ) (table recording before : List ℕ) : ℕ → List ℕ → Type 0 where
   written : (text : List ℕ) → ReportOfUpTo newest table recording text → length text ≤ length before
       → ReportsUpTo newest table recording before (length text) (text ++ drop (length text) before)
   too-short : (text : List ℕ) → ReportOfUpTo newest table recording text → length before < length text
       → ReportsUpTo newest table recording before 0 before
 
--- §7.3; 01, report: of a table of the first edition
+-- §7.3, §7.9, §9.10; 01, report: of a table of the first edition
 abbrev pub ReportOf : List ℕ → List ℕ → List ℕ → Type 0
 ReportOf = ReportOfUpTo 1
 
--- §7.8; 01, report
+-- §7.3, §7.8; 01, report
 abbrev pub Reports : List ℕ → List ℕ → List ℕ → ℕ → List ℕ → Type 0
 Reports = ReportsUpTo 1

@@ -23,7 +23,7 @@ stepFor (Call.ColouredEvent k c t) = event (stream k c) t
 stepFor (Call.Tick t) = tick t
 stepFor Call.Close = close
 
--- §8.12; 01, questions: each row that is open then has at most 64 waiting
+-- §6.5, §8.12; 01, questions: each row that is open then has at most 64 waiting
 unfoldable pub Room : List Constraint → List Step → Type 0
 Room rows steps = (i : ℕ) (c : Constraint) → getElem? rows i ≡ some c → Open c steps → waiting c steps ≤ waitingLimit
 
@@ -39,7 +39,7 @@ callQuestions rows steps (Call.ColouredEvent k c t) =
 callQuestions rows steps (Call.Tick t) = (10, t ≤ lastTime) ∷ (11, clock steps < t) ∷ (12, Room rows (steps ++ (tick t ∷ []))) ∷ []
 callQuestions rows steps Call.Close = []
 
--- §9.5, §8.8, §8.24; 01, questions; CR 12: the questions of a call, over the steps accepted before
+-- §1.4, §3.3, §8.8 to §8.11, §8.19, §8.24, §9.5; 01, questions; CR 12: the questions of a call, over the steps accepted before
 unfoldable pub questions : List Constraint → List Step → Call → List Question
 questions rows steps call = (8, closed steps ≡ false) ∷ (24, length steps < lastCount) ∷ callQuestions rows steps call
 
@@ -57,12 +57,13 @@ pub record Left : Type 0 where
 abbrev pub noneLeft : Left
 noneLeft = record { steps = []; may = false }
 
--- §9.5 over the steps that are left, and §8.21; CR 9: the questions of a request
+-- §8.21, §9.5 over the steps that are left, and §8.21; CR 9: the questions of a request
 abbrev pub requestQuestions : List Constraint → Left → Request → List Question
 requestQuestions rows left (asks call) = questions rows (left .steps) call
 requestQuestions rows left withdraws = (21, left .may ≡ true) ∷ []
 
--- §3.3, §3.12; 01, time; CR 9: what is left once the request has its answer. A refusal changes nothing; a step that is taken may be withdrawn; one
+-- §1.7, §3.3, §3.9, §3.12; 01, time; CR 9:
+-- what is left once the request has its answer. A refusal changes nothing; a step that is taken may be withdrawn; one
 -- that
 -- is withdrawn is struck out, and the one before it stays. `take n steps` are the first n
 abbrev pub leftBy : Left → Request → Answer → Left

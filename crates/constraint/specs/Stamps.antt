@@ -22,7 +22,8 @@ pub record TrueTimes (e : ℕ) (stamps chosen : List ℕ) : Type 0 where
   pub near : (i : ℕ) → i < length stamps → Between 0 e (at chosen i) (at stamps i)
   pub rise : (i : ℕ) → i + 1 < length stamps → at chosen i < at chosen (i + 1)
 
--- §12.2, §12.3; CR 13: kept where each choice meets the row at the clock that was recorded (§5.3), broken where none does, unsure where one does and
+-- §12.2 to §12.4; CR 13:
+-- kept where each choice meets the row at the clock that was recorded (§5.3), broken where none does, unsure where one does and
 -- another does not
 pub data ReadsStamps (e lower upper : ℕ) (stamps : List ℕ) (now : ℕ) : StampedVerdict → Type 0 where
   each-meets : ((chosen : List ℕ) → TrueTimes e stamps chosen → MeetsRepeat 1 lower upper chosen now)
@@ -32,16 +33,16 @@ pub data ReadsStamps (e lower upper : ℕ) (stamps : List ℕ) (now : ℕ) : Sta
   both-occur : (one other : List ℕ) → TrueTimes e stamps one → MeetsRepeat 1 lower upper one now
       → TrueTimes e stamps other → ¬ MeetsRepeat 1 lower upper other now → ReadsStamps e lower upper stamps now StampedVerdict.Unsure
 
--- §12.5; CR 13: row i is a Repeat of span 1 with these fields
+-- §8.25, §12.5; CR 13: row i is a Repeat of span 1 with these fields
 abbrev pub RepeatRow : List Constraint → ℕ → ℕ → ℕ → ℕ → Type 0
 RepeatRow rows i k lower upper = getElem? rows i ≡ some (Repeat k 1 lower upper)
 
--- §12.5; CR 13: after those of table and recording, 15 (§8.15), 25, and 10 for e (§8.10)
+-- §8.25, §12.5; CR 13: after those of table and recording, 15 (§8.15), 25, and 10 for e (§8.10)
 abbrev pub stampsQuestions : List Constraint → ℕ → ℕ → List Question
 stampsQuestions rows i e =
     (15, i < length rows) ∷ (25, (k : ℕ) × ((lower : ℕ) × ((upper : ℕ) × RepeatRow rows i k lower upper))) ∷ (10, e ≤ lastTime) ∷ []
 
--- §12.5, §12.6; CR 13: the answer for row i of a table, a recording and an e; 15, 25 and 10 have the place 0
+-- §12.5, §12.6, §16.3; CR 13: the answer for row i of a table, a recording and an e; 15, 25 and 10 have the place 0
 pub data AnswersStampsUpTo (newest : ℕ) (table recording : List ℕ) (i e : ℕ) : StampedAnswer → Type 0 where
   no-table : (n place : ℕ) → ReadsTableUpTo newest table (table-refused n place)
       → AnswersStampsUpTo newest table recording i e (StampedAnswer.Refused n place)

@@ -27,7 +27,7 @@ abbrev pub among : ℕ → List ℕ → Bool
 among k [] = false
 among k (j ∷ ks) = eqb k j || among k ks
 
--- §5.8; CR 2: the events of these streams, each with its stream and its time, in the order recorded
+-- §2.1, §5.8; CR 2: the events of these streams, each with its stream and its time, in the order recorded
 unfoldable pub own : List ℕ → List Step → List (ℕ × ℕ)
 own ks [] = []
 own ks (event k t ∷ steps) = cond (among k ks) ((k, t) ∷ own ks steps) (own ks steps)
@@ -45,7 +45,7 @@ clockFrom now (close ∷ steps) = clockFrom now steps
 abbrev pub clock : List Step → ℕ
 clock steps = clockFrom 0 steps
 
--- §1.5; 01, time: there was a close
+-- §1.5, §8.8; 01, time: there was a close
 unfoldable pub closed : List Step → Bool
 closed [] = false
 closed (event k t ∷ steps) = closed steps

@@ -63,7 +63,7 @@ pub record FirstAt (P : Stretch → Type 0) (list : List Stretch) (s : Stretch) 
   pub has : P s
   pub none-before : ¬ Some P before
 
--- §14.2; CR 11: the records of the stretch break the row
+-- §14.2, §14.4; CR 11: the records of the stretch break the row
 abbrev pub Breaking : Constraint → List Step → Stretch → Type 0
 Breaking c steps s = Breaks c (take (s .size) (drop (s .first) steps))
 
@@ -71,7 +71,7 @@ Breaking c steps s = Breaks c (take (s .size) (drop (s .first) steps))
 abbrev pub recordLimit : ℕ
 recordLimit = 256
 
--- §14.5; CR 11: after those of table and recording, 22, 15 (§8.15), and 23
+-- §8.22, §8.23, §14.5; CR 11: after those of table and recording, 22, 15 (§8.15), and 23
 abbrev pub stretchQuestions : List Constraint → List Step → ℕ → List Question
 stretchQuestions rows steps i =
     (22, length steps ≤ recordLimit) ∷ (15, i < length rows)
@@ -84,7 +84,7 @@ pub data AnswersRow (rows : List Constraint) (steps : List Step) (i : ℕ) : Str
       → FirstAt (Breaking c steps) (stretches (length steps)) (stretchOf first size) tried
       → AnswersRow rows steps i (StretchAnswer.Found first size tried)
 
--- §14.5; CR 11: and of a table and a recording, which are asked first
+-- §14.5, §16.3; CR 11: and of a table and a recording, which are asked first
 pub data AnswersStretchUpTo (newest : ℕ) (table recording : List ℕ) (i : ℕ) : StretchAnswer → Type 0 where
   no-table : (n place : ℕ) → ReadsTableUpTo newest table (table-refused n place)
       → AnswersStretchUpTo newest table recording i (StretchAnswer.Refused n place)

@@ -43,15 +43,15 @@ unfoldable pub rowsBytes : List Constraint → List ℕ
 rowsBytes [] = []
 rowsBytes (c ∷ rows) = rowBytes c ++ rowsBytes rows
 
--- §4.2, §16.1; 01, table: the version byte, which is the edition, then the rows
+-- §4.2, §16.1, §16.4, §16.7; 01, table: the version byte, which is the edition, then the rows
 unfoldable pub tableBytesIn : ℕ → List Constraint → List ℕ
 tableBytesIn edition rows = edition ∷ rowsBytes rows
 
--- §4.2; 01, table: in the first edition
+-- §4.2, §4.9, §4.10; 01, table: in the first edition
 abbrev pub tableBytes : List Constraint → List ℕ
 tableBytes = tableBytesIn 1
 
--- §9.7, §9.8; 01, questions; CR 6: the writer's questions, 3 to 7 and 18 of each row and then 16
+-- §8.16, §9.7, §9.8, §16.4; 01, questions; CR 6: the writer's questions, 3 to 7 and 18 of each row and then 16
 abbrev pub writerQuestions : ℕ → List Constraint → List ℕ → List Question
 writerQuestions edition rows buffer = rowsQuestions edition 0 rows ((16, length (tableBytesIn edition rows) ≤ length buffer) ∷ [])
 
@@ -62,7 +62,7 @@ writtenTo edition buffer rows (Refused n) = buffer
 
 -- Bytes to rows
 
--- §8.4; 01, questions; CR 2, 6, 10: the type is one of the edition, the n is known, and the length is the type's
+-- §8.4, §16.5; 01, questions; CR 2, 6, 10: the type is one of the edition, the n is known, and the length is the type's
 pub record ShapeFits (edition : ℕ) (body : List ℕ) : Type 0 where
   pub type-there : 0 < length body
   pub type-known : (1 ≤ at body 0) × (at body 0 ≤ lastType edition)
@@ -97,7 +97,7 @@ WholeAt bytes place = (place + 2 ≤ length bytes) × (place + 2 + lengthAt byte
 abbrev pub RowAt : ℕ → List ℕ → ℕ → Constraint → Type 0
 RowAt edition bytes place c = ShapeFits edition (bodyAt bytes place) → StandsFor (bodyAt bytes place) c
 
--- §9.3; 01, questions; CR 6: 2 to 7 and 18, of the row c at a place, with i rows before it
+-- §8.3, §9.3; 01, questions; CR 6: 2 to 7 and 18, of the row c at a place, with i rows before it
 unfoldable pub placeQuestions : ℕ → List ℕ → ℕ → ℕ → Constraint → List Question
 placeQuestions edition bytes i place c =
     (2, WholeAt bytes place) ∷ (3, i < rowLimit) ∷ (4, ShapeFits edition (bodyAt bytes place)) ∷ rowQuestions c
@@ -121,15 +121,15 @@ pub data ReadsRows (edition : ℕ) (bytes : List ℕ) : ℕ → ℕ → TableRea
       → Judged (placeQuestions edition bytes i place c) Taken → ReadsRows edition bytes (i + 1) (place + 2 + lengthAt bytes place) later
       → ReadsRows edition bytes i place (rowThen c later)
 
--- §8.1, §16.3; 01, questions: the first byte is there, and is an edition up to the newest that the call takes: one that has types
+-- §8.1, §16.1, §16.3, §16.5; 01, questions: the first byte is there, and is an edition up to the newest that the call takes: one that has types
 abbrev pub VersionUpTo : ℕ → List ℕ → Type 0
 VersionUpTo newest bytes = (0 < length bytes) × (1 ≤ at bytes 0) × (at bytes 0 ≤ newest) × (0 < lastType (at bytes 0))
 
--- §9.3; 01, questions: 1, then row by row in the edition that the first byte says
+-- §9.3, §16.3, §16.6, §16.7; 01, questions: 1, then row by row in the edition that the first byte says
 pub data ReadsTableUpTo (newest : ℕ) (bytes : List ℕ) : TableRead → Type 0 where
   version-refused : ¬ VersionUpTo newest bytes → ReadsTableUpTo newest bytes (table-refused 1 0)
   version-taken : {read : TableRead} → VersionUpTo newest bytes → ReadsRows (at bytes 0) bytes 0 1 read → ReadsTableUpTo newest bytes read
 
--- §9.3; 01, questions: where the first edition alone is taken
+-- §4.9, §4.10, §9.3; 01, questions: where the first edition alone is taken
 abbrev pub ReadsTable : List ℕ → TableRead → Type 0
 ReadsTable = ReadsTableUpTo 1

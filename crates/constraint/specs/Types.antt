@@ -65,7 +65,7 @@ typeLine (Synchronization4 a b c d apart) =
 abbrev pub typeOf : Constraint → ℕ
 typeOf c = typeLine c .0
 
--- §4.5; 01, table: the fields
+-- §4.5, §5.9.6; 01, table: the fields
 abbrev pub fieldsOf : Constraint → List Field
 fieldsOf c = typeLine c .1
 

@@ -40,7 +40,7 @@ least (x ∷ (y ∷ ys)) = min x (least (y ∷ ys))
 unfoldable pub begunIncomplete : List ℕ → List Step → ℕ
 begunIncomplete kinds steps = let counts : List ℕ = map (λ k. length (times k steps)) kinds in largest counts - least counts
 
--- §6.1 to §6.4; 01, what waits; CR 2, 6, 10: how many wait, by the type
+-- §5.9.7, §6.1 to §6.4; 01, what waits; CR 2, 6, 10: how many wait, by the type
 unfoldable pub waiting : Constraint → List Step → ℕ
 waiting (Delay source target lower upper) steps = unanswered lower upper (times source steps) (times target steps)
 waiting (StrongDelay source target lower upper) steps = length (times source steps) - length (times target steps)

@@ -7,7 +7,7 @@ ghost use mathlib.Core.Path.{_≡_};
 ghost use mathlib.Core.Bool.{_||_};
 ghost use Prim.Native.Nat.{_≤_};
 ghost use Rattle.constraint.specs.Records.{Decides, Absent, isKind, byteField, timeField, fieldAt, bytesFrom, timesFrom};
-ghost use Rattle.constraint.specs.Accepted.{kindsIn, KindsFit, SortsFit, FieldsInRange, NotBelow};
+ghost use Rattle.constraint.specs.Accepted.{kindsIn, KindsFit, KindClassesFit, FieldsInRange, NotBelow};
 
 // The roles of a field of one byte. Any other number is the limit of a span or a maximum.
 pub const NO_FIELD: u8 = 0;
@@ -38,7 +38,7 @@ pub const MOST_TIMES: usize = 4;
 
 // A line of the table of types: the type byte, and the roles of the fields of one byte and of the times behind them.
 pub struct Line {
-    pub form: u8,
+    pub tag: u8,
     pub bytes: [u8; 5],
     pub times: [u8; 4],
 }
@@ -105,8 +105,8 @@ pub fn is_kind(role: u8) -> bool
 }
 
 // Is a kind plain where plain ones are asked for, and coloured where coloured ones are?
-fn sort_fits(role: u8, value: u8) -> bool
-    ensures { λ r. ⌜ Decides (SortsFit (fieldAt byteField role value)) r ⌝ }
+fn kind_class_valid(role: u8, value: u8) -> bool
+    ensures { λ r. ⌜ Decides (KindClassesFit (fieldAt byteField role value)) r ⌝ }
 {
     if role == KIND {
         return value < FIRST_COLOURED;
@@ -155,12 +155,12 @@ pub(crate) fn kinds_fit(roles: [u8; 5], values: [u8; 5]) -> bool
 }
 
 // Question 18: are the kinds plain or coloured as the type takes them?
-pub(crate) fn sorts_fit(roles: [u8; 5], values: [u8; 5]) -> bool
-    ensures { λ r. ⌜ Decides (SortsFit (bytesFrom roles values 0)) r ⌝ }
+pub(crate) fn kind_classes_valid(roles: [u8; 5], values: [u8; 5]) -> bool
+    ensures { λ r. ⌜ Decides (KindClassesFit (bytesFrom roles values 0)) r ⌝ }
 {
     let mut i = 0;
     while i < MOST_BYTES {
-        if !sort_fits(roles[i], values[i]) {
+        if !kind_class_valid(roles[i], values[i]) {
             return false;
         }
         i += 1;

@@ -21,16 +21,21 @@ ghost use Rattle.constraint.specs.Accepted.{rowQuestions, rowQuestionsIn
 ghost use Rattle.constraint.specs.Types.{strongSynchronizationRead, synchronizationRead, rowRead, lengthOf, lastType, takesCount};
 ghost use Rattle.constraint.specs.Records.{rowsOf, Adds, HoldsRow};
 
+// §1.2
 // The largest kind of event.
 pub const LAST_KIND: u8 = 63;
+// §1.2
 // The first coloured kind: those below it are plain.
 pub const FIRST_COLOURED: u8 = 48;
+// §1.2
 // The largest colour.
 pub const LAST_COLOUR: u8 = 7;
 // How many streams there are: 48 plain kinds, and 16 coloured ones of 8 colours.
 pub const STREAM_COUNT: usize = 176;
+// §1.1
 // The largest time, 2^60 - 1.
 pub const LAST_TIME: u64 = 1152921504606846975;
+// §1.7
 // The largest count of steps, 2^64 - 1.
 pub const LAST_COUNT: u64 = 18446744073709551615;
 // The mark for an upper that is no limit, 2^64 - 1.
@@ -206,97 +211,98 @@ pub struct Table {
 // The table of types: a line for each variant, with its type byte and the roles of its fields.
 // Made by release/row-types.py.
 const DELAY: Line = Line {
-    form: 1,
+    tag: 1,
     bytes: [KIND, KIND, 0, 0, 0],
     times: [LOWER, UPPER_OR_NONE, 0, 0],
 };
 
 const STRONG_DELAY: Line = Line {
-    form: 2,
+    tag: 2,
     bytes: [KIND, KIND, 0, 0, 0],
     times: [LOWER, UPPER, 0, 0],
 };
 
 const REPEAT: Line = Line {
-    form: 3,
+    tag: 3,
     bytes: [KIND, SPAN_LIMIT, 0, 0, 0],
     times: [LOWER, UPPER_OR_NONE, 0, 0],
 };
 
 const SPORADIC: Line = Line {
-    form: 4,
+    tag: 4,
     bytes: [KIND, 0, 0, 0, 0],
     times: [LOWER, UPPER_OR_NONE, JITTER, MINIMUM],
 };
 
 const BURST: Line = Line {
-    form: 5,
+    tag: 5,
     bytes: [KIND, SPAN_LIMIT, 0, 0, 0],
     times: [LENGTH, MINIMUM, 0, 0],
 };
 
 const ORDER: Line = Line {
-    form: 6,
+    tag: 6,
     bytes: [KIND, KIND, 0, 0, 0],
     times: [0, 0, 0, 0],
 };
 
 const STRONG_SYNCHRONIZATION_2: Line = Line {
-    form: 7,
+    tag: 7,
     bytes: [COUNT, KIND, KIND, 0, 0],
     times: [TOLERANCE, 0, 0, 0],
 };
 
 const STRONG_SYNCHRONIZATION_3: Line = Line {
-    form: 7,
+    tag: 7,
     bytes: [COUNT, KIND, KIND, KIND, 0],
     times: [TOLERANCE, 0, 0, 0],
 };
 
 const STRONG_SYNCHRONIZATION_4: Line = Line {
-    form: 7,
+    tag: 7,
     bytes: [COUNT, KIND, KIND, KIND, KIND],
     times: [TOLERANCE, 0, 0, 0],
 };
 
 const EXECUTION_TIME: Line = Line {
-    form: 8,
+    tag: 8,
     bytes: [KIND, KIND, KIND, KIND, 0],
     times: [LOWER, UPPER, 0, 0],
 };
 
 const REACTION: Line = Line {
-    form: 9,
+    tag: 9,
     bytes: [COLOURED, COLOURED, 0, 0, 0],
     times: [LOWER, UPPER, 0, 0],
 };
 
 const REPETITION: Line = Line {
-    form: 10,
+    tag: 10,
     bytes: [KIND, REPETITION_SPAN_LIMIT, 0, 0, 0],
     times: [LOWER, UPPER, JITTER, 0],
 };
 
 const SYNCHRONIZATION_2: Line = Line {
-    form: 11,
+    tag: 11,
     bytes: [COUNT, KIND, KIND, 0, 0],
     times: [TOLERANCE, 0, 0, 0],
 };
 
 const SYNCHRONIZATION_3: Line = Line {
-    form: 11,
+    tag: 11,
     bytes: [COUNT, KIND, KIND, KIND, 0],
     times: [TOLERANCE, 0, 0, 0],
 };
 
 const SYNCHRONIZATION_4: Line = Line {
-    form: 11,
+    tag: 11,
     bytes: [COUNT, KIND, KIND, KIND, KIND],
     times: [TOLERANCE, 0, 0, 0],
 };
 
 // End of what is made.
 
+// §4.5
 // The length expected for each type, by the type byte; to a type's with an n its n is added.
 const LENGTHS: [usize; 12] = [0, 19, 19, 19, 34, 19, 3, 10, 21, 19, 27, 10];
 
@@ -315,21 +321,21 @@ pub fn last_type(edition: u8) -> u8
 }
 
 // Whether the first field of a type is n, the number of the kinds behind it.
-pub fn takes_count(form: u8) -> bool
-    ensures { λ r. ⌜ r ≡ takesCount form ⌝ }
+pub fn takes_count(tag: u8) -> bool
+    ensures { λ r. ⌜ r ≡ takesCount tag ⌝ }
 {
-    form == 7 || form == 11
+    tag == 7 || tag == 11
 }
 
 // The length expected of a row of a type, with the byte behind it, which is the n of a type that has one; 0 if there is no such type.
-pub fn length_of(form: u8, n: u8) -> usize
-    ensures { λ r. ⌜ r ≡ lengthOf form n ⌝ }
+pub fn length_of(tag: u8, n: u8) -> usize
+    ensures { λ r. ⌜ r ≡ lengthOf tag n ⌝ }
 {
-    let place = form as usize;
+    let place = tag as usize;
     if LENGTHS.len() <= place {
         return 0;
     }
-    if takes_count(form) {
+    if takes_count(tag) {
         return LENGTHS[place] + n as usize;
     }
     LENGTHS[place]
@@ -402,9 +408,10 @@ fn synchronization_read(bytes: [u8; 5], tolerance: u64) -> Constraint
 // End of what is made.
 
 impl Constraint {
+    // §4.5
     // The row of a type byte, the values of its fields of one byte, and its times: what `fields` takes apart.
-    pub fn read(form: u8, bytes: [u8; 5], times: [u64; 4]) -> Self
-        ensures { λ r. ⌜ r ≡ rowRead form bytes times ⌝ }
+    pub fn read(tag: u8, bytes: [u8; 5], times: [u64; 4]) -> Self
+        ensures { λ r. ⌜ r ≡ rowRead tag bytes times ⌝ }
     {
         let byte0 = bytes[0];
         let byte1 = bytes[1];
@@ -414,7 +421,7 @@ impl Constraint {
         let time1 = times[1];
         let time2 = times[2];
         let time3 = times[3];
-        match form {
+        match tag {
             // Made by release/row-types.py, to the end of the list.
             1 => Constraint::Delay {
                 source: byte0,
@@ -477,6 +484,7 @@ impl Constraint {
         }
     }
 
+    // §4.5
     // The fields as numbers.
     pub fn fields(self) -> Fields
         ensures { λ r. ⌜ HoldsRow self r ⌝ }
@@ -623,8 +631,9 @@ impl Constraint {
         }
     }
 
+    // §4.6, §4.7, §5.9.6, §8.5 to §8.7, §8.18
     // The answer to a row's own questions: 5, 18, 6 and 7.
-    pub fn judge(self) -> Answer
+    pub fn validate(self) -> Answer
         ensures { λ r. ⌜ Judged (rowQuestions self) r ⌝ }
     {
         let fields = self.fields();
@@ -636,7 +645,7 @@ impl Constraint {
         if !fields::kinds_fit(byte_roles, bytes) {
             return Answer::Refused(5);
         }
-        if !fields::sorts_fit(byte_roles, bytes) {
+        if !fields::kind_classes_valid(byte_roles, bytes) {
             return Answer::Refused(18);
         }
         if !fields::bytes_fit(byte_roles, bytes) {
@@ -651,16 +660,17 @@ impl Constraint {
         Answer::Taken
     }
 
+    // §8.4
     // The answer to question 4, whether the type is one of the edition, and then to the row's own questions.
-    pub fn judge_in(self, edition: u8) -> Answer
+    pub fn validate_in(self, edition: u8) -> Answer
         ensures { λ r. ⌜ Judged (rowQuestionsIn edition self) r ⌝ }
     {
         let fields = self.fields();
         let line = fields.line;
-        if last_type(edition) < line.form {
+        if last_type(edition) < line.tag {
             return Answer::Refused(4);
         }
-        self.judge()
+        self.validate()
     }
 }
 
@@ -694,8 +704,9 @@ impl Table {
         self
     }
 
+    // §8.3, §9.7
     // The answer to questions 3 to 7 and 18, row by row, in an edition. Any record is taken, also one whose count is above 32.
-    pub fn judge(self, edition: u8) -> Answer
+    pub fn validate(self, edition: u8) -> Answer
         ensures { λ r. ⌜ Judged (rowsQuestions edition 0 (rowsOf self) []) r ⌝ }
     {
         let count = self.count;
@@ -706,7 +717,7 @@ impl Table {
             }
             let entry = self.rows[i];
             let constraint = entry.constraint;
-            match constraint.judge_in(edition) {
+            match constraint.validate_in(edition) {
                 Answer::Refused(number) => {
                     return Answer::Refused(number);
                 }

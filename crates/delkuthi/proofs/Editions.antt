@@ -54,17 +54,21 @@ module _ (table : List ℕ) (first : at table 0 ≡ 1) where
   to-2 : at table 0 ≤ 2
   to-2 = omega (arith, first)
 
+  -- §16.6
   pub fresh-as-before : (entry : Words) (number : ℕ) (exit : Words) → BeginsUpTo 2 table entry number exit ↔ Begins table entry number exit
   fresh-as-before entry number exit = (begins-same 2 1 table to-2 to-1, begins-same 1 2 table to-1 to-2)
 
+  -- §16.6
   pub report-as-before : (recording before : List ℕ) (number : ℕ) (after : List ℕ)
       → ReportsUpTo 2 table recording before number after ↔ Reports table recording before number after
   report-as-before recording before number after = (reports-same 2 1 table to-2 to-1, reports-same 1 2 table to-1 to-2)
 
+  -- §16.6
   pub report-on-as-before : (before : Words) (recording buffer : List ℕ) (number : ℕ) (text : List ℕ) (after : Words)
       → ReportsOnUpTo 2 before table recording buffer number text after ↔ ReportsOn before table recording buffer number text after
   report-on-as-before before recording buffer number text after = (on-same 2 1 table to-2 to-1, on-same 1 2 table to-1 to-2)
 
+  -- §16.6
   pub stamps-as-before : (recording : List ℕ) (i e number : ℕ)
       → NumbersStampsUpTo 2 table recording i e number ↔ NumbersStamps table recording i e number
   stamps-as-before recording i e number = (numbers-same 2 1 table to-2 to-1, numbers-same 1 2 table to-1 to-2)

@@ -1,14 +1,15 @@
 -- A host's calls, one after the other: each is the machine's, so the list is, and in the memory lies the monitor that the machine has then.
-use Rattle.delkuthi.proofs.Names.{Answer, Call, Constraint, Holds, Host, List, Memory, Monitor, Request, Takes, Untouched, [], _++_, _∷_, _≡_}
+use Rattle.delkuthi.proofs.Names.{Answer, Call, Constraint, HoldsMonitor, Host, List, Memory, Monitor, Request, Takes, Untouched, [], _++_}
+use Rattle.delkuthi.proofs.Names.{_∷_, _≡_}
 use Rattle.delkuthi.proofs.Names.{after, answerFrom, ap₂, arith, asked, asks, map, noneRefused, over, play, refl, resultOf, step, zero, ℕ}
-use Rattle.delkuthi.proofs.Lying.{call-holds}
+use Rattle.delkuthi.proofs.WordsRead.{call-holds}
 
 -- what a list of requests leaves of a monitor: the machine's answers, and the monitor that lies there then
 pub record Followed (m : Monitor) (requests : List Request) (numbers : List ℕ) (end : Memory) : Type 0 where
   pub answers-are : map answerFrom numbers ≡ play step m requests .answers
-  pub left-there : Holds end (play step m requests .monitor)
+  pub left-there : HoldsMonitor end (play step m requests .monitor)
 
-pub follows : {h end : Memory} {requests : List Request} {numbers : List ℕ} (m : Monitor) → Holds h m → Host h requests numbers end
+pub follows : {h end : Memory} {requests : List Request} {numbers : List ℕ} (m : Monitor) → HoldsMonitor h m → Host h requests numbers end
     → Followed m requests numbers end
 unfolding play
 follows m holds over = record { answers-are = refl; left-there = holds }
@@ -18,8 +19,8 @@ follows m holds (asked r number takes rest) =
     record { answers-are = ap₂ (λ (x : Answer) (l : List Answer). x ∷ l) (one .0) (later .answers-are); left-there = later .left-there }
 
 -- from a fresh monitor
-pub follows-fresh : {h end : Memory} {requests : List Request} {numbers : List ℕ} (rows : List Constraint) → Holds h (after rows [])
-    → Host h requests numbers end → Holds end (after rows requests)
+pub follows-fresh : {h end : Memory} {requests : List Request} {numbers : List ℕ} (rows : List Constraint) → HoldsMonitor h (after rows [])
+    → Host h requests numbers end → HoldsMonitor end (after rows requests)
 unfolding after play
 follows-fresh rows holds host = follows (after rows []) holds host .left-there
 

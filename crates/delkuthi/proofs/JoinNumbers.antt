@@ -31,7 +31,7 @@ module _ (one two before : List ℕ) where
     join-asked (written f s r t apart room) =
         rw (← first-is f r, ← second-is s t) (judged-yes 20 _ _ Taken apart (judged-yes 16 _ _ Taken room judged-none))
 
-  -- what the call for a host promises
+  -- §13.5: what the call for a host promises
   pub numbers-join : (number : ℕ) {answer : JoinAnswer} {after : List ℕ} → AnswersJoin one two before answer after → number ≡ joinNumber answer
       → NumbersJoin one two before number after
   numbers-join number {answer = answer} answers equals =

@@ -1,6 +1,6 @@
 -- The laws of taking a recording and of telling its report.
 mod Names
-mod Lying
+mod WordsRead
 pub mod Hosts
 pub mod Taking
 pub mod Progress

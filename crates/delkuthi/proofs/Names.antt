@@ -34,34 +34,35 @@ pub use Rattle.delkuthi.specs.{Joining.NumbersJoin, Joining.joinNumber, 
 pub use Rattle.delkuthi.specs.{Program.too-large, Stamps.NumbersStamps, Stamps.NumbersStampsUpTo, Stamps.stampedNumber, Summary.refusalOf}
 pub use Rattle.delkuthi.specs.{Summary.reportText, Summary.summaryOf, Summary.verdictsIn, Tables.MakesTableIn, Tables.tableNumber}
 pub use Rattle.fresh.specs.Fresh.{Begins, BeginsUpTo, begun, freshLent, refused}
-pub use Rattle.lent.proofs.{Blocks.row-lies, Laws.takes-of, Parts.number-at}
-pub use Rattle.lent.specs.Layout.{Lent, Shaped, Words, heldRows, keptAt, rowAt, wordsOf}
-pub use Rattle.lent.specs.{Contract.Holds, Contract.ReadOff, Contract.Takes, Contract.answerFrom, Contract.steppedFrom, Steps.leaves}
-pub use Rattle.machine.proofs.FieldNumbers.{form-is}
+pub use Rattle.in_place.proofs.{Blocks.row-lies, Laws.takes-of, Parts.number-at}
+pub use Rattle.in_place.specs.Layout.{Lent, Shaped, Words, heldRows, keptAt, rowAt, wordsOfLent}
+pub use Rattle.in_place.specs.{Contract.HoldsMonitor, Contract.ReadOff, Contract.Takes, Contract.answerFrom, Contract.steppedFrom, Steps.leaves}
+pub use Rattle.row_type.proofs.FieldNumbers.{tag-is}
 pub use Rattle.monitor.proofs.Withdrawing.{after-call, after-follows, remains-follows, takes-more}
-pub use Rattle.monitor.proofs.{Demand.has-row, FittingRows.FitRows, FittingRows.fit-reads, Following.Follows, RowVerdicts.place-small}
+pub use Rattle.monitor.proofs.{Demand.has-row, FittingRows.FitRows, FittingRows.fit-reads, StepRefinement.Follows, RowVerdicts.place-small}
 pub use Rattle.monitor.proofs.{RowVerdicts.verdict-kept}
 pub use Rattle.monitor.specs.Contract.{Reading, Remains, Steps, resultOf, step, stepIn, verdictIn}
 pub use Rattle.monitor.specs.{Beside.TakesAll, Beside.allTaken, Machine.noRow, Parts.placeOf, Parts.verdictBy}
 pub use Rattle.monitor.specs.{declared.Monitor.Monitor, declared.RowVerdict.RowVerdict, declared.Stepped.Stepped}
 pub use Rattle.page.proofs.{Pages.same-rows, ReadBack.StepFits, ReadBack.equal-pages, ReadBack.page-reads-back}
 pub use Rattle.page.specs.{ReadBack.lineRead, Sheet.textOf, Sheet.verdictFor, Sheet.verdictsOf, declared.Summary.Summary}
-pub use Rattle.queue.proofs.Shared.{free}
+pub use Rattle.ring.proofs.Shared.{free}
 pub use Rattle.recording.proofs.Records.{record-judged, record-refused as record-not-there, unclosed-more}
 pub use Rattle.recording.specs.{Record.CallAt, declared.CallRead.CallRead}
-pub use Rattle.row.proofs.{Engine.engine, Steps.fits-reads}
+pub use Rattle.row.proofs.{EveryType.every-type-exact, Steps.fits-reads}
 pub use Rattle.row.specs.declared.Row.{Row}
 pub use Rattle.stamps.proofs.{Agreement.order-once, Agreement.stampedOf, Agreement.stamps-agree, Answers.within}
-pub use Rattle.table.proofs.{AcceptedRows.read-accepted, Again.raw-read, Bodies.row-length, Once.reads-once, RawAgain.raw-write, Standing.body-short}
+pub use Rattle.table.proofs.{AcceptedRows.read-accepted, RoundTripCode.raw-read, Bodies.row-length, ReadUnique.reads-once, RawRoundTrip.raw-write}
+pub use Rattle.table.proofs.{BodyUnique.body-short}
 pub use Rattle.table.specs.Raw.{FirstRefused, RawRows, WritesRaw, all-read, rawSize, stopped-at}
 pub use Rattle.table.specs.{Writing.Writes, Writing.answerIn, declared.ReadAnswer.ReadAnswer, declared.WriteAnswer.WriteAnswer}
 pub use Rattle.text.proofs.Reports.{closed-append, closed-length, copied-reports, refused-length, reportLimit, rows-more}
 pub use Rattle.text.proofs.Texts.{extended-append, holds-all}
-pub use Rattle.text.specs.{Content.Copied, Content.Holds as Contains, Content.emptyText, Lines.closedLine, Lines.rowLine, declared.Text.Text}
+pub use Rattle.text.specs.{Content.Copied, Content.HoldsText as Contains, Content.emptyText, Lines.closedLine, Lines.rowLine, declared.Text.Text}
 pub use lib.Bits.{and-le-r, and-mask}
 unfoldable pub use Rattle.constraint.specs.{Accepted.rowsQuestions, Promise.play, Questions.Judged, Recording.recordQuestions, Report.rowLines}
 unfoldable pub use Rattle.constraint.specs.{Run.questions, Steps.closed, Table.placeQuestions, Table.rowsBytes, Table.tableBytesIn}
-unfoldable pub use Rattle.machine.specs.Words.{numberWords, rowWords}
+unfoldable pub use Rattle.row_type.specs.Words.{numberWords, rowWords}
 unfoldable pub use Rattle.monitor.specs.{Contract.after, Machine.verdictOf}
 unfoldable pub use Rattle.row.specs.Machine.{rowVerdict}
 unfoldable pub use Rattle.text.specs.Content.{extended}

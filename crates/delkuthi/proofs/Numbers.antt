@@ -1,6 +1,7 @@
 -- The numbers that the readers of a lent monitor answer with say what the machine reads: no verdict has the word 15, and a row that is broken has a
 -- step that is not 0.
-use Rattle.delkuthi.proofs.Names.{Bool, Constraint, Holds, KnownWord, List, Monitor, NumberOfRows, NumberOfVerdict, Option, ReadOff, Reading}
+use Rattle.delkuthi.proofs.Names.{Bool, Constraint, HoldsMonitor, KnownWord, List, Monitor, NumberOfRows, NumberOfVerdict, Option, ReadOff}
+use Rattle.delkuthi.proofs.Names.{Reading}
 use Rattle.delkuthi.proofs.Names.{ReadsRow, RowVerdict, Step, StepOfVerdict, Verdict, WordOfVerdict, Words, _&&_, _<_, _∙_, _≡_, _≤_, ap}
 use Rattle.delkuthi.proofs.Names.{arith, by-cases, cond, decLt, false, getD, has-row, inl, inr, length, ltb, ltb-true, never, no-row, noRow}
 use Rattle.delkuthi.proofs.Names.{none, refl, row, rowLimit, rowVerdict, some, split, stepIn, subst, sym, true, verdictIn, verdictOf, within}
@@ -46,7 +47,7 @@ module _ {m : Monitor} {i : ℕ} {v : Option Verdict} (reading : Reading m i v) 
       }
 
 -- what is answered on words, for what was read off them
-pub word-read : {words : Words} {i : ℕ} (v : RowVerdict) → ((m : Monitor) → Holds words m → Reading m i (verdictIn v)) → {word : ℕ}
+pub word-read : {words : Words} {i : ℕ} (v : RowVerdict) → ((m : Monitor) → HoldsMonitor words m → Reading m i (verdictIn v)) → {word : ℕ}
     → word ≡ wordOf (verdictIn v) → KnownWord word × ReadOff words (λ m. WordOfVerdict m i) word
 word-read v reads {word} e = (subst KnownWord (sym e) (known (verdictIn v)), λ m holds. word-kept (reads m holds) word e)
 
@@ -70,7 +71,7 @@ step-agrees m i =
     not-broken true = (λ h. absurd (omega arith), λ h. absurd (omega arith))
     not-broken false = (λ h. absurd (omega arith), λ h. absurd (omega arith))
 
-pub step-read : {words : Words} {i : ℕ} (v : RowVerdict) → ((m : Monitor) → Holds words m → Reading m i (verdictIn v)) → {step : ℕ}
+pub step-read : {words : Words} {i : ℕ} (v : RowVerdict) → ((m : Monitor) → HoldsMonitor words m → Reading m i (verdictIn v)) → {step : ℕ}
     → step ≡ stepIn (verdictIn v) → ReadOff words (λ m. StepOfVerdict m i) step
 step-read {i = i} v reads {step} e m holds =
     let says = number-kept (reads m holds) stepIn step e in record { says = says; broken = rw (says .equals) (step-agrees m i) }

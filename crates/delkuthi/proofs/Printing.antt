@@ -1,7 +1,7 @@
 -- The page that is written says what the rows read: it is made of the summary, which says the type of each of the table's rows and its verdict.
 use Rattle.delkuthi.proofs.Names.{Accepted, Constraint, Copied, Follows, List, Monitor, PageOf, Pages, Reads, Request, Step, StepFits, Valid}
 use Rattle.delkuthi.proofs.Names.{Verdict, WritesPage, _<_, _∙_, _≡_, _≤_, after, after-follows, ap, arith, at, brokenIn, by-cases, count-of}
-use Rattle.delkuthi.proofs.Names.{decLt, engine, equal-pages, fit-reads, has-row, length, lineRead, lt-ltb, map, nameOf, page-of}
+use Rattle.delkuthi.proofs.Names.{decLt, every-type-exact, equal-pages, fit-reads, has-row, length, lineRead, lt-ltb, map, nameOf, page-of}
 use Rattle.delkuthi.proofs.Names.{page-reads-back, page-too-short, page-written, pageText, printed, printedRows, reads-broken, reads-kept}
 use Rattle.delkuthi.proofs.Names.{reads-open, rowLimit, rowVerdict, same-rows, some, subst, summaryOf, sym, textOf, typeIn, typeOf, verdictAt}
 use Rattle.delkuthi.proofs.Names.{verdictFor, verdictOf, verdictsIn, verdictsOf, ℕ}
@@ -13,7 +13,7 @@ reads-fits v valid (reads-open e o) = tt
 reads-fits v valid (reads-kept e o) = tt
 reads-fits v valid (reads-broken n b) = omega (arith, b .counted, count-of valid)
 
-module _ (rows : List Constraint) (steps : List Step) (m : Monitor) (f : Follows engine rows steps m) where
+module _ (rows : List Constraint) (steps : List Step) (m : Monitor) (f : Follows every-type-exact rows steps m) where
   abbrev v : ℕ → Verdict
   v i = verdictFor (m .closed) (brokenIn m i)
 
@@ -36,17 +36,17 @@ module _ (rows : List Constraint) (steps : List Step) (m : Monitor) (f : Follows
   unfolding rowVerdict
   fits i h =
       let c = has-row rows i (omega (arith, count-is rows steps m f)) in
-      let reads = fit-reads engine steps (f .valid) rows (m .rows) (f .fit) i (c .0) (c .1) in
+      let reads = fit-reads every-type-exact steps (f .valid) rows (m .rows) (f .fit) i (c .0) (c .1) in
       reads-fits {c = c .0} {steps = steps} (v i) (f .valid) (rw (f .closed-is) reads)
 
 module _ (rows : List Constraint) (requests : List Request) (accepted : Accepted rows) where
   abbrev made : Monitor
   made = after rows requests
 
-  abbrev followed : (steps : List Step) × Follows engine rows steps made
-  followed = let a = after-follows engine rows requests accepted in (a .0 .steps, a .2)
+  abbrev followed : (steps : List Step) × Follows every-type-exact rows steps made
+  followed = let a = after-follows every-type-exact rows requests accepted in (a .0 .steps, a .2)
 
-  -- a row's line gives back its number, the name of its type, and what the call for its verdict answers
+  -- §7.18: a row's line gives back its number, the name of its type, and what the call for its verdict answers
   pub printed-back : (i : ℕ) → i < length rows
       → lineRead (printed made) i ≡ record { number = i; name = nameOf (at (map typeOf rows) i); verdict = verdictOf made i }
   printed-back i h =
@@ -55,7 +55,7 @@ module _ (rows : List Constraint) (requests : List Request) (accepted : Accepted
       rw (row-summarized rows steps made f i h .0, verdict-is rows steps made f i h)
       (page-reads-back (typeIn made) (v rows steps made f) (printedRows made) i (omega arith) there (fits rows steps made f i there))
 
--- two pages of the same bytes: as many rows, and the same verdict of each
+-- §7.18: two pages of the same bytes: as many rows, and the same verdict of each
 pub printed-alike : (rows others : List Constraint) (requests more : List Request) (accepted : Accepted rows) (accepted′ : Accepted others)
     → printed (after rows requests) ≡ printed (after others more)
     → (length rows ≡ length others) × ((i : ℕ) → i < length rows → verdictOf (after rows requests) i ≡ verdictOf (after others more) i)
@@ -89,7 +89,7 @@ pub page-kept : (m : Monitor) (before : List ℕ) (answer : ℕ) (left : List �
 page-kept m before answer left whole copied =
     let text : textOf (summaryOf m) ≡ printed m =
     same-rows (at (summaryOf m .types)) (typeIn m) (verdictsOf (m .closed) (summaryOf m .steps)) (λ i. verdictFor (m .closed) (brokenIn m i))
-    (printedRows m) (λ i h. at-map (λ r. r .rule .form) (m .rows) i (omega arith))
+    (printedRows m) (λ i h. at-map (λ r. r .parameters .tag) (m .rows) i (omega arith))
     (λ i h. ap (verdictFor (m .closed)) (at-map (λ r. r .now .broken) (m .rows) i (omega arith))) in
     let equal = subst (λ (text : List ℕ). Copied text before answer left) text copied in
     record {

@@ -1,12 +1,13 @@
 -- Records are taken one after the other: what reading gives from a place on, over the steps taken before it, is what it gives from the start.
-use Rattle.delkuthi.proofs.Names.{Accepted, Call, CallAt, Constraint, Holds, Host, Judged, List, Memory, ReadAnswer, ReadsRecords, RecordAt}
+use Rattle.delkuthi.proofs.Names.{Accepted, Call, CallAt, Constraint, HoldsMonitor, Host, Judged, List, Memory, ReadAnswer, ReadsRecords}
+use Rattle.delkuthi.proofs.Names.{RecordAt}
 use Rattle.delkuthi.proofs.Names.{RecordingLeaves, RecordingRead, Refused, Step, Stepped, Steps, StepsBefore, Taken, Takes, TakesAll}
 use Rattle.delkuthi.proofs.Names.{VersionKnown, [], _*_, _++_, _<_, _∷_, _≡_, _≤_, after, answerFrom, arith, asks, at, at-first, at-version}
 use Rattle.delkuthi.proofs.Names.{behind, bodyAt, callAt, closed, done, false, judged-all, judged-once, judged-yes, lastCount, length}
 use Rattle.delkuthi.proofs.Names.{length-append, map, never, no-more, noneRefused, over, questions, record-judged, record-not-there}
 use Rattle.delkuthi.proofs.Names.{record-refused, record-taken, recordQuestions, recording-of, recording-refused, refl, stepFor, steppedFrom}
 use Rattle.delkuthi.proofs.Names.{subst, suc, sym, unclosed-more, version-refused, version-taken, zero, ℕ}
-use Rattle.delkuthi.proofs.{Hosts.host-more, Lying.call-steps}
+use Rattle.delkuthi.proofs.{Hosts.host-more, WordsRead.call-steps}
 use Rattle.delkuthi.proofs.Taking.{took-judged, took-made, took-more}
 
 -- how far a recording was taken
@@ -19,7 +20,7 @@ pub record TakenUpTo (rows : List Constraint) (bytes : List ℕ) (start : Memory
   pub calls : List Call
   pub all-taken : TakesAll rows calls steps
   pub host : Host start (map asks calls) (noneRefused calls) words
-  pub holds : Holds words (after rows (map asks calls))
+  pub holds : HoldsMonitor words (after rows (map asks calls))
   pub behind-version : 0 < place
   pub steps-before : StepsBefore rows bytes place steps
   pub not-closed : closed steps ≡ false
@@ -45,12 +46,12 @@ module _ (rows : List Constraint) (bytes : List ℕ) where
       let fewer = records-few before in
       (omega (arith, fewer .0, whole .1, one-more), omega (arith, fewer .0, whole .0 .1, whole .1, one-more))
 
-  -- so neither a record nor the close meets 24 (§8.24)
+  -- §8.24: so neither a record nor the close meets 24
   pub count-left : length bytes ≤ lastCount → {place : ℕ} {steps : List Step} → StepsBefore rows bytes place steps → length steps < lastCount
   count-left fits before = omega (arith, records-few before .1)
 
   module _ (accepted : Accepted rows) (start : Memory) where
-    pub up-to-start : VersionKnown bytes → Holds start (after rows []) → TakenUpTo rows bytes start 1 start
+    pub up-to-start : VersionKnown bytes → HoldsMonitor start (after rows []) → TakenUpTo rows bytes start 1 start
     unfolding closed
     up-to-start one holds =
         record {
@@ -110,7 +111,7 @@ module _ (rows : List Constraint) (bytes : List ℕ) where
                 calls = before .calls ++ (s ∷ []);
                 all-taken = rw (read .call-read) more;
                 host = host-more (before .calls) s (before .host) takes;
-                holds = subst (Holds end) made (stepped .2);
+                holds = subst (HoldsMonitor end) made (stepped .2);
                 behind-version = omega (arith, read .next-read);
                 steps-before =
                     subst (λ (after : ℕ). StepsBefore rows bytes after (before .steps ++ (stepFor (callAt bytes place) ∷ []))) (sym (read .next-read))

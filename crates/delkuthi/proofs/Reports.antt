@@ -1,5 +1,5 @@
 -- The report's text goes by what reading the table and the recording gave, and there is room for all of it.
-use Rattle.delkuthi.proofs.Names.{BeginsUpTo, Call, Constraint, Contains, Copied, EachReads, Holds, LeftBy, List, Monitor, ReadAnswer}
+use Rattle.delkuthi.proofs.Names.{BeginsUpTo, Call, Constraint, Contains, Copied, EachReads, HoldsMonitor, LeftBy, List, Monitor, ReadAnswer}
 use Rattle.delkuthi.proofs.Names.{ReadsRecording, ReadsTableUpTo, RecordingTakenAs, ReportOfUpTo, ReportsOf, ReportsOnUpTo, ReportsSteps}
 use Rattle.delkuthi.proofs.Names.{ReportsUpTo, Step, Summary, TakesRecords, Text, Verdict, Words, [], _%_, _*_, _++_, _+_, _/_, _<_, _∙_, _∷_}
 use Rattle.delkuthi.proofs.Names.{_≡_, _≤_, add-one, after, all-taken, ap, ap₂, arith, asks, at, begun, close, closed-append, closed-close}
@@ -7,7 +7,7 @@ use Rattle.delkuthi.proofs.Names.{closed-length, closedLine, closedText
 use Rattle.delkuthi.proofs.Names.{freshLent, holds-all, le-ltb, length, lt-ltb, map, never, no-recording, no-table, over, read-accepted}
 use Rattle.delkuthi.proofs.Names.{reads-once, recording-of, refl, refusalOf, refused, refused-length, refusedText, reportLimit, reportText}
 use Rattle.delkuthi.proofs.Names.{reported, row-reads, rowLine, rowLines, rows-more, rows-room, subst, suc, summaryOf, sym, table-of, unclosed}
-use Rattle.delkuthi.proofs.Names.{unused, used, verdictsIn, wordsOf, ℕ}
+use Rattle.delkuthi.proofs.Names.{unused, used, verdictsIn, wordsOfLent, ℕ}
 use Rattle.constraint.specs.Report.{no-row}
 use Rattle.delkuthi.proofs.{Hosts.follows-fresh, Taking.took-follows}
 use Rattle.delkuthi.proofs.Summaries.{each-summarized, made-follows, verdicts-few}
@@ -26,6 +26,7 @@ lines-next f l i text there =
       add-one i,
     )
 
+-- §7.4
 pub holds-closed : (summary : Summary) (before text : Text) → before ≡ extended (closedLine (summary .count)) emptyText
     → text ≡ extended (rowLines 0 (verdictsIn summary)) before → Contains text (closedText (summary .count) (verdictsIn summary))
 holds-closed summary before text line lines =
@@ -33,6 +34,7 @@ holds-closed summary before text line lines =
     (rw (← closed-append (summary .count) (verdictsIn summary)) (holds-all (closedText (summary .count) (verdictsIn summary))
     (omega (arith, closed-length (summary .count) (verdictsIn summary) (verdicts-few summary)))))
 
+-- §7.5
 pub holds-refusal : (n place : ℕ) (text : Text) → text ≡ extended (refusedText n place) emptyText → Contains text (refusedText n place)
 holds-refusal n place text e = rw e (holds-all (refusedText n place) (omega (arith, refused-length n place)))
 
@@ -41,26 +43,26 @@ holds-refusal n place text e = rw e (holds-all (refusedText n place) (omega (ari
 module _ {newest : ℕ} (table : List ℕ) (before : Words) where
   -- the number 0 says that the monitor was begun
   pub begun-over : (number : ℕ) (words : Words) → BeginsUpTo newest table before number words → number ≡ 0
-      → (rows : List Constraint) × ReadsTableUpTo newest table (table-of rows) × Holds words (after rows [])
+      → (rows : List Constraint) × ReadsTableUpTo newest table (table-of rows) × HoldsMonitor words (after rows [])
   begun-over number words (begun rows read accepted indexes) e =
       (rows, read, record { lent = freshLent rows; words-are = refl; indexes = indexes; monitor-is = refl })
   begun-over number words (refused n place read above below) e = absurd (omega (arith, e, above))
 
   -- over the rows that the table holds
   pub begun-with : (rows : List Constraint) (words : Words) → ReadsTableUpTo newest table (table-of rows) → BeginsUpTo newest table before 0 words
-      → Holds words (after rows [])
+      → HoldsMonitor words (after rows [])
   begun-with rows words read begins =
       let over = begun-over 0 words begins refl in
       let both = reads-once table (over .1) read in
       let same : over .0 ≡ rows = cc in
-      subst (λ (r : List Constraint). Holds words (after r [])) same (over .2)
+      subst (λ (r : List Constraint). HoldsMonitor words (after r [])) same (over .2)
 
   module _ (recording : List ℕ) where
     pub left-used : (number : ℕ) (words : Words) → BeginsUpTo newest table before number words → number ≡ 0 → (answer : ReadAnswer) (last : Words)
         → TakesRecords words recording answer last → LeftBy newest before table recording answer last
     left-used number words (begun rows read accepted indexes) e answer last takes =
         let fresh = begun rows read accepted indexes in
-        used rows answer last read fresh (takes rows accepted (begun-with rows (wordsOf (freshLent rows)) read fresh))
+        used rows answer last read fresh (takes rows accepted (begun-with rows (wordsOfLent (freshLent rows)) read fresh))
     left-used number words (refused n place read above below) e answer last takes = absurd (omega (arith, e, above))
 
     -- another number is the refusal's
@@ -84,8 +86,9 @@ said-of table recording rows Accepted calls read (steps, reads, taken) =
     rw (f .count-is) (all-taken rows steps (verdictsIn (summaryOf m)) read reads (each-summarized rows (steps ++ (close ∷ [])) m f))
 said-of table recording rows (Refused n place) calls read (steps, reads, before, taken) = no-recording rows n place read reads
 
+-- §9.10
 pub summary-report : {newest : ℕ} {before after : Words} {table recording : List ℕ} {answer : ReadAnswer} (summary : Summary)
-    → LeftBy newest before table recording answer after → ((m : Monitor) → Holds after m → summary ≡ summaryOf m)
+    → LeftBy newest before table recording answer after → ((m : Monitor) → HoldsMonitor after m → summary ≡ summaryOf m)
     → ReportOfUpTo newest table recording (reportText answer summary)
 summary-report summary (unused n place read) is = no-table n place read
 summary-report {before = before} {table = table} {recording = recording} summary (used rows answer end read begins left) is =
@@ -95,7 +98,7 @@ summary-report {before = before} {table = table} {recording = recording} summary
 -- and what is written of it, on a lent monitor
 pub reports-on : {newest : ℕ} {before after : Words} {table recording : List ℕ} {answer : ReadAnswer} (summary : Summary)
     {buffer : List ℕ} {number : ℕ} {written : List ℕ} → LeftBy newest before table recording answer after
-    → ((m : Monitor) → Holds after m → summary ≡ summaryOf m)
+    → ((m : Monitor) → HoldsMonitor after m → summary ≡ summaryOf m)
     → Copied (reportText answer summary) buffer number written → ReportsOnUpTo newest before table recording buffer number written after
 reports-on summary {buffer} {number} {written} left is copied =
     record { reports = copied-reports _ _ _ buffer number written (summary-report summary left is) copied; answer = _; left-by = left }
@@ -142,7 +145,7 @@ each-length : {steps : List Step} {rows : List Constraint} {verdicts : List Verd
 each-length no-row = refl
 each-length (row-reads reads later) = ap suc (each-length later)
 
--- a report has at most 1,024 bytes
+-- §7.9: a report has at most 1,024 bytes
 pub report-length : {newest : ℕ} (table recording text : List ℕ) → ReportOfUpTo newest table recording text → length text ≤ reportLimit
 report-length table recording text (no-table n place read) = refused-length n place
 report-length table recording text (no-recording rows n place read reads) = refused-length n place

@@ -13,6 +13,7 @@ abbrev ReadsBack : ℕ → List ℕ → List ℕ → Type 0
 ReadsBack newest bytes table =
     (rows : List Constraint) × RawRows bytes rows × (length bytes < (length rows + 1) * rawSize) × ReadsTableUpTo newest table (table-of rows)
 
+-- §4.10
 pub table-reads-back : (newest edition : ℕ) → 0 < lastType edition → edition ≤ newest → (bytes before after : List ℕ) (number n : ℕ)
     → MakesTableIn edition bytes before number after → number ≡ n * 256 → ReadsBack newest bytes (take n after)
 table-reads-back newest edition some known bytes before after number n makes e =
@@ -26,6 +27,7 @@ table-reads-back newest edition some known bytes before after number n makes e =
         (subst (λ (m : ℕ). WritesRaw edition bytes before (WriteAnswer.Written m) after) long writes)
     go (WriteAnswer.Refused k) writes same small = absurd (no-length k (makes .row) n (small k refl .0) (small k refl .1) same)
 
+-- §4.9
 pub table-writes-back : {newest : ℕ} (raw bytes before after : List ℕ) (rows : List Constraint) (number : ℕ) → Bytes bytes
     → ReadsTableUpTo newest bytes (table-of rows) → RawRows raw rows → length raw < (length rows + 1) * rawSize → length bytes ≤ length before
     → MakesTableIn (at bytes 0) raw before number after → (number ≡ length bytes * 256) × (after ≡ bytes ++ drop (length bytes) before)

@@ -12,6 +12,7 @@ numbers-agree c steps Verdict.Open (reads-open e o) = both (sym (closed-close st
 numbers-agree c steps Verdict.Kept reading = omega arith
 numbers-agree c steps (Verdict.Broken n) reading = omega arith
 
+-- §12.4
 pub stamps-as-the-monitor : {newest : ℕ} (table recording : List ℕ) (rows : List Constraint) (calls : List Call)
     (i k lower upper word number : ℕ) → ReadsTableUpTo newest table (table-of rows)
     → RecordingTakenAs rows recording ReadAnswer.Accepted calls → RepeatRow rows i k lower upper

@@ -1,13 +1,14 @@
 -- A monitor to which some steps are left answers the next as its questions say over those steps, and where it takes it has taken one more: a list of
 -- requests has one outcome.
 use Rattle.delkuthi.proofs.Names.{Accepted, Call, Constraint, Follows, Judged, Left, List, Step, Stepped, Steps, Taken, TakesAll, [], _++_}
-use Rattle.delkuthi.proofs.Names.{_∙_, _∷_, _≡_, after, after-call, allTaken, asks, engine, map, questions, refl, remains-follows, run-once}
+use Rattle.delkuthi.proofs.Names.{_∙_, _∷_, _≡_, after, after-call, allTaken, asks, every-type-exact, map, questions, refl, remains-follows}
+use Rattle.delkuthi.proofs.Names.{run-once}
 use Rattle.delkuthi.proofs.Names.{stepFor, subst, takes-more}
 
 module _ (rows : List Constraint) (steps : List Step) (calls : List Call) (accepted : Accepted rows) (taken : TakesAll rows calls steps) where
   -- its records follow the steps
-  pub took-follows : Follows engine rows steps (after rows (map asks calls))
-  took-follows = remains-follows engine rows accepted (map asks calls) (allTaken calls, taken .1)
+  pub took-follows : Follows every-type-exact rows steps (after rows (map asks calls))
+  took-follows = remains-follows every-type-exact rows accepted (map asks calls) (allTaken calls, taken .1)
 
   module _ (s : Call) (result : Stepped) (kept : Steps (after rows (map asks calls)) (asks s) result) where
     pub took-judged : Judged (questions rows steps s) (result .answer)

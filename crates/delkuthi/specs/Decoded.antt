@@ -9,7 +9,7 @@ use Rattle.constraint.specs.declared.Answer.the-variants.{Taken, Refused}
 use Rattle.constraint.specs.declared.JoinAnswer.{JoinAnswer}
 use Rattle.constraint.specs.declared.StampedAnswer.{StampedAnswer}
 use Rattle.constraint.specs.declared.StampedVerdict.{StampedVerdict}
-use Rattle.lent.specs.Contract.{answerFrom}
+use Rattle.in_place.specs.Contract.{answerFrom}
 use Rattle.table.specs.declared.WriteAnswer.{WriteAnswer}
 
 -- ---- the macros

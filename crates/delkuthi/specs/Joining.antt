@@ -30,7 +30,7 @@ joinNumber (JoinAnswer.FirstRefused n place) = placeNumber place + n
 joinNumber (JoinAnswer.SecondRefused n place) = placeNumber place + n + 128
 joinNumber JoinAnswer.TooShort = 16
 
--- the number of the answer, which is that of the questions. It tells a refusal from a length, and which is refused, as a refusal has a number
+-- §13.8: the number of the answer, which is that of the questions. It tells a refusal from a length, and which is refused, as a refusal has a number
 -- from 1 to 127
 pub record NumbersJoin (one two before : List ℕ) (number : ℕ) (after : List ℕ) : Type 0 where
   pub answer : JoinAnswer

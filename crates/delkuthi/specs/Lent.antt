@@ -16,11 +16,11 @@ use Rattle.monitor.specs.declared.Monitor.{Monitor}
 
 -- ---- the library
 
--- 0.6.1: major * 1,000,000 + minor * 1,000 + patch
+-- §11.6: 0.6.1: major * 1,000,000 + minor * 1,000 + patch
 abbrev pub version : ℕ
 version = 0 * 1000000 + 6 * 1000 + 1
 
--- the bytes of a lent monitor: 35 blocks of two arrays of 64 words of eight bytes
+-- §11.6: the bytes of a lent monitor: 35 blocks of two arrays of 64 words of eight bytes
 abbrev pub monitorSize : ℕ
 monitorSize = 35 * 2 * 64 * 8
 
@@ -43,20 +43,20 @@ pub record NumberOfVerdict (number : Option Verdict → ℕ) (m : Monitor) (i an
   pub means : (rows : List Constraint) (requests : List Request) → Accepted rows → m ≡ after rows requests
       → (left : Left) × Remains rows requests left × (verdict : Option Verdict) × ReadsRow rows (left .steps) i verdict × (answer ≡ number verdict)
 
--- the word: 15 exactly where the table has no row of that number
+-- §3.5, §11.2, §11.5: the word: 15 exactly where the table has no row of that number
 pub record WordOfVerdict (m : Monitor) (i word : ℕ) : Type 0 where
   pub says : NumberOfVerdict wordOf m i word
   pub no-row : (rows : List Constraint) (requests : List Request) → Accepted rows → m ≡ after rows requests
       → (word ≡ 15 → length rows ≤ i) × (length rows ≤ i → word ≡ 15)
 
--- §11.5: the step that broke the row: 0 exactly where the word is not that for broken
+-- §3.5, §11.2, §11.5: the step that broke the row: 0 exactly where the word is not that for broken
 pub record StepOfVerdict (m : Monitor) (i step : ℕ) : Type 0 where
   pub says : NumberOfVerdict stepIn m i step
   pub broken : (0 < step → wordOf (verdictOf m i) ≡ 2) × (wordOf (verdictOf m i) ≡ 2 → 0 < step)
 
 -- ---- rows
 
--- the number of rows
+-- §11.2, §11.5: the number of rows
 pub record NumberOfRows (m : Monitor) (number : ℕ) : Type 0 where
   pub equals : number ≡ m .len
   pub means : (rows : List Constraint) (requests : List Request) → Accepted rows → m ≡ after rows requests → number ≡ length rows

@@ -20,7 +20,7 @@ printedRows m = min (m .len) rowLimit
 
 -- the number of row i's type, and its verdict, as the monitor holds them
 abbrev pub typeIn : Monitor → ℕ → ℕ
-typeIn m i = getD (m .rows) i noRow .rule .form
+typeIn m i = getD (m .rows) i noRow .parameters .tag
 
 abbrev pub brokenIn : Monitor → ℕ → ℕ
 brokenIn m i = getD (m .rows) i noRow .now .broken

@@ -12,7 +12,7 @@ tableSizeLimit = 2048
 abbrev pub recordingSizeLimit : ℕ
 recordingSizeLimit = 61440
 
--- §7.10, §9.9; 01, report: what the program prints; 17 (§8.17) with the place 0
+-- §7.10, §8.17, §9.9; 01, report: what the program prints; 17 (§8.17) with the place 0
 pub data Prints (table recording : List ℕ) : List ℕ → Type 0 where
   too-large : ¬ ((length table ≤ tableSizeLimit) × (length recording ≤ recordingSizeLimit)) → Prints table recording (refusedText 17 0)
   fits : {text : List ℕ} → length table ≤ tableSizeLimit → length recording ≤ recordingSizeLimit → ReportOf table recording text

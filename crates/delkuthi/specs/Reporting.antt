@@ -15,7 +15,7 @@ use Rattle.constraint.specs.declared.Verdict.{Verdict}
 use Rattle.text.specs.Content.{Copied}
 use Rattle.monitor.specs.Contract.{after, Remains}
 use Rattle.monitor.specs.declared.Monitor.{Monitor}
-use Rattle.lent.specs.Layout.{Words, wordsOf}
+use Rattle.in_place.specs.Layout.{Words, wordsOfLent}
 use Rattle.fresh.specs.Fresh.{BeginsUpTo, freshLent}
 use Rattle.table.specs.declared.ReadAnswer.{ReadAnswer}
 use Rattle.delkuthi.specs.Summary.{summaryOf, reportText}
@@ -27,7 +27,7 @@ pub data LeftBy (newest : ℕ) (before : Words) (table recording : List ℕ) : R
   unused : (n place : ℕ) → ReadsTableUpTo newest table (table-refused n place)
       → LeftBy newest before table recording (ReadAnswer.Refused n place) before
   used : (rows : List Constraint) (answer : ReadAnswer) (after : Words) → ReadsTableUpTo newest table (table-of rows)
-      → BeginsUpTo newest table before 0 (wordsOf (freshLent rows)) → RecordingLeaves rows recording answer (wordsOf (freshLent rows)) after
+      → BeginsUpTo newest table before 0 (wordsOfLent (freshLent rows)) → RecordingLeaves rows recording answer (wordsOfLent (freshLent rows)) after
       → LeftBy newest before table recording answer after
 
 -- §7.22: the number and the buffer are the report's, whatever lay in the monitor; and the monitor has been used, however short the buffer is
@@ -43,6 +43,7 @@ ReportsOn = ReportsOnUpTo 1
 
 -- ---- of a monitor that was stepped call by call
 
+-- §7.23
 -- the bytes that a recording of the same steps is reported in, once these are closed: a count of them and what each row reads; before the close
 -- nothing is written
 pub data ReportsSteps (rows : List Constraint) (steps : List Step) (before : List ℕ) : ℕ → List ℕ → Type 0 where
@@ -54,7 +55,7 @@ pub data ReportsSteps (rows : List Constraint) (steps : List Step) (before : Lis
 abbrev pub reportedOf : Monitor → List ℕ
 reportedOf m = cond (ltb 0 (m .closed)) (reportText ReadAnswer.Accepted (summaryOf m)) []
 
--- §7.4, §7.8: the report of a monitor: of one that requests have made, that of the steps that they have left
+-- §7.4, §7.8, §7.23: the report of a monitor: of one that requests have made, that of the steps that they have left
 pub record ReportsOf (m : Monitor) (before : List ℕ) (answer : ℕ) (written : List ℕ) : Type 0 where
   pub equals : Copied (reportedOf m) before answer written
   pub means : (rows : List Constraint) (requests : List Request) → Accepted rows → m ≡ after rows requests

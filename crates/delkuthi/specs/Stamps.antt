@@ -28,6 +28,6 @@ pub record NumbersStampsUpTo (newest : ℕ) (table recording : List ℕ) (i e nu
   pub equals : number ≡ stampedNumber answer
   pub small : (n place : ℕ) → answer ≡ StampedAnswer.Refused n place → (0 < n) × (n < 256)
 
--- for a table of the first edition
+-- §12.6: for a table of the first edition
 abbrev pub NumbersStamps : List ℕ → List ℕ → ℕ → ℕ → ℕ → Type 0
 NumbersStamps = NumbersStampsUpTo 1

@@ -5,7 +5,7 @@ use lib.ListN.{take}
 use Rattle.constraint.specs.Limits.{rowLimit}
 use Rattle.constraint.specs.Report.{closedText, refusedText}
 use Rattle.constraint.specs.declared.Verdict.{Verdict}
-use Rattle.text.specs.Content.{Holds as Contains}
+use Rattle.text.specs.Content.{HoldsText as Contains}
 use Rattle.text.specs.declared.Text.{Text}
 use Rattle.monitor.specs.declared.Monitor.{Monitor}
 use Rattle.page.specs.Sheet.{verdictFor}
@@ -22,7 +22,7 @@ refusalOf number = ReadAnswer.Refused (number % 256) (number / 256)
 abbrev pub summaryOf : Monitor → Summary
 summaryOf m =
     record {
-      types = map (λ r. r .rule .form) (m .rows);
+      types = map (λ r. r .parameters .tag) (m .rows);
       steps = map (λ r. r .now .broken) (m .rows);
       rows = m .len;
       count = m .count;

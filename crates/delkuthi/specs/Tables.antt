@@ -21,6 +21,6 @@ pub record MakesTableIn (edition : ℕ) (bytes before : List ℕ) (number : ℕ)
   pub equals : number ≡ tableNumber answer row
   pub small : (n : ℕ) → answer ≡ WriteAnswer.Refused n → (0 < n) × (n < 256)
 
--- in the first edition
+-- §11.5: in the first edition
 abbrev pub MakesTable : List ℕ → List ℕ → ℕ → List ℕ → Type 0
 MakesTable = MakesTableIn 1

@@ -13,7 +13,7 @@ use Rattle.constraint.specs.declared.Call.{Call}
 use Rattle.constraint.specs.declared.Constraint.{Constraint}
 use Rattle.monitor.specs.Contract.{after}
 use Rattle.monitor.specs.Beside.{TakesAll}
-use Rattle.lent.specs.Contract.{Holds}
+use Rattle.in_place.specs.Contract.{HoldsMonitor}
 use Rattle.table.specs.declared.ReadAnswer.{ReadAnswer}
 use Rattle.delkuthi.specs.Host.{Memory, Host, noneRefused}
 
@@ -41,4 +41,4 @@ pub record RecordingLeaves (rows : List Constraint) (bytes : List ℕ) (answer :
 -- so where a fresh monitor over an accepted table lies in the memory
 abbrev pub TakesRecords : Memory → List ℕ → ReadAnswer → Memory → Type 0
 TakesRecords entry bytes answer exit =
-    (rows : List Constraint) → Accepted rows → Holds entry (after rows []) → RecordingLeaves rows bytes answer entry exit
+    (rows : List Constraint) → Accepted rows → HoldsMonitor entry (after rows []) → RecordingLeaves rows bytes answer entry exit

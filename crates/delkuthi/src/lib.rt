@@ -1,5 +1,5 @@
 // The report on a recording: what the rows of a table read after it. It is also offered to a host in C.
-pub mod host;
+pub mod ffi;
 pub mod joining;
 pub mod printed;
 mod records;
@@ -7,11 +7,11 @@ mod report;
 pub mod stamped;
 pub mod tables;
 
-use lent::Words;
+use in_place::Words;
 use table::ReadAnswer;
 use text::Text;
 ghost use Rattle.constraint.specs.Report.{ReportsUpTo, Reports};
-ghost use Rattle.lent.specs.Contract.{ReadOff};
+ghost use Rattle.in_place.specs.Contract.{ReadOff};
 ghost use Rattle.delkuthi.specs.Printed.{WritesText};
 ghost use Rattle.delkuthi.specs.Program.{Prints};
 ghost use Rattle.delkuthi.specs.Summary.{Tells};
@@ -22,6 +22,7 @@ pub const TABLE_SIZE_LIMIT: usize = 2048;
 // How many bytes a recording file has at most.
 pub const RECORDING_SIZE_LIMIT: usize = 61440;
 
+// §7.10, §8.17, §9.9
 // What the program prints for its two files: the report, or "refused 17 0" where one of them is too large.
 pub fn program_text(table: &[u8], recording: &[u8]) -> Text
     ensures { λ r. ⌜ Tells (Prints (now (table .entry)) (now (recording .entry))) r ⌝ }
@@ -34,6 +35,7 @@ pub fn program_text(table: &[u8], recording: &[u8]) -> Text
     report::text_of(answer, report::summary_of(&m))
 }
 
+// §7.3, §7.8, §7.9
 // Writes the report on a recording under a table to a lent buffer and answers the number of bytes written; where the buffer is too short, answers 0
 // and leaves it as it was.
 #[no_mangle]
@@ -43,6 +45,7 @@ pub extern "C" fn delkuthi_report(table: &[u8], recording: &[u8], buffer: &mut [
     report::report(1, table, recording, buffer)
 }
 
+// §16.3
 // The same for a table of either edition.
 #[no_mangle]
 pub extern "C" fn delkuthi_report_2(table: &[u8], recording: &[u8], buffer: &mut [u8]) -> usize
@@ -51,6 +54,7 @@ pub extern "C" fn delkuthi_report_2(table: &[u8], recording: &[u8], buffer: &mut
     report::report(2, table, recording, buffer)
 }
 
+// §7.22
 // Writes the report on a recording under a table to a lent buffer, on a monitor that is lent: the number of bytes written, or 0 where the buffer is
 // too short, which then stays as it was.
 #[no_mangle]
@@ -66,6 +70,7 @@ pub extern "C" fn delkuthi_report_on(
     report::report_on(1, m, table, recording, buffer)
 }
 
+// §16.3
 // The same for a table of either edition.
 #[no_mangle]
 pub extern "C" fn delkuthi_report_on_2(
@@ -80,6 +85,7 @@ pub extern "C" fn delkuthi_report_on_2(
     report::report_on(2, m, table, recording, buffer)
 }
 
+// §7.23
 // Writes the report of a monitor that was stepped call by call to a lent buffer: the number of bytes written, or 0 where the buffer is too short or
 // the monitor is not closed, and then the buffer stays as it was. Whatever was lent, nothing else is written but the bytes answered for.
 #[no_mangle]

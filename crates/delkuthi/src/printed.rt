@@ -1,9 +1,10 @@
 // The printed page of a monitor, closed or not, for a host in C.
 use crate::report::summary_of;
-use lent::Words;
-ghost use Rattle.lent.specs.Contract.{ReadOff};
+use in_place::Words;
+ghost use Rattle.in_place.specs.Contract.{ReadOff};
 ghost use Rattle.delkuthi.specs.Printed.{WritesText, WritesPage};
 
+// §7.14, §7.19
 // Writes the page of a monitor that is lent to the front of a buffer and answers its length; where the buffer is too short, answers 0 and leaves it
 // as it was. Whatever was lent, nothing else is written but the bytes answered for.
 #[no_mangle]

@@ -1,11 +1,11 @@
 // Takes a recording: call by call, those of its records and then the close, on one monitor where it lies.
 use constraint::Call;
-use lent::Words;
-use lent::calls;
+use in_place::Words;
+use in_place::calls;
 use table::ReadAnswer;
 ghost use Rattle.constraint.specs.Run.{asks};
 ghost use Rattle.monitor.specs.declared.Monitor.{Monitor};
-ghost use Rattle.lent.specs.Contract.{Takes, Holds};
+ghost use Rattle.in_place.specs.Contract.{Takes, HoldsMonitor};
 ghost use Rattle.delkuthi.specs.Taking.{TakesRecords};
 
 // A call on a monitor that is lent: 0 if it is taken, else the number of its refusal.
@@ -20,10 +20,11 @@ fn take(m: &mut Words, call: Call) -> u8
     }
 }
 
+// §7.1, §7.6, §9.4
 // Puts a whole recording to a fresh monitor that is lent, which takes each call where it lies: accepted where every record was
 // taken, and the close.
 pub(crate) fn take_recording(m: &mut Words, bytes: &[u8]) -> ReadAnswer
-    requires { ⌜ ((fresh : Monitor) × Holds (now m) fresh) ⌝ }
+    requires { ⌜ ((fresh : Monitor) × HoldsMonitor (now m) fresh) ⌝ }
     ensures { λ r. ⌜ TakesRecords (now (m .entry)) (now (bytes .entry)) r (now (m .exit)) ⌝ }
 {
     if !recording::version_known(bytes) {

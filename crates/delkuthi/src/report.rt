@@ -1,10 +1,10 @@
 // The report and the page of a monitor: its summary is gathered where it lies, and then written.
 use crate::records::take_recording;
-use lent::COUNT;
-use lent::NUMBERS;
-use lent::Words;
-use machine::words;
+use in_place::COUNT;
+use in_place::NUMBERS;
+use in_place::Words;
 use page::Summary;
+use row_type::row_words;
 use table::ReadAnswer;
 use text::Text;
 ghost use Prim.Native.Nat.{_≤_};
@@ -12,10 +12,10 @@ ghost use mathlib.Core.Path.{_≡_};
 ghost use mathlib.Core.List.{map};
 ghost use lib.ListN.{length, take};
 ghost use Rattle.constraint.specs.Report.{rowLines, ReportsUpTo};
-ghost use Rattle.text.specs.Content.{extended, Holds as Contains, Copied};
+ghost use Rattle.text.specs.Content.{extended, HoldsText as Contains, Copied};
 ghost use Rattle.page.specs.Sheet.{verdictFor};
 ghost use Rattle.monitor.specs.declared.Monitor.{Monitor};
-ghost use Rattle.lent.specs.Contract.{Holds};
+ghost use Rattle.in_place.specs.Contract.{HoldsMonitor};
 ghost use Rattle.delkuthi.specs.Reporting.{LeftBy, ReportsOnUpTo};
 ghost use Rattle.delkuthi.specs.Summary.{refusalOf, summaryOf, reportText};
 
@@ -42,22 +42,22 @@ pub(crate) fn answer_on(newest: u8, m: &mut Words, table: &[u8], recording: &[u8
 
 // The summary of a monitor that is lent: nothing of it is copied but numbers.
 pub(crate) fn summary_of(m: &Words) -> Summary
-    ensures { λ r. ⌜ ((n : Monitor) → Holds (now (m .entry)) n → r ≡ summaryOf n) ⌝ }
+    ensures { λ r. ⌜ ((n : Monitor) → HoldsMonitor (now (m .entry)) n → r ≡ summaryOf n) ⌝ }
 {
     let mut types = [0u64; 32];
     let mut steps = [0u64; 32];
     let mut i = 0;
     while i < 32 {
-        types[i] = m[i][1][words::FORM];
-        steps[i] = m[i][1][words::BROKEN];
+        types[i] = m[i][1][row_words::TYPE_TAG];
+        steps[i] = m[i][1][row_words::BROKEN];
         i += 1;
     }
     Summary {
         types,
         steps,
-        rows: lent::held(m),
+        rows: in_place::held(m),
         count: m[NUMBERS][0][COUNT],
-        closed: lent::closed(m),
+        closed: in_place::closed(m),
     }
 }
 
@@ -101,6 +101,7 @@ pub(crate) fn write(answer: ReadAnswer, summary: Summary, buffer: &mut [u8]) -> 
     text_of(answer, summary).copy_to(buffer)
 }
 
+// §7.3, §7.22, §9.10
 // Writes the report on a recording under a table of an edition up to the newest, which a monitor takes that is lent.
 pub(crate) fn report_on(
     newest: u8,

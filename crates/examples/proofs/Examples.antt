@@ -17,7 +17,7 @@ use Rattle.constraint.specs.declared.Verdict.{Verdict}
 use Rattle.constraint.specs.declared.Verdict.the-variants.{Open, Kept, Broken}
 use Rattle.constraint.proofs.Lists.{both}
 use Rattle.row.specs.Machine.{rowOf, brokenRow, applied, changedRow, rowStep, rowVerdict}
-use Rattle.queue.specs.Ring.{ring, pushRing, putRing, putBack}
+use Rattle.ring.specs.Ring.{ring, pushRing, putRing, putBack}
 use Rattle.row.specs.Undo.{movesBy, stepPlace, savedBy, backRow, rowWithout, keptWithout}
 use Rattle.monitor.specs.Machine.{monitorOf, mapFirst, zipFirst, anyFirst, takenCall, stepOf, withdrawn, withdrawOf, verdictOf}
 use Rattle.monitor.specs.Contract.{step, after}
@@ -26,16 +26,16 @@ use Rattle.monitor.proofs.Theorem.{monitor-is-exact}
 use Rattle.examples.specs.Reading.{ReadsSo, AllRead, BothRead, CrowdedSilence}
 use Rattle.examples.proofs.Fitting.{and-true, fits, accepted-by, accepted-both}
 use Rattle.examples.specs.Vectors.{crowdedRows, crowdedCalls, crowdedAnswers}
-use Rattle.pairs.specs.Delay.{answeredBy, decideDelay}
-use Rattle.pairs.specs.StrongDelay.{sourceStrongDelay, targetStrongDelay, decideStrongDelay}
-use Rattle.spans.specs.Repeat.{decideRepeat}
-use Rattle.points.specs.Sporadic.{laterSporadic, decideSporadic}
-use Rattle.pairs.specs.Order.{changesTo, decideOrder}
-use Rattle.groups.specs.StrongSynchronization.{decideStrongSynchronization}
-use Rattle.phases.specs.ExecutionTime.{whileIdle, whileRunning, whilePreempted, decideExecutionTime}
-use Rattle.chains.specs.Reaction.{dueBut, decideReaction}
+use Rattle.delay_order.specs.Delay.{answeredBy, decideDelay}
+use Rattle.delay_order.specs.StrongDelay.{sourceStrongDelay, targetStrongDelay, decideStrongDelay}
+use Rattle.repeat_burst.specs.Repeat.{decideRepeat}
+use Rattle.hidden_points.specs.Sporadic.{laterSporadic, decideSporadic}
+use Rattle.delay_order.specs.Order.{changesTo, decideOrder}
+use Rattle.synchronizations.specs.StrongSynchronization.{decideStrongSynchronization}
+use Rattle.execution.specs.ExecutionTime.{whileIdle, whileRunning, whilePreempted, decideExecutionTime}
+use Rattle.event_chain.specs.Reaction.{dueBut, decideReaction}
 use Rattle.repetition.specs.Repetition.{placed, decideRepetition}
-use Rattle.groups.specs.Synchronization.{decideSynchronization}
+use Rattle.synchronizations.specs.Synchronization.{decideSynchronization}
 use Rattle.examples.specs.Vectors.{unlimited-delays, silences, execution-times, repetitions, long-clocks, reactions, synchronizations}
 
 -- ---- what the machine computes
@@ -159,7 +159,7 @@ execution-times-hold = all-read execution-times (all-computed .3)
 pub repetitions-hold : AllRead repetitions
 repetitions-hold = all-read repetitions (all-computed .4)
 
--- §1.1
+-- §1.1, §1.10
 pub long-clocks-hold : AllRead long-clocks
 long-clocks-hold = all-read long-clocks (all-computed .5)
 

@@ -5,7 +5,7 @@ use Rattle.constraint.specs.Limits.{lastKind, firstColoured, lastTime, noLimit}
 use Rattle.constraint.specs.Questions.{Question, Judged}
 use Rattle.constraint.specs.Types.{kind, coloured, count, span, plain, lower, upper, upper-or-none, Field, byte, time, typeOf, fieldsOf}
 use Rattle.constraint.specs.Types.{lastType}
-use Rattle.constraint.specs.Accepted.{kinds, KindsFit, SortsFit, KindsSuit, FieldsInRange, InRange, NotBelow, LowerFirst}
+use Rattle.constraint.specs.Accepted.{kinds, KindsFit, KindClassesFit, KindsSuit, FieldsInRange, InRange, NotBelow, LowerFirst}
 use Rattle.constraint.specs.Accepted.{rowQuestionsIn, rowsQuestions, Accepted}
 use Rattle.constraint.specs.Records.{Absent}
 use Rattle.constraint.specs.declared.Answer.the-variants.{Taken}
@@ -74,7 +74,7 @@ kinds-by (k ∷ ks) e =
     let first = and-true (leb k lastKind) (absentBy k ks) (parts .0) in
     kinds-more k ks (leb-true k lastKind (first .0), absent-by k ks (first .1)) (kinds-by ks (parts .1))
 
-sorts-by : (fields : List Field) → sortsBy fields ≡ true → SortsFit fields
+sorts-by : (fields : List Field) → sortsBy fields ≡ true → KindClassesFit fields
 sorts-by [] e = tt
 sorts-by (byte kind x ∷ fields) e =
     let parts = and-true (ltb x firstColoured) (sortsBy fields) e in (ltb-true x firstColoured (parts .0), sorts-by fields (parts .1))

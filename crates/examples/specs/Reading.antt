@@ -24,7 +24,7 @@ pub record ReadsSo (e : Example) : Type 0 where
   pub defined : Reads (e .constraint) (left .steps) (e .verdict)
   pub monitored : verdictOf (after (e .constraint ∷ []) (e .requests)) 0 ≡ some (e .verdict)
 
--- each example of a list
+-- §10.1 to §10.12, §10.14, §10.15: each example of a list
 abbrev pub AllRead : List Example → Type 0
 AllRead [] = Unit {0}
 AllRead (e ∷ later) = ReadsSo e × AllRead later

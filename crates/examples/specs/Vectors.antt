@@ -163,7 +163,7 @@ repetitions =
     ∷ reads (Repetition 0 2 lastTime lastTime lastTime) (Event 0 0 ∷ Event 0 1 ∷ Event 0 (lastTime - 1) ∷ []) (Broken 3)
     ∷ []
 
--- §1.1; CR 12: past the last time of the first versions, and up to the last
+-- §1.1, §1.10; CR 12: past the last time of the first versions, and up to the last
 abbrev pub long-clocks : List Example
 long-clocks =
     reads (Delay 0 1 2 3) (Event 0 (2 ^ 56) ∷ Tick (2 ^ 56 + 3) ∷ []) Open

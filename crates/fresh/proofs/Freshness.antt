@@ -1,16 +1,18 @@
 -- The fresh monitor over an accepted table has its rows in its first places, and its words say what is so of it: the lists of all kinds stand one
 -- after the other among the entries, where there is room for them, and nothing waits in a row but the words that a Reaction has from the start.
-use Rattle.fresh.proofs.Names.{Accepted, Before, Bool, Constraint, Each, Indexes, Lent, List, List·getD-append, Monitor, RestZero, Roomy, Row}
-use Rattle.fresh.proofs.Names.{RowsPut, Rule, Shaped, Sound, SoundRows, Words, [], _%_, _++_, _+_, _-_, _<_, _∙_, _∷_, _≡_, _≤_, accepted-few}
+use Rattle.fresh.proofs.Names.{Accepted, RowUndo, Bool, Constraint, Each, Indexes, Lent, List, List·getD-append, Monitor, RestZero, HintSound}
+use Rattle.fresh.proofs.Names.{Row}
+use Rattle.fresh.proofs.Names.{RowsPut, Parameters, Shaped, SoundNumbers, SoundRows, Words, [], _%_, _++_, _+_, _-_, _<_, _∙_, _∷_, _≡_, _≤_}
+use Rattle.fresh.proofs.Names.{accepted-few}
 use Rattle.fresh.proofs.Names.{accepted-sound, after, ap, ap₂, arith, at, concerns, concerns-none, cond, each-append, each-cons, each-none}
 use Rattle.fresh.proofs.Names.{endOf, endsTo, false, filler, freshLent, getD, getD-append-add, getD-at, heldRows, isOf, keptAt, length}
 use Rattle.fresh.proofs.Names.{length-append, length-map, length-replicate, listedTo, ltb, ltb-false, ltb-true, map, mod-eq-of-lt, monitorOf}
-use Rattle.fresh.proofs.Names.{namedRows, noBefore, noEvent, noRow, noWords, numbers, padded, play, refl, replicate, rest-zero-fresh, rowAt}
-use Rattle.fresh.proofs.Names.{rowCount, rowLimit, rowNamed, rowOf, rowsOf, set, split, startOf, subst, subst₂, suc, sym, take, take-at}
-use Rattle.fresh.proofs.Names.{take-length, take-suc, taken-few, true, waitingLimit, withLists, words-few, wordsOf, zero, ℕ}
+use Rattle.fresh.proofs.Names.{namedRows, noRowUndo, noEvent, noRow, noWords, numbers, padded, play, refl, replicate, rest-zero-fresh, rowAt}
+use Rattle.fresh.proofs.Names.{rowCount, rowLimit, rowNamed, rowOf, rowsOfKind, set, split, startOf, subst, subst₂, suc, sym, take, take-at}
+use Rattle.fresh.proofs.Names.{take-length, take-suc, taken-few, true, waitingLimit, withLists, words-few, wordsOfLent, zero, ℕ}
 use Rattle.fresh.proofs.Padding.{padded-at, padded-length, padded-next}
 use Rattle.fresh.proofs.{Lists.shaped-lists, Lists.words-known, Totals.listed-few}
-use Rattle.machine.specs.Rule as Rules
+use Rattle.row_type.specs.Parameters as Rules
 use Rattle.row.proofs.Exact as Exact
 
 -- ---- the lists of the first kinds
@@ -97,7 +99,7 @@ module _ (h : Lent) (n : ℕ) (few : n ≤ 32) (ends : h .ends ≡ endsTo (h .mo
   start-is zero small = refl
   start-is (suc kind) small = end-is kind (omega (arith, small))
 
-  pub lists-are : (kind : ℕ) → kind < 64 → rowsOf h kind ≡ numbers (isOf (h .monitor) kind) n
+  pub lists-are : (kind : ℕ) → kind < 64 → rowsOfKind h kind ≡ numbers (isOf (h .monitor) kind) n
   lists-are kind small =
       let m : Monitor = h .monitor in
       let list : List ℕ = numbers (isOf m kind) n in
@@ -130,13 +132,13 @@ pub row-is : (rows : List Constraint) (i : ℕ) → rowAt (after rows []) i ≡ 
 unfolding after play monitorOf
 row-is rows i = place-is rows (rowLimit - length rows) i
 
-pub kept-is : (rows : List Constraint) (i : ℕ) → keptAt (after rows []) i ≡ noBefore
+pub kept-is : (rows : List Constraint) (i : ℕ) → keptAt (after rows []) i ≡ noRowUndo
 unfolding after play monitorOf
-kept-is rows i = replicate-each noBefore rowLimit i
+kept-is rows i = replicate-each noRowUndo rowLimit i
 
-rule-is : (c : Constraint) → rowOf c .rule ≡ Rules.ruleOf c
+parameters-is : (c : Constraint) → rowOf c .parameters ≡ Rules.parametersOf c
 unfolding rowOf
-rule-is c = refl
+parameters-is c = refl
 
 row-sound : (rows : List Constraint) → SoundRows rows → (i : ℕ) → i < length rows → Exact.Sound (getD rows i filler)
 row-sound [] sound i there = absurd (omega (arith, there))
@@ -146,13 +148,14 @@ row-sound (c ∷ rows) sound (suc i) there = row-sound rows (sound .1) i (omega 
 -- a tick and the close concern none
 none-ticks : (rows : List Constraint) → Accepted rows → (i : ℕ) → i < length rows → isOf (after rows []) noEvent i ≡ false
 none-ticks rows accepted i there =
-    ap (λ (r : Row). concerns (r .rule) noEvent) (row-is rows i) ∙ ap (λ (rule : Rule). concerns rule noEvent) (rule-is (getD rows i filler))
+    ap (λ (r : Row). concerns (r .parameters) noEvent) (row-is rows i)
+    ∙ ap (λ (parameters : Parameters). concerns parameters noEvent) (parameters-is (getD rows i filler))
     ∙ concerns-none (getD rows i filler) (row-sound rows (accepted-sound rows accepted) i there .kinds-fit)
 
 -- nothing waits but the words that a row has from the start
 row-few : (c : Constraint) → rowOf c .now .len ≤ waitingLimit
 unfolding rowOf
-row-few c = words-few (Rules.ruleOf c)
+row-few c = words-few (Rules.parametersOf c)
 
 either : (b : Bool) (x y : ℕ) → x ≤ waitingLimit → y ≤ waitingLimit → cond b x y ≤ waitingLimit
 either true x y p q = p
@@ -178,7 +181,7 @@ fresh-shaped rows few =
       rest-zero = λ i _. subst₂ RestZero (sym (row-is rows i)) (sym (kept-is rows i)) (rest-zero-fresh (getD rows i filler));
     }
 
-fresh-sound : (rows : List Constraint) → length rows ≤ rowLimit → Sound (after rows [])
+fresh-sound : (rows : List Constraint) → length rows ≤ rowLimit → SoundNumbers (after rows [])
 unfolding after play monitorOf
 fresh-sound rows few = record { rows-few = few; closed-mark = omega arith; closed-then = omega arith }
 
@@ -186,24 +189,24 @@ held-are : (rows : List Constraint) → length rows ≤ rowLimit → heldRows (a
 unfolding after play monitorOf
 held-are rows few = omega (arith, few)
 
-fresh-roomy : (rows : List Constraint) → Roomy (freshLent rows)
+fresh-roomy : (rows : List Constraint) → HintSound (freshLent rows)
 fresh-roomy rows =
     let now-few : (i : ℕ) → rowAt (after rows []) i .now .len ≤ waitingLimit =
     λ i. subst (λ (r : Row). r .now .len ≤ waitingLimit) (sym (row-is rows i)) (row-few (getD rows i filler)) in
     let then-few : (i : ℕ) → keptAt (after rows []) i .state .len ≤ waitingLimit =
-    λ i. subst (λ (b : Before). b .state .len ≤ waitingLimit) (sym (kept-is rows i)) (omega arith) in
+    λ i. subst (λ (b : RowUndo). b .state .len ≤ waitingLimit) (sym (kept-is rows i)) (omega arith) in
     record {
       room-mark = omega arith;
       now-few = λ i _. now-few i;
       then-few = λ i _. then-few i;
       now-room = λ i _. omega (
         arith,
-        taken-few (rowAt (after rows []) i .rule .form) (rowAt (after rows []) i .rule .span)
+        taken-few (rowAt (after rows []) i .parameters .tag) (rowAt (after rows []) i .parameters .span)
             (rowAt (after rows []) i .now .len) (now-few i),
       );
       then-room = λ i _. omega (
         arith,
-        taken-few (rowAt (after rows []) i .rule .form) (rowAt (after rows []) i .rule .span)
+        taken-few (rowAt (after rows []) i .parameters .tag) (rowAt (after rows []) i .parameters .span)
             (keptAt (after rows []) i .state .len) (then-few i),
       );
     }
@@ -230,7 +233,7 @@ numbered words n =
     set opened 32 (set (getD opened 32 []) 0 (set (getD (getD opened 32 []) 0 []) 3 n))
 
 pub begun-words : (rows : List Constraint) → length rows ≤ rowLimit → (words exit : Words) → words ≡ replicate 35 noWords
-    → RowsPut (numbered words (length rows)) (after rows []) 32 exit → exit ≡ wordsOf (withLists (freshLent rows) (padded 64 []) (padded 128 []))
+    → RowsPut (numbered words (length rows)) (after rows []) 32 exit → exit ≡ wordsOfLent (withLists (freshLent rows) (padded 64 []) (padded 128 []))
 unfolding after play monitorOf padded
 begun-words rows few words exit cleared put =
     let done = subst (λ (w : Words). RowsPut (numbered w (length rows)) (after rows []) 32 exit) cleared put in

@@ -1,7 +1,8 @@
 -- The lists of a lent monitor where they lie: a store in one is a store in one part of the record. Words whose blocks are all known are a monitor's.
-use Rattle.fresh.proofs.Names.{Before, Lent, List, Row, RowsLie, Shaped, Words, [], _%_, _++_, _/_, _<_, _∙_, _∷_, _≡_, _≤_, ap, ap₂, arith}
+use Rattle.fresh.proofs.Names.{RowUndo, Lent, List, Row, RowsLie, Shaped, Words, [], _%_, _++_, _/_, _<_, _∙_, _∷_, _≡_, _≤_, ap, ap₂, arith}
 use Rattle.fresh.proofs.Names.{drop, drop-cons, drop-length, entries-read, getD, half-written, halves, last-written, lastBlocks, length}
-use Rattle.fresh.proofs.Names.{noBefore, noRow, numberBlock, numbers-read, padded, refl, rowBlocks, set, subst, suc, sym, withLists, wordsOf}
+use Rattle.fresh.proofs.Names.{noRowUndo, noRow, numberBlock, numbers-read, padded, refl, rowBlocks, set, subst, suc, sym, withLists}
+use Rattle.fresh.proofs.Names.{wordsOfLent}
 use Rattle.fresh.proofs.Names.{ℕ}
 use Rattle.fresh.proofs.Padding.{padded-length}
 use Rattle.row.specs.Stored as Stored
@@ -10,19 +11,19 @@ use Rattle.row.specs.Stored as Stored
 
 module _ (h : Lent) (s : Shaped h) where
   pub end-written : (kind v : ℕ)
-      → set (wordsOf h) 32 (set (getD (wordsOf h) 32 []) 1 (set (getD (getD (wordsOf h) 32 []) 1 []) kind v))
-      ≡ wordsOf (withLists h (set (h .ends) kind v) (h .entries))
-  unfolding wordsOf
+      → set (wordsOfLent h) 32 (set (getD (wordsOfLent h) 32 []) 1 (set (getD (getD (wordsOfLent h) 32 []) 1 []) kind v))
+      ≡ wordsOfLent (withLists h (set (h .ends) kind v) (h .entries))
+  unfolding wordsOfLent
   end-written kind v =
-      ap (λ (b : List (List ℕ)). set (wordsOf h) 32 (set b 1 (set (getD b 1 []) kind v))) (numbers-read h s)
+      ap (λ (b : List (List ℕ)). set (wordsOfLent h) 32 (set b 1 (set (getD b 1 []) kind v))) (numbers-read h s)
       ∙ last-written h s 0 (set (numberBlock h) 1 (set (getD (numberBlock h) 1 []) kind v))
 
   pub entry-written : (i v : ℕ) → i < 128
-      → set (wordsOf h) 33 (set (getD (wordsOf h) 33 []) (i / 64) (set (getD (getD (wordsOf h) 33 []) (i / 64) []) (i % 64) v))
-      ≡ wordsOf (withLists h (h .ends) (set (h .entries) i v))
-  unfolding wordsOf
+      → set (wordsOfLent h) 33 (set (getD (wordsOfLent h) 33 []) (i / 64) (set (getD (getD (wordsOfLent h) 33 []) (i / 64) []) (i % 64) v))
+      ≡ wordsOfLent (withLists h (h .ends) (set (h .entries) i v))
+  unfolding wordsOfLent
   entry-written i v small =
-      ap (λ (b : List (List ℕ)). set (wordsOf h) 33 (set b (i / 64) (set (getD b (i / 64) []) (i % 64) v))) (entries-read h s)
+      ap (λ (b : List (List ℕ)). set (wordsOfLent h) 33 (set b (i / 64) (set (getD b (i / 64) []) (i % 64) v))) (entries-read h s)
       ∙ last-written h s 1 (set (halves (h .entries)) (i / 64) (set (getD (halves (h .entries)) (i / 64) []) (i % 64) v))
       ∙ ap (λ (b : List (List ℕ)). rowBlocks (h .monitor .rows) (h .monitor .before)
       ++ (numberBlock h ∷ b ∷ halves (drop 48 (h .monitor .next)) ∷ []))
@@ -41,8 +42,8 @@ module _ (h : Lent) (s : Shaped h) where
 
 -- ---- words whose blocks are known
 
-rows-known : (rows : List Row) (kept : List Before) (words : Words) → length rows ≡ length kept → length rows ≤ length words
-    → ((i : ℕ) → i < length rows → getD words i [] ≡ Stored.wordsOf (getD rows i noRow) (getD kept i noBefore))
+rows-known : (rows : List Row) (kept : List RowUndo) (words : Words) → length rows ≡ length kept → length rows ≤ length words
+    → ((i : ℕ) → i < length rows → getD words i [] ≡ Stored.wordsOfRow (getD rows i noRow) (getD kept i noRowUndo))
     → words ≡ rowBlocks rows kept ++ drop (length rows) words
 unfolding rowBlocks
 rows-known [] kept words same few each = refl
@@ -53,8 +54,8 @@ rows-known (r ∷ rows) (b ∷ kept) (w ∷ words) same few each =
     (rows-known rows kept words (omega (arith, same)) (omega (arith, few)) (λ i below. each (suc i) (omega (arith, below))))
 
 pub words-known : (h : Lent) → Shaped h → (words : Words) → length words ≡ 35 → RowsLie (h .monitor) 32 words
-    → getD words 32 [] ∷ getD words 33 [] ∷ getD words 34 [] ∷ [] ≡ lastBlocks h → words ≡ wordsOf h
-unfolding wordsOf
+    → getD words 32 [] ∷ getD words 33 [] ∷ getD words 34 [] ∷ [] ≡ lastBlocks h → words ≡ wordsOfLent h
+unfolding wordsOfLent
 words-known h s words long rows last =
     let none : drop 35 words ≡ [] = subst (λ (n : ℕ). drop n words ≡ []) long (drop-length words) in
     rows-known (h .monitor .rows) (h .monitor .before) words (s .rows-there ∙ sym (s .kept-there)) (omega (arith, s .rows-there, long))

@@ -13,21 +13,21 @@ pub use Rattle.constraint.specs.Table.{table-of, table-refused, version-refused
 pub use Rattle.constraint.specs.{Accepted.Accepted, Limits.rowLimit, Limits.waitingLimit, Questions.Question, Records.filler, Steps.among, Steps.at}
 pub use Rattle.constraint.specs.{declared.Answer.the-variants.Refused, declared.Answer.the-variants.Taken, declared.Constraint.Constraint}
 pub use Rattle.fresh.specs.Fresh.{BeginsUpTo, ListsLie, RowsBehind, RowsLie, RowsPut, begun, freshLent, noWords, refused, withLists}
-pub use Rattle.lent.proofs.{Blocks.last-written, Blocks.row-lies, Parts.entries-read, Parts.half-written, Parts.numbers-read}
-pub use Rattle.lent.specs.Contract.{Indexes, Roomy, Sound, isOf, namedRows, numbers, rowsOf}
-pub use Rattle.lent.specs.Layout.{Lent, Shaped, Words, endOf, halves, heldRows, keptAt, lastBlocks, numberBlock, rowAt, rowNamed, startOf}
-pub use Rattle.lent.specs.Steps.{rowCount}
-pub use Rattle.machine.proofs.FitsRow.{words-few}
-pub use Rattle.machine.specs.{Words.ruleAt, declared.Rule.Rule}
+pub use Rattle.in_place.proofs.{Blocks.last-written, Blocks.row-lies, Parts.entries-read, Parts.half-written, Parts.numbers-read}
+pub use Rattle.in_place.specs.Contract.{Indexes, HintSound, SoundNumbers, isOf, namedRows, numbers, rowsOfKind}
+pub use Rattle.in_place.specs.Layout.{Lent, Shaped, Words, endOf, halves, heldRows, keptAt, lastBlocks, numberBlock, rowAt, rowNamed, startOf}
+pub use Rattle.in_place.specs.Steps.{rowCount}
+pub use Rattle.row_type.proofs.FitsRow.{words-few}
+pub use Rattle.row_type.specs.{Words.parametersAt, declared.Parameters.Parameters}
 pub use Rattle.monitor.proofs.{Demand.accepted-few, Demand.accepted-sound, FittingRows.SoundRows}
 pub use Rattle.monitor.specs.{Machine.noRow, declared.Monitor.Monitor}
-pub use Rattle.row.proofs.{Filling.taken-few, Kept.rest-zero-fresh, OwnKinds.concerns-none}
-pub use Rattle.row.specs.{Machine.concerns, Machine.noEvent, Stored.RestZero, Undo.noBefore, declared.Before.Before, declared.Row.Row}
+pub use Rattle.row.proofs.{SlotsUsed.taken-few, UndoComplete.rest-zero-fresh, OwnKinds.concerns-none}
+pub use Rattle.row.specs.{Machine.concerns, Machine.noEvent, Stored.RestZero, Undo.noRowUndo, declared.RowUndo.RowUndo, declared.Row.Row}
 pub use Rattle.table.proofs.{Places.place-taken, Scanning.scan-start, Scanning.scan-step}
 pub use Rattle.table.specs.{Scan.PlacedAt, declared.scan.Placed.Placed}
 unfoldable pub use Rattle.constraint.specs.{Promise.play, Questions.Judged, Table.placeQuestions}
 unfoldable pub use Rattle.fresh.specs.Fresh.{endsTo, listedTo, padded}
-unfoldable pub use Rattle.lent.specs.Layout.{rowBlocks, wordsOf}
-unfoldable pub use Rattle.machine.specs.Words.{numberWords, rowWords}
+unfoldable pub use Rattle.in_place.specs.Layout.{rowBlocks, wordsOfLent}
+unfoldable pub use Rattle.row_type.specs.Words.{numberWords, rowWords}
 unfoldable pub use Rattle.monitor.specs.{Contract.after, Machine.monitorOf}
 unfoldable pub use Rattle.row.specs.Machine.{rowOf}

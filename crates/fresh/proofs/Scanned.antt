@@ -41,12 +41,12 @@ pub put-none : (entry : Words) (m : Monitor) → RowsPut entry m 0 entry
 put-none entry m = record { long = refl; rows-lie = λ i below. absurd (omega (arith, below)); others = λ i _. refl }
 
 pub put-next : (entry : Words) (m : Monitor) (n : ℕ) (words : Words) (block : List (List ℕ)) → n < length entry → RowsPut entry m n words
-    → block ≡ Stored.wordsOf (rowAt m n) (keptAt m n) → RowsPut entry m (n + 1) (set words n block)
+    → block ≡ Stored.wordsOfRow (rowAt m n) (keptAt m n) → RowsPut entry m (n + 1) (set words n block)
 put-next entry m n words block room so-far is =
     record {
       long = length-set words n block ∙ so-far .long;
       rows-lie = λ i below.
-          split (eqb i n) (λ _. getD (set words n block) i [] ≡ Stored.wordsOf (rowAt m i) (keptAt m i))
+          split (eqb i n) (λ _. getD (set words n block) i [] ≡ Stored.wordsOfRow (rowAt m i) (keptAt m i))
           (λ e. let same = eqb-true i n e in
           rw same (getD-set-same words n block [] (omega (arith, room, so-far .long)) ∙ is))
           (λ e. getD-set-other words n i block [] (eqb-false i n e) ∙ so-far .rows-lie i (omega (arith, below, eqb-false i n e)));

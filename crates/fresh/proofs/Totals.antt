@@ -1,5 +1,6 @@
 -- The lists of all kinds together have at most four entries for each row: a row has four numbers for its kinds, and each of them is one kind at most.
-use Rattle.fresh.proofs.Names.{Bool, List, Monitor, Rule, [], _*_, _+_, _||_, _∙_, _∷_, _≡_, _≤_, among, ap, arith, cond, eqb, eqb-true, false}
+use Rattle.fresh.proofs.Names.{Bool, List, Monitor, Parameters, [], _*_, _+_, _||_, _∙_, _∷_, _≡_, _≤_, among, ap, arith, cond, eqb, eqb-true}
+use Rattle.fresh.proofs.Names.{false}
 use Rattle.fresh.proofs.Names.{isOf, length, length-append, listedTo, numbers, refl, rowAt, split, suc, true, zero, ℕ}
 
 -- how many numbers below n pass a test
@@ -65,5 +66,11 @@ module _ (m : Monitor) where
   pub listed-few : (n kinds : ℕ) → length (listedTo m n kinds) ≤ 4 * n
   listed-few zero kinds = omega (arith, no-rows kinds)
   listed-few (suc n) kinds =
-      let rule : Rule = rowAt m n .rule in
-      omega (arith, row-more n kinds, listed-few n kinds, among-few (rule .first ∷ rule .second ∷ rule .third ∷ rule .fourth ∷ []) kinds)
+      let parameters : Parameters = rowAt m n .parameters in
+      omega (
+        arith,
+        row-more n kinds,
+        listed-few n kinds,
+        among-few
+            (parameters .first ∷ parameters .second ∷ parameters .third ∷ parameters .fourth ∷ []) kinds,
+      )

@@ -13,9 +13,9 @@ use Rattle.table.specs.Scan.{Counted}
 use Rattle.row.specs.Stored as Stored
 use Rattle.monitor.specs.Contract.{after}
 use Rattle.monitor.specs.declared.Monitor.{Monitor}
-use Rattle.lent.specs.Layout.{Lent, Words, wordsOf, Shaped, rowAt, keptAt}
-use Rattle.lent.specs.Contract.{numbers, isOf, Indexes}
-use Rattle.fresh.specs.declared.Judged.{Judged}
+use Rattle.in_place.specs.Layout.{Lent, Words, wordsOfLent, Shaped, rowAt, keptAt}
+use Rattle.in_place.specs.Contract.{numbers, isOf, Indexes}
+use Rattle.fresh.specs.declared.Validated.{Validated}
 
 -- ---- the list of rows for each kind
 
@@ -36,14 +36,14 @@ padded places list = take places (list ++ replicate places 0)
 -- ---- the fresh monitor over a table's rows
 
 abbrev pub withLists : Lent → List ℕ → List ℕ → Lent
-withLists h ends entries = record { monitor = h .monitor; soonest = h .soonest; room = h .room; ends = ends; entries = entries }
+withLists h ends entries = record { monitor = h .monitor; soonest = h .soonest; hint = h .hint; ends = ends; entries = entries }
 
 abbrev pub freshLent : List Constraint → Lent
 freshLent rows =
     record {
       monitor = after rows [];
       soonest = 0;
-      room = 0;
+      hint = 0;
       ends = endsTo (after rows []) (length rows) 64;
       entries = padded 128 (listedTo (after rows []) (length rows) 64);
     }
@@ -52,11 +52,11 @@ freshLent rows =
 -- each as it was
 pub data BeginsUpTo (newest : ℕ) (bytes : List ℕ) (entry : Words) : ℕ → Words → Type 0 where
   begun : (rows : List Constraint) → ReadsTableUpTo newest bytes (table-of rows) → Accepted rows → Indexes (freshLent rows)
-      → BeginsUpTo newest bytes entry 0 (wordsOf (freshLent rows))
+      → BeginsUpTo newest bytes entry 0 (wordsOfLent (freshLent rows))
   refused : (n place : ℕ) → ReadsTableUpTo newest bytes (table-refused n place) → 0 < n → n < 256
       → BeginsUpTo newest bytes entry (place * 256 + n) entry
 
--- §11.5: over a table of the first edition
+-- §11.2, §11.5: over a table of the first edition
 abbrev pub Begins : List ℕ → Words → ℕ → Words → Type 0
 Begins = BeginsUpTo 1
 
@@ -72,7 +72,7 @@ pub record RefusedAs (newest : ℕ) (bytes : List ℕ) (number : ℕ) : Type 0 w
   pub numbered : number ≡ place * 256 + question
 
 -- the number that answers to a table's bytes, and where it is 0 how many rows they hold
-pub record Judges (newest : ℕ) (bytes : List ℕ) (judged : Judged) : Type 0 where
+pub record Validates (newest : ℕ) (bytes : List ℕ) (judged : Validated) : Type 0 where
   pub accepted : judged .number ≡ 0 → Counted (at bytes 0) (ReadsTableUpTo newest bytes) (judged .rows)
   pub refused : ¬ (judged .number ≡ 0) → RefusedAs newest bytes (judged .number)
 
@@ -82,7 +82,7 @@ noWords = replicate 2 (replicate 64 0)
 
 -- the first blocks are those of a monitor's rows
 abbrev pub RowsLie : Monitor → ℕ → Words → Type 0
-RowsLie m n words = (i : ℕ) → i < n → getD words i [] ≡ Stored.wordsOf (rowAt m i) (keptAt m i)
+RowsLie m n words = (i : ℕ) → i < n → getD words i [] ≡ Stored.wordsOfRow (rowAt m i) (keptAt m i)
 
 -- so they are after some words, and the other blocks as they were
 pub record RowsPut (entry : Words) (m : Monitor) (n : ℕ) (exit : Words) : Type 0 where
@@ -101,7 +101,7 @@ StoresRows bytes entry exit =
 
 -- the lists so far, and the place behind the entries
 abbrev pub ListsLie : Lent → List ℕ → List ℕ → ℕ → Words → Type 0
-ListsLie h ends entries place words = (place ≡ length entries) × (words ≡ wordsOf (withLists h (padded 64 ends) (padded 128 entries)))
+ListsLie h ends entries place words = (place ≡ length entries) × (words ≡ wordsOfLent (withLists h (padded 64 ends) (padded 128 entries)))
 
 -- every word but those of the lists, over the n rows of the table
 abbrev pub StoresAll : List ℕ → ℕ → Words → Type 0
@@ -121,4 +121,4 @@ Enters first entry more place exit =
 abbrev pub Enlists : ℕ → Words → Words → Type 0
 Enlists n entry exit =
     (h : Lent) → Shaped h → ListsLie h [] [] 0 entry
-    → exit ≡ wordsOf (withLists h (endsTo (h .monitor) n 64) (padded 128 (listedTo (h .monitor) n 64)))
+    → exit ≡ wordsOfLent (withLists h (endsTo (h .monitor) n 64) (padded 128 (listedTo (h .monitor) n 64)))

@@ -1,40 +1,40 @@
 // A monitor made fresh where it lies: a table's bytes are judged first, and then its rows are read again one by one and stored.
-use lent::ENTRIES;
-use lent::NUMBERS;
-use lent::OPEN;
-use lent::ROWS;
-use lent::Words;
-use machine::words::rule_at;
+use in_place::ENTRIES;
+use in_place::NUMBERS;
+use in_place::OPEN;
+use in_place::ROWS;
+use in_place::Words;
 use row::concerns;
 use row::stored;
+use row_type::row_words::parameters_at;
 use table::ReadAnswer;
 use table::scan;
 ghost use Prim.Native.Nat.{_+_, _<_, _≤_};
 ghost use mathlib.Core.Path.{_≡_};
 ghost use lib.ListN.{length, set, replicate};
-ghost use Rattle.lent.specs.Layout.{Lent, wordsOf, Shaped};
-ghost use Rattle.lent.specs.Steps.{Turns};
-ghost use Rattle.lent.specs.Contract.{numbers, isOf};
-ghost use Rattle.fresh.specs.Fresh.{withLists, oneIf, BeginsUpTo, Judges, noWords, StoresRows, StoresAll, Enters, Enlists};
+ghost use Rattle.in_place.specs.Layout.{Lent, wordsOfLent, Shaped};
+ghost use Rattle.in_place.specs.Steps.{Updates};
+ghost use Rattle.in_place.specs.Contract.{numbers, isOf};
+ghost use Rattle.fresh.specs.Fresh.{withLists, oneIf, BeginsUpTo, Validates, noWords, StoresRows, StoresAll, Enters, Enlists};
 
 // The number that answers to a table's bytes: 0, or 256 times the place and the number of the refusal; and how many rows they hold.
-pub struct Judged {
+pub struct Validated {
     pub number: u64,
     pub rows: usize,
 }
 
 // The answer to the bytes of a table of an edition up to the newest, as a number.
-fn judge(newest: u8, table: &[u8]) -> Judged
-    ensures { λ r. ⌜ Judges newest (now (table .entry)) r ⌝ }
+fn validate(newest: u8, table: &[u8]) -> Validated
+    ensures { λ r. ⌜ Validates newest (now (table .entry)) r ⌝ }
 {
-    let scanned = scan::judge(newest, table);
+    let scanned = scan::validate(newest, table);
     let answer = scanned.answer;
     match answer {
-        ReadAnswer::Accepted => Judged {
+        ReadAnswer::Accepted => Validated {
             number: 0,
             rows: scanned.rows,
         },
-        ReadAnswer::Refused { number, place } => Judged {
+        ReadAnswer::Refused { number, place } => Validated {
             number: place as u64 * 256 + number as u64,
             rows: 0,
         },
@@ -79,7 +79,7 @@ fn begin(m: &mut Words, table: &[u8], n: usize)
 
 // Another entry.
 fn put_entry(m: &mut Words, place: usize, i: usize)
-    ensures { λ _. ⌜ Turns (now (m .entry)) (λ h. withLists h (h .ends) (set (h .entries) place i)) (now (m .exit)) ⌝ }
+    ensures { λ _. ⌜ Updates (now (m .entry)) (λ h. withLists h (h .ends) (set (h .entries) place i)) (now (m .exit)) ⌝ }
 {
     if place < 128 {
         m[ENTRIES][place / 64][place % 64] = i as u64;
@@ -89,7 +89,7 @@ fn put_entry(m: &mut Words, place: usize, i: usize)
 // Another end of a kind's rows.
 fn put_end(m: &mut Words, kind: usize, place: usize)
     requires { ⌜ kind < 64 ⌝ }
-    ensures { λ _. ⌜ Turns (now (m .entry)) (λ h. withLists h (set (h .ends) kind place) (h .entries)) (now (m .exit)) ⌝ }
+    ensures { λ _. ⌜ Updates (now (m .entry)) (λ h. withLists h (set (h .ends) kind place) (h .entries)) (now (m .exit)) ⌝ }
 {
     m[NUMBERS][1][kind] = place as u64;
 }
@@ -97,9 +97,9 @@ fn put_end(m: &mut Words, kind: usize, place: usize)
 // Whether a kind concerns row i.
 fn is_of(m: &Words, i: usize, kind: usize) -> bool
     requires { ⌜ i < 32 ⌝ }
-    ensures { λ r. ⌜ ((h : Lent) → now (m .entry) ≡ wordsOf h → Shaped h → r ≡ isOf (h .monitor) kind i) ⌝ }
+    ensures { λ r. ⌜ ((h : Lent) → now (m .entry) ≡ wordsOfLent h → Shaped h → r ≡ isOf (h .monitor) kind i) ⌝ }
 {
-    concerns(rule_at(&m[i][1]), kind as u64)
+    concerns(parameters_at(&m[i][1]), kind as u64)
 }
 
 // Row i, entered at a place if a kind concerns it: the place behind.
@@ -147,7 +147,7 @@ fn enlist(m: &mut Words, n: usize)
 pub fn fresh(newest: u8, m: &mut Words, table: &[u8]) -> u64
     ensures { λ r. ⌜ BeginsUpTo newest (now (table .entry)) (now (m .entry)) r (now (m .exit)) ⌝ }
 {
-    let judged = judge(newest, table);
+    let judged = validate(newest, table);
     let number = judged.number;
     if number == 0 {
         begin(m, table, judged.rows);

@@ -24,8 +24,8 @@ pub use Rattle.join.specs.Held.{Interleaves, no-record, of-first, of-sec
 pub use Rattle.join.specs.Walk.{Behind, Found, Marks, Nexts, Passes, Records, Walks, callBytes, callKind, firstCommon, leftBytes, leftClock}
 pub use Rattle.join.specs.Walk.{more, none}
 pub use Rattle.join.specs.{declared.Next.Next, declared.Passed.Passed, declared.Walked.Walked}
-pub use Rattle.number.proofs.{Numbers.number-of-bytes, Stores.stores-append, Stores.stores-front}
-pub use Rattle.queue.proofs.Shared.{free}
+pub use Rattle.big_endian.proofs.{Numbers.number-of-bytes, Stores.stores-append, Stores.stores-front}
+pub use Rattle.ring.proofs.Shared.{free}
 pub use Rattle.recording.proofs.Records.{record-judged}
 pub use Rattle.recording.specs.{Record.CallAt, Record.ReadsCall, declared.CallRead.CallRead}
 unfoldable pub use Rattle.constraint.specs.Joined.{NoneInCommon, merged, stepBytes, stepsBytes, undropped}

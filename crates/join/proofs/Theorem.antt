@@ -6,7 +6,7 @@ use Rattle.join.proofs.{Bytes.reads-back, Bytes.steps-few, Holding.join
 
 module _ (one two : List ℕ) (first second : List Step) (read : ReadsInOrder one (recording-of first))
     (also : ReadsInOrder two (recording-of second)) where
-  -- it is valid, and reads as the joined steps; the bytes are those of a buffer, of which there are fewer than 2 ^ 64
+  -- §13.4: it is valid, and reads as the joined steps; the bytes are those of a buffer, of which there are fewer than 2 ^ 64
   pub joined-reads : NoneInCommon first second → length (joinedBytes one two first second) < 2 ^ 64
       → ReadsInOrder (joinedBytes one two first second) (recording-of (joined first second))
   joined-reads apart long =
@@ -19,10 +19,11 @@ module _ (one two : List ℕ) (first second : List Step) (read : ReadsInOrder on
       reads-back version (omega (arith, a .known .1), omega (arith, a .known .2, b .known .2)) (joined first second)
       (joined-valid version first second (a .valid) (b .valid) l m apart (omega (arith, long, steps-few version 0 (joined first second) line))) line
 
-  -- its version is the higher one
+  -- §13.3: its version is the higher one
   pub joined-version : at (joinedBytes one two first second) 0 ≡ max (at one 0) (at two 0)
   joined-version = refl
 
+  -- §13.4
   -- it holds every record of the first, and of the second all but the ticks at a time of which the first has a record; each in its order, and no
   -- other
   pub joined-holds : Interleaves first (without (timesOf first) second) (joined first second)

@@ -87,6 +87,7 @@ module _ (one two : List ℕ) (place other : ℕ) (a b : CallRead) (heads : Read
         (sym (head-ends two other b others second e records))
         (merged-only (stepFor (a .call)) rest))
 
+    -- §13.1
     pub next-first : Nexts one two place other (record { there = true; call = a .call; first = a .next; second = other })
     next-first =
         record {
@@ -121,6 +122,7 @@ module _ (one two : List ℕ) (place other : ℕ) (a b : CallRead) (heads : Read
         (λ t. ap (λ (l : List Step). merged l second) (head-ends one place a heads first t records) ∙ merged-other second
         ∙ head-ends two other b others second e more-records)
 
+    -- §13.1
     pub next-second : Nexts one two place other (record { there = isRead b; call = b .call; first = place; second = b .next })
     next-second =
         record {
@@ -219,6 +221,7 @@ module _ (one two before : List ℕ) where
       size-more : 1 + length (stepsBytes again) ≡ size + length (leftBytes clock (r .call))
       size-more = omega (arith, ap length bytes-are, length-append (stepsBytes (w .done)) (leftBytes clock (r .call)), w .size-is)
 
+      -- §13.2
       pub walk-more : (clock′ size′ : ℕ) (buffer′ : List ℕ) → clock′ ≡ leftClock clock (r .call) → size′ ≡ size + length (leftBytes clock (r .call))
           → buffer′ ≡ sets buffer size (leftBytes clock (r .call)) → Walking (r .first) (r .second) clock′ size′ buffer′ first second
       walk-more clock′ size′ buffer′ c s stored =

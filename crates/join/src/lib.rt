@@ -61,6 +61,7 @@ fn time_of(call: Call) -> u64
     }
 }
 
+// §13.2
 // Whether a record is dropped: a tick that is not later than the clock.
 fn is_dropped(clock: u64, call: Call) -> bool
     ensures { λ r. ⌜ r ≡ isDropped clock (stepFor call) ⌝ }
@@ -112,16 +113,16 @@ fn put_call(buffer: &mut [u8], place: usize, call: Call)
 {
     match call {
         Call::Event { kind, time } => {
-            number::put(buffer, place, &[0, 9, kind]);
-            number::put_eight(buffer, place + 3, time);
+            big_endian::put(buffer, place, &[0, 9, kind]);
+            big_endian::put_eight(buffer, place + 3, time);
         }
         Call::ColouredEvent { kind, colour, time } => {
-            number::put(buffer, place, &[0, 10, kind, colour]);
-            number::put_eight(buffer, place + 4, time);
+            big_endian::put(buffer, place, &[0, 10, kind, colour]);
+            big_endian::put_eight(buffer, place + 4, time);
         }
         Call::Tick { time } => {
-            number::put(buffer, place, &[0, 8]);
-            number::put_eight(buffer, place + 2, time);
+            big_endian::put(buffer, place, &[0, 8]);
+            big_endian::put_eight(buffer, place + 2, time);
         }
         Call::Close => {}
     }
@@ -145,6 +146,7 @@ fn first_comes(there: bool, time: u64, other: bool, against: u64) -> bool
     there && (!other || time <= against)
 }
 
+// §13.1
 // The record that comes next, from a place in each recording on.
 fn following(first: &[u8], second: &[u8], place: usize, other: usize) -> Next
     ensures { λ r. ⌜ Nexts (now (first .entry)) (now (second .entry)) place other r ⌝ }
@@ -169,6 +171,7 @@ fn following(first: &[u8], second: &[u8], place: usize, other: usize) -> Next
     }
 }
 
+// §13.3
 // The version of the joined recording: the higher one.
 fn version(first: &[u8], second: &[u8]) -> u8
     ensures { λ r. ⌜ r ≡ max (at (now (first .entry)) 0) (at (now (second .entry)) 0) ⌝ }
@@ -178,6 +181,7 @@ fn version(first: &[u8], second: &[u8]) -> u8
     if a < b { b } else { a }
 }
 
+// §13.2
 // The walk over both recordings: stores the joined one in the front of a buffer, as far as there is room; and stops where it has more bytes
 // than the limit.
 fn walk(first: &[u8], second: &[u8], buffer: &mut [u8], limit: usize) -> Walked
@@ -189,7 +193,7 @@ fn walk(first: &[u8], second: &[u8], buffer: &mut [u8], limit: usize) -> Walked
             size: 0,
         };
     }
-    number::put_byte(buffer, 0, version(first, second));
+    big_endian::put_byte(buffer, 0, version(first, second));
     let mut place: usize = 1;
     let mut other: usize = 1;
     let mut clock: u64 = 0;
@@ -291,6 +295,7 @@ fn pass(bytes: &[u8], avoid: [u8; 64]) -> Passed
     }
 }
 
+// §8.16, §8.20, §13.5 to §13.7
 // Joins two recordings: writes the joined one to the front of a buffer and answers its length; or the refusal, with the buffer as it was.
 pub fn join(first: &[u8], second: &[u8], joined: &mut [u8]) -> JoinAnswer
     ensures { λ r. ⌜ AnswersJoin (now (first .entry)) (now (second .entry)) (now (joined .entry)) r (now (joined .exit)) ⌝ }

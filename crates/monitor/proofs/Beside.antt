@@ -3,9 +3,9 @@
 use Rattle.monitor.proofs.Names.{Accepts, After, Beside, Call, Constraint, EachBeside, Exact, Fits, Judged, Left, List, OtherAt, Reads, Room}
 use Rattle.monitor.proofs.Names.{Row, RowStep, Run, Sound, Step, Taken, TakesAll, Valid, Verdict, [], _++_, _+_, _∙_, _∷_, _≡_, accepts-taken}
 use Rattle.monitor.proofs.Names.{allTaken, ap, append-assoc, append-nil, ap₂, arith, asks, clock, clock-close, clock-event, clock-tick, close}
-use Rattle.monitor.proofs.Names.{close-calm, closeAt, closed, closed-close, closed-event, closed-tick, closes, done, engine, event}
+use Rattle.monitor.proofs.Names.{close-calm, closeAt, closed, closed-close, closed-event, closed-tick, closes, done, every-type-exact, event}
 use Rattle.monitor.proofs.Names.{event-as-tick, false, fits-reads, fits-start, fits-step, getElem?, judged-last, leftBy, length, length-append}
-use Rattle.monitor.proofs.Names.{map, no-more, noneLeft, others, place, questions, refl, request, rowOf, rowStep, rowVerdict, ruleOf}
+use Rattle.monitor.proofs.Names.{map, no-more, noneLeft, others, place, questions, refl, request, rowOf, rowStep, rowVerdict, parametersOf}
 use Rattle.monitor.proofs.Names.{same-event, seen, some, split, stepFor, subst, subst₂, suc, sym, take, tick, tickAt, valid-more, valid-none}
 use Rattle.monitor.proofs.Names.{zero, ℕ}
 
@@ -48,7 +48,7 @@ beside-first c (suc n) (place beside later) = place beside (beside-first c n lat
 
 module _ (c : Constraint) (sound : Sound c) where
   abbrev exact : Exact c
-  exact = engine c sound
+  exact = every-type-exact c sound
 
   -- what a step makes of the row, which is the next after those before it
   abbrev moved : List Step → Step → Row → RowStep
@@ -84,12 +84,12 @@ module _ (c : Constraint) (sound : Sound c) where
         (after-step (stepFor s) (accepts-taken rows past s judged))
 
   -- a step that is none of the row's does to it what a tick does
-  other-as-tick : (past : List Step) (r : Row) → r .rule ≡ ruleOf c → (s : Step) → Accepts past s → (t number : ℕ) → OtherAt c t s
+  other-as-tick : (past : List Step) (r : Row) → r .parameters ≡ parametersOf c → (s : Step) → Accepts past s → (t number : ℕ) → OtherAt c t s
       → rowStep r (seen past s) number ≡ rowStep r (tickAt t) number
-  other-as-tick past r rule (event k time) accepts t number (other, same) =
-      event-as-tick c sound r rule k time number (accepts .stream-small) other ∙ ap (λ u. rowStep r (tickAt u) number) same
-  other-as-tick past r rule (tick time) accepts t number same = ap (λ u. rowStep r (tickAt u) number) same
-  other-as-tick past r rule close accepts t number never = absurd never
+  other-as-tick past r parameters (event k time) accepts t number (other, same) =
+      event-as-tick c sound r parameters k time number (accepts .stream-small) other ∙ ap (λ u. rowStep r (tickAt u) number) same
+  other-as-tick past r parameters (tick time) accepts t number same = ap (λ u. rowStep r (tickAt u) number) same
+  other-as-tick past r parameters close accepts t number never = absurd never
 
   -- it leaves the clock at its time, and the recording open if it was
   clock-other : (past : List Step) (s : Step) (t : ℕ) → OtherAt c t s → clock (past ++ (s ∷ [])) ≡ t
@@ -118,9 +118,9 @@ module _ (c : Constraint) (sound : Sound c) where
     moved-same : (a b : Step) → Accepts past a → Accepts past′ b → Beside c a b → moved past a r ≡ moved past′ b r
     moved-same a b accepts accepts′ (same-event k t own) = ap (λ n. rowStep r (seen past a) (n + 1)) (both .count-same)
     moved-same a b accepts accepts′ (others t p q) =
-        other-as-tick past r (both .fits .rule-is) a accepts t (length past + 1) p
+        other-as-tick past r (both .fits .parameters-is) a accepts t (length past + 1) p
         ∙ ap (λ n. rowStep r (tickAt t) (n + 1)) (both .count-same)
-        ∙ sym (other-as-tick past′ r (both .fits .rule-is) b accepts′ t (length past′ + 1) q)
+        ∙ sym (other-as-tick past′ r (both .fits .parameters-is) b accepts′ t (length past′ + 1) q)
     moved-same a b accepts accepts′ closes = ap₂ (λ (now n : ℕ). rowStep r (closeAt now) (n + 1)) (both .clock-same) (both .count-same)
 
     clock-after : (a b : Step) → Beside c a b → clock (past ++ (a ∷ [])) ≡ clock (past′ ++ (b ∷ []))

@@ -7,7 +7,7 @@ use Rattle.monitor.proofs.Names.{closed, cond, crowds, decLt, false, ge
 use Rattle.monitor.proofs.Names.{length-replicate, lt-ltb, ltb, monitorOf, never, nextFree, no-row, noRow, none, reads-broken, reads-once}
 use Rattle.monitor.proofs.Names.{refl, refusalFor, refuses, replicate, row, rowLimit, rowVerdict, rows-room, rowsQuestions, some, stepOf}
 use Rattle.monitor.proofs.Names.{subst, suc, takenCall, takes, times, true, valid-none, verdictOf, zero, ℕ}
-use Rattle.monitor.proofs.{FittingRows.SoundRows, FittingRows.fit-reads, FittingRows.fit-start, Following.Follows}
+use Rattle.monitor.proofs.{FittingRows.SoundRows, FittingRows.fit-reads, FittingRows.fit-start, StepRefinement.Follows}
 
 -- ---- a refusal leaves the monitor as it was
 
@@ -77,9 +77,9 @@ reads-still rows steps i n c valid e b o (row d v f r) =
     ap some (reads-once c steps valid v (Verdict.Broken n) (subst (λ x. Reads x steps v) same r) (reads-broken n b))
 reads-still rows steps i n c valid e b o (no-row f) = never (cc)
 
-module _ (engine : (c : Constraint) → Sound c → Exact c) where
-  -- a fresh monitor follows the empty list of steps
-  pub start-follows : (rows : List Constraint) → Accepted rows → Follows engine rows [] (monitorOf rows)
+module _ (every-type-exact : (c : Constraint) → Sound c → Exact c) where
+  -- §1.6, §3.2: a fresh monitor follows the empty list of steps
+  pub start-follows : (rows : List Constraint) → Accepted rows → Follows every-type-exact rows [] (monitorOf rows)
   unfolding monitorOf closed clockFrom times nextFree
   start-follows rows accepted =
       record {
@@ -91,11 +91,11 @@ module _ (engine : (c : Constraint) → Sound c → Exact c) where
         next-is = λ k kind. getD-replicate 176 k 0 0 (omega arith);
         len-is = refl;
         few = accepted-few rows accepted;
-        fit = fit-start engine rows (replicate (rowLimit - length rows) noRow) (accepted-sound rows accepted);
+        fit = fit-start every-type-exact rows (replicate (rowLimit - length rows) noRow) (accepted-sound rows accepted);
       }
 
-  -- each row number reads what the definitions say
-  pub verdict-reads : (rows : List Constraint) (steps : List Step) (m : Monitor) → Follows engine rows steps m → (i : ℕ)
+  -- §8.15, §9.6: each row number reads what the definitions say
+  pub verdict-reads : (rows : List Constraint) (steps : List Step) (m : Monitor) → Follows every-type-exact rows steps m → (i : ℕ)
       → ReadsRow rows steps i (verdictOf m i)
   unfolding verdictOf
   verdict-reads rows steps m f i =
@@ -103,5 +103,5 @@ module _ (engine : (c : Constraint) → Sound c → Exact c) where
       (λ h. let found = has-row rows i h in
       rw (f .len-is, lt-ltb i (length rows) h, lt-ltb i rowLimit (omega (arith, f .few)), f .closed-is)
       (row (found .0) (rowVerdict (getD (m .rows) i noRow) (closed steps)) (found .1)
-      (fit-reads engine steps (f .valid) rows (m .rows) (f .fit) i (found .0) (found .1))))
+      (fit-reads every-type-exact steps (f .valid) rows (m .rows) (f .fit) i (found .0) (found .1))))
       (λ h. rw (f .len-is, le-ltb i (length rows) (omega arith)) (no-row (has-none rows i (omega arith))))

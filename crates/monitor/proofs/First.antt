@@ -1,5 +1,5 @@
 -- What is done to the first rows of a list is done to one after the other, and to no more of them than there are.
-use Rattle.monitor.proofs.Names.{Before, Bool, List, Monitor, Occurrence, Row, RowStep, RowsAfter, [], _+_, _<_, _||_, _∙_, _∷_, _≡_, add-one}
+use Rattle.monitor.proofs.Names.{RowUndo, Bool, List, Monitor, StepInput, Row, RowStep, RowsAfter, [], _+_, _<_, _||_, _∙_, _∷_, _≡_, add-one}
 use Rattle.monitor.proofs.Names.{anyFirst, ap, ap₂, arith, both, false, getD, keptWithout, length, mapFirst, min, or-false, refl, rowLimit}
 use Rattle.monitor.proofs.Names.{rowStep, rowWithout, rowsWithout, savedBy, set, steppedRows, suc, sym, true, withRows, zero, zipFirst, ℕ}
 
@@ -119,7 +119,7 @@ module _ {A B : Type 0} (f : A → B → B) where
 
 -- ---- a step given to the first n rows of a monitor
 
-module _ (o : Occurrence) (number : ℕ) where
+module _ (o : StepInput) (number : ℕ) where
   -- a row after the step, and whether it crowds it
   abbrev moved : Row → Row
   moved r = rowStep r o number .row
@@ -156,14 +156,14 @@ module _ (o : Occurrence) (number : ℕ) where
         }
 
     -- nor does it crowd the next row
-    pub moved-next : length (m .before) ≡ rowLimit → (other : Row) (none : Before) (s : RowStep) (saved : Before) → n < min (m .len) rowLimit
+    pub moved-next : length (m .before) ≡ rowLimit → (other : Row) (none : RowUndo) (s : RowStep) (saved : RowUndo) → n < min (m .len) rowLimit
         → s ≡ rowStep (getD (now .rows) n other) o number → saved ≡ savedBy o number (getD (now .rows) n other) (getD (now .before) n none)
         → s .crowded ≡ false
         → Moved m (withRows now (set (now .rows) n (s .row)) (set (now .before) n saved)) (n + 1)
     moved-next wide other none s saved h e k free =
         record {
           changed =
-              ap₂ (λ (r : Row) (b : Before). withRows now (set (now .rows) n r) (set (now .before) n b)) (ap (λ (x : RowStep). x .row) e)
+              ap₂ (λ (r : Row) (b : RowUndo). withRows now (set (now .rows) n r) (set (now .before) n b)) (ap (λ (x : RowStep). x .row) e)
               (k ∙ ap (λ (r : Row). savedBy o number r (getD (now .before) n none)) (not-changed other))
               ∙ ap (λ (x : Monitor). withRows x (set (x .rows) n (moved (getD (x .rows) n other)))
               (set (x .before) n (savedBy o number (getD (m .rows) n other) (getD (x .before) n none)))) (so-far .changed)
@@ -186,23 +186,23 @@ module _ (o : Occurrence) (number : ℕ) where
 -- ---- the first n rows of a monitor without a step
 
 module _ (number : ℕ) (m : Monitor) (whole : length (m .rows) ≡ rowLimit) (wide : length (m .before) ≡ rowLimit) where
-  abbrev back : Before → Row → Row
+  abbrev back : RowUndo → Row → Row
   back b r = rowWithout number r b
 
-  abbrev kept : Row → Before → Before
+  abbrev kept : Row → RowUndo → RowUndo
   kept r b = keptWithout number b
 
   pub without-none : rowsWithout m 0 number ≡ m
   unfolding zipFirst
   without-none = refl
 
-  pub without-next : (now : Monitor) (n : ℕ) → now ≡ rowsWithout m n number → n < rowLimit → (other : Row) (none : Before) (r : Row) (b : Before)
+  pub without-next : (now : Monitor) (n : ℕ) → now ≡ rowsWithout m n number → n < rowLimit → (other : Row) (none : RowUndo) (r : Row) (b : RowUndo)
       → r ≡ rowWithout number (getD (now .rows) n other) (getD (now .before) n none) → b ≡ keptWithout number (getD (now .before) n none)
       → withRows now (set (now .rows) n r) (set (now .before) n b) ≡ rowsWithout m (n + 1) number
   without-next now n e h other none r b r-is b-is =
       let same : getD (now .before) n none ≡ getD (m .before) n none
       = ap (λ (x : Monitor). getD (x .before) n none) e ∙ zip-behind kept (m .rows) (m .before) n none in
-      ap₂ (λ (x : Row) (y : Before). withRows now (set (now .rows) n x) (set (now .before) n y))
+      ap₂ (λ (x : Row) (y : RowUndo). withRows now (set (now .rows) n x) (set (now .before) n y))
       (r-is ∙ ap (rowWithout number (getD (now .rows) n other)) same) b-is
       ∙ ap (λ (x : Monitor). withRows x (set (x .rows) n (rowWithout number (getD (x .rows) n other) (getD (m .before) n none)))
       (set (x .before) n (keptWithout number (getD (x .before) n none)))) e

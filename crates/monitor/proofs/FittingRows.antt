@@ -14,16 +14,16 @@ sound-at [] sound i c there = never (cc)
 sound-at (d ∷ rows) sound zero c there = let same : d ≡ c = cc in subst Sound same (sound .0)
 sound-at (d ∷ rows) sound (suc i) c there = sound-at rows (sound .1) i c there
 
-module _ (engine : (c : Constraint) → Sound c → Exact c) where
+module _ (every-type-exact : (c : Constraint) → Sound c → Exact c) where
   -- each of a table's rows fits the steps
   abbrev pub FitRows : List Step → List Constraint → List Row → Type 0
   FitRows steps [] rows = Unit {0}
   FitRows steps (c ∷ cs) [] = ⊥
-  FitRows steps (c ∷ cs) (r ∷ rows) = ((sound : Sound c) × Fits c (engine c sound) steps r) × FitRows steps cs rows
+  FitRows steps (c ∷ cs) (r ∷ rows) = ((sound : Sound c) × Fits c (every-type-exact c sound) steps r) × FitRows steps cs rows
 
   pub fit-start : (cs : List Constraint) (rest : List Row) → SoundRows cs → FitRows [] cs (map rowOf cs ++ rest)
   fit-start [] rest sound = tt
-  fit-start (c ∷ cs) rest sound = ((sound .0, fits-start c (engine c (sound .0))), fit-start cs rest (sound .1))
+  fit-start (c ∷ cs) rest sound = ((sound .0, fits-start c (every-type-exact c (sound .0))), fit-start cs rest (sound .1))
 
   -- ---- a step
 
@@ -31,9 +31,9 @@ module _ (engine : (c : Constraint) → Sound c → Exact c) where
     abbrev moved : Row → RowStep
     moved r = rowStep r (seen steps s) number
 
-    after-step : (c : Constraint) (sound : Sound c) (r : Row) → Fits c (engine c sound) steps r
-        → After c (engine c sound) (steps ++ (s ∷ [])) (moved r .crowded) (moved r .row)
-    after-step c sound r fit = rw counted (fits-step c (engine c sound) steps valid sound s accepts r fit)
+    after-step : (c : Constraint) (sound : Sound c) (r : Row) → Fits c (every-type-exact c sound) steps r
+        → After c (every-type-exact c sound) (steps ++ (s ∷ [])) (moved r .crowded) (moved r .row)
+    after-step c sound r fit = rw counted (fits-step c (every-type-exact c sound) steps valid sound s accepts r fit)
 
     -- no row is crowded
     pub fit-step : (cs : List Constraint) (rows : List Row) → FitRows steps cs rows → anyFirst (length cs) (λ r. moved r .crowded) rows ≡ false
@@ -45,7 +45,7 @@ module _ (engine : (c : Constraint) → Sound c → Exact c) where
         let none-crowded = or-false (moved r .crowded) (anyFirst (length cs) (λ r. moved r .crowded) rows) free in (
           (
             fit .0 .0,
-            subst (λ b. After c (engine c (fit .0 .0)) (steps ++ (s ∷ [])) b (moved r .row)) (none-crowded .0)
+            subst (λ b. After c (every-type-exact c (fit .0 .0)) (steps ++ (s ∷ [])) b (moved r .row)) (none-crowded .0)
                 (after-step c (fit .0 .0) r (fit .0 .1)),
           ),
           fit-step cs rows (fit .1) (none-crowded .1),
@@ -59,7 +59,7 @@ module _ (engine : (c : Constraint) → Sound c → Exact c) where
     fit-crowded (c ∷ cs) [] fit crowded = absurd fit
     fit-crowded (c ∷ cs) (r ∷ rows) fit crowded =
         ⊎-elim
-        (λ e. let full = subst (λ b. After c (engine c (fit .0 .0)) (steps ++ (s ∷ [])) b (moved r .row)) e
+        (λ e. let full = subst (λ b. After c (every-type-exact c (fit .0 .0)) (steps ++ (s ∷ [])) b (moved r .row)) e
         (after-step c (fit .0 .0) r (fit .0 .1)) in
         (0, c, refl, full .0, full .1))
         (λ e. let found = fit-crowded cs rows (fit .1) e in (suc (found .0), found .1, found .2, found .3, found .4))
@@ -72,7 +72,7 @@ module _ (engine : (c : Constraint) → Sound c → Exact c) where
   fit-calm steps valid number [] rows fit = refl
   fit-calm steps valid number (c ∷ cs) [] fit = refl
   fit-calm steps valid number (c ∷ cs) (r ∷ rows) fit =
-      rw (close-calm c (engine c (fit .0 .0)) steps valid (fit .0 .0) r (fit .0 .1) number) (fit-calm steps valid number cs rows (fit .1))
+      rw (close-calm c (every-type-exact c (fit .0 .0)) steps valid (fit .0 .0) r (fit .0 .1) number) (fit-calm steps valid number cs rows (fit .1))
 
   -- ---- what the rows hold and read
 
@@ -83,7 +83,7 @@ module _ (engine : (c : Constraint) → Sound c → Exact c) where
     row-room (d ∷ cs) [] fit i c e o = absurd fit
     row-room (d ∷ cs) (r ∷ rows) fit zero c e o =
         let same : d ≡ c = cc in
-        subst (λ x. waiting x steps ≤ waitingLimit) same (fits-room d (engine d (fit .0 .0)) steps valid r (fit .0 .1)
+        subst (λ x. waiting x steps ≤ waitingLimit) same (fits-room d (every-type-exact d (fit .0 .0)) steps valid r (fit .0 .1)
         (subst (λ x. Open x steps) (sym same) o))
     row-room (d ∷ cs) (r ∷ rows) fit (suc i) c e o = row-room cs rows (fit .1) i c e o
 
@@ -97,5 +97,5 @@ module _ (engine : (c : Constraint) → Sound c → Exact c) where
     fit-reads (d ∷ cs) [] fit i c e = absurd fit
     fit-reads (d ∷ cs) (r ∷ rows) fit zero c e =
         let same : d ≡ c = cc in
-        subst (λ x. Reads x steps (rowVerdict r (closed steps))) same (fits-reads d (engine d (fit .0 .0)) steps valid r (fit .0 .1))
+        subst (λ x. Reads x steps (rowVerdict r (closed steps))) same (fits-reads d (every-type-exact d (fit .0 .0)) steps valid r (fit .0 .1))
     fit-reads (d ∷ cs) (r ∷ rows) fit (suc i) c e = fit-reads cs rows (fit .1) i c e

@@ -13,7 +13,7 @@ sound-row [] sound i c there = never (cc)
 sound-row (d ∷ rows) sound zero c there = let same : d ≡ c = cc in subst Sound same (sound .0)
 sound-row (d ∷ rows) sound (suc i) c there = sound-row rows (sound .1) i c there
 
--- a list of calls is an accepted one exactly when the monitor takes each call
+-- §3.10: a list of calls is an accepted one exactly when the monitor takes each call
 pub takes-exactly : (rows : List Constraint) → Accepted rows → (calls : List Call)
     → (answersTo rows calls ≡ allTaken calls) ↔ ((steps : List Step) × TakesAll rows calls steps)
 takes-exactly rows accepted calls =
@@ -57,7 +57,7 @@ module _
       read-both c (sound-row rows (accepted-sound rows accepted) i c there) rows rows′ i j there there′
       (take n calls) (take n calls′) (take n steps) (take n steps′) taken-n taken-n′ (beside-first c n beside)
 
-  -- after each place the row reads the same, by the definitions
+  -- §3.10: after each place the row reads the same, by the definitions
   pub reads-alike : (v : Verdict) → Reads c (take n steps) v ↔ Reads c (take n steps′) v
   reads-alike v = (
     λ reads. subst (Reads c (take n steps′)) (once rows (take n calls) taken-n (both-read .1) reads) (both-read .2),
@@ -68,7 +68,7 @@ module _
           → Reads c past (both-read .0) → Reads c past v → both-read .0 ≡ v
       once table first {past} run = reads-once c past (run-valid (run .1) valid-none) (both-read .0) v
 
-  -- and by the monitors: the same verdict, with the same step
+  -- §3.10: and by the monitors: the same verdict, with the same step
   pub rows-apart : verdictOf (after rows (map asks (take n calls))) i ≡ verdictOf (after rows′ (map asks (take n calls′))) j
   rows-apart =
       let (v, reads, reads′) = both-read in
@@ -112,7 +112,7 @@ run-front rows zero calls {left = left} run = (left, done)
 run-front rows (suc n) [] (done {left = left}) = (left, done)
 run-front rows (suc n) (s ∷ calls) (request _ a judged run) = let rest = run-front rows n calls run in (rest .0, request (asks s) a judged (rest .1))
 
--- a list of calls that are all taken is one of these
+-- §3.11: a list of calls that are all taken is one of these
 pub free-taken : (calls : List Call) → NoneFull (allTaken calls)
 free-taken [] = tt
 free-taken (s ∷ calls) = (λ e. never (cc), free-taken calls)
@@ -131,11 +131,11 @@ module _
   run′ : (left : Left) × Run rows′ noneLeft (map asks calls) (answersTo rows′ calls) left
   run′ = let played = monitor-is-exact .exact rows′ accepted′ (map asks calls) in (played .0, played .1)
 
-  -- where neither table refuses a call for a row's 64, both answer every call alike
+  -- §3.11: where neither table refuses a call for a row's 64, both answer every call alike
   pub answers-alike : answersTo rows calls ≡ answersTo rows′ calls
   answers-alike = same-runs rows rows′ calls (run .1) (run′ .1) free free′ .0
 
-  -- and then adding rows, or taking some away, changes no verdict of the others
+  -- §3.11: and then adding rows, or taking some away, changes no verdict of the others
   pub other-rows-alike : (i j : ℕ) (c : Constraint) → getElem? rows i ≡ some c → getElem? rows′ j ≡ some c
       → (n : ℕ) → verdictOf (after rows (map asks (take n calls))) i ≡ verdictOf (after rows′ (map asks (take n calls))) j
   other-rows-alike i j c there there′ n =
@@ -150,7 +150,7 @@ module _
 
 -- ---- lists can stand beside each other, and need not
 
--- for Delay 0→1, 2 to 3: 0@10 and a tick to 14, beside 0@10 and 7@14
+-- §3.10: for Delay 0→1, 2 to 3: 0@10 and a tick to 14, beside 0@10 and 7@14
 pub beside-met : EachBeside (Delay 0 1 2 3) (event 0 10 ∷ tick 14 ∷ []) (event 0 10 ∷ event 7 14 ∷ [])
 beside-met = place (same-event 0 10 (0, omega arith, refl)) (place (others 14 {b = event 7 14} refl (not-own, refl)) no-more)
   where
@@ -159,12 +159,14 @@ beside-met = place (same-event 0 10 (0, omega arith, refl)) (place (others 14 {b
     not-own (suc zero, there, e) = omega arith
     not-own (suc (suc i), there, e) = omega arith
 
--- ticks to two times are not beside each other, nor is a tick beside an event of the row's streams, nor the close beside a tick
+-- §3.10: ticks to two times are not beside each other, nor is a tick beside an event of the row's streams, nor the close beside a tick
 pub clock-missed : (c : Constraint) (t u : ℕ) → ¬ (t ≡ u) → ¬ Beside c (tick t) (tick u)
 clock-missed c t u apart (others v p q) = apart (p ∙ sym q)
 
+-- §3.10
 pub event-missed : (c : Constraint) (k t u : ℕ) → OwnStream c k → ¬ Beside c (event k t) (tick u)
 event-missed c k t u own (others v p q) = p .0 own
 
+-- §3.10
 pub close-missed : (c : Constraint) (t : ℕ) → ¬ Beside c close (tick t)
 close-missed c t (others u p q) = p

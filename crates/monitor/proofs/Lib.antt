@@ -1,7 +1,7 @@
 -- Why the monitor's machine keeps the promise, and the laws that the proofs of its code share.
 mod Names
 pub mod FittingRows
-pub mod Following
+pub mod StepRefinement
 pub mod Demand
 pub mod Withdrawing
 pub mod Theorem

@@ -23,23 +23,23 @@ pub use Rattle.constraint.specs.{Questions.Question, Records.filler, Records.ro
 pub use Rattle.constraint.specs.{declared.Answer.the-variants.Refused, declared.Answer.the-variants.Taken, declared.Call.Call}
 pub use Rattle.constraint.specs.{declared.Constraint.Constraint, declared.Constraint.the-variants.Delay, declared.Constraint.the-variants.Repeat}
 pub use Rattle.constraint.specs.{declared.Constraint.the-variants.Sporadic, declared.Entry.Entry, declared.Table.Table, declared.Verdict.Verdict}
-pub use Rattle.machine.specs.{Parts.plus, Rule.ruleOf}
+pub use Rattle.row_type.specs.{Parts.plus, Parameters.parametersOf}
 pub use Rattle.monitor.specs.Beside.{Beside, EachBeside, NoneFull, OtherAt, OwnStream, TakesAll, allTaken, answersTo, closes, no-more, others}
 pub use Rattle.monitor.specs.Beside.{place, same-event}
 pub use Rattle.monitor.specs.Contract.{Reading, Remains, Steps, VerdictOf, resultOf, step, verdictIn}
-pub use Rattle.monitor.specs.Machine.{SameBare, crowds, nextFor, nextStep, noRow, occurrenceOf, refusalFor, refuses, steppedBy, takes}
+pub use Rattle.monitor.specs.Machine.{SameBare, crowds, nextFor, nextStep, noRow, stepInputOf, refusalFor, refuses, steppedBy, takes}
 pub use Rattle.monitor.specs.Parts.{RowsAfter, placeOf, rowsWithout, steppedRows, verdictBy, withRows}
 pub use Rattle.monitor.specs.{declared.Monitor.Monitor, declared.RowVerdict.RowVerdict, declared.Stepped.Stepped}
-pub use Rattle.pairs.proofs.Laws.Delay.{unlimited-delay-open}
-pub use Rattle.points.proofs.Laws.Sporadic.{silent-sporadic-shut}
+pub use Rattle.delay_order.proofs.Laws.Delay.{unlimited-delay-open}
+pub use Rattle.hidden_points.proofs.Laws.Sporadic.{silent-sporadic-shut}
 pub use Rattle.questions.proofs.Places.{place-in-small, place-small, stream-place}
 pub use Rattle.questions.specs.Questions.{closedAfter, freeAfter, ownRefusal, placeFor, placeIn, timeRefusal}
-pub use Rattle.queue.proofs.Shared.{cond-false, cond-true}
+pub use Rattle.ring.proofs.Shared.{cond-false, cond-true}
 pub use Rattle.row.proofs.Steps.{After, Fits, close-calm, fits-reads, fits-room, fits-start, fits-step, seen}
-pub use Rattle.row.proofs.{Engine.engine, Exact.Exact, Exact.Sound, Independent.event-as-tick, Undo.row-without}
-pub use Rattle.row.specs.{Machine.closeAt, Machine.rowOf, Machine.rowStep, Machine.tickAt, Undo.movesBy, Undo.noBefore, Undo.rowWithout}
-pub use Rattle.row.specs.{Undo.savedRow, declared.Before.Before, declared.Occurrence.Occurrence, declared.Row.Row, declared.RowStep.RowStep}
-pub use Rattle.spans.proofs.Laws.Repeat.{silent-repeat-shut}
+pub use Rattle.row.proofs.{EveryType.every-type-exact, Exact.Exact, Exact.Sound, Independent.event-as-tick, Undo.row-without}
+pub use Rattle.row.specs.{Machine.closeAt, Machine.rowOf, Machine.rowStep, Machine.tickAt, Undo.movesBy, Undo.noRowUndo, Undo.rowWithout}
+pub use Rattle.row.specs.{Undo.savedRow, declared.RowUndo.RowUndo, declared.StepInput.StepInput, declared.Row.Row, declared.RowStep.RowStep}
+pub use Rattle.repeat_burst.proofs.Laws.Repeat.{silent-repeat-shut}
 unfoldable pub use Rattle.constraint.proofs.Counting.{nextFree}
 unfoldable pub use Rattle.constraint.specs.Steps.{clockFrom, closed, times}
 unfoldable pub use Rattle.constraint.specs.{Accepted.rowsQuestions, Promise.play, Questions.Judged, Run.Room, Run.questions}

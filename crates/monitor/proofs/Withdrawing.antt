@@ -1,17 +1,18 @@
 -- §3.13 to §3.15: a call's answer and what it does to a monitor go by all but what may be withdrawn, and a withdrawal gives back the monitor that
 -- the last step found, but for that. So after any requests the monitor is the one after the steps that are left.
-use Rattle.monitor.proofs.Names.{Accepted, Answer, Before, Bool, Call, Constraint, Exact, Judged, Keeps, Left, List, Monitor, Occurrence}
+use Rattle.monitor.proofs.Names.{Accepted, Answer, RowUndo, Bool, Call, Constraint, Exact, Judged, Keeps, Left, List, Monitor, StepInput}
 use Rattle.monitor.proofs.Names.{Promise, Reading, ReadsRow, Refused, Remains, Request, Row, Run, SameBare, Sound, Step, Stepped, Steps, Taken}
 use Rattle.monitor.proofs.Names.{TakesAll, Verdict, [], _++_, _+_, _<_, _∙_, _∷_, _≡_, _≤_, _⊎_, accepts-taken, after, allTaken, ap}
 use Rattle.monitor.proofs.Names.{append-nil, ap₂, arith, asks, bare, begins-broken, both, but-last, butLast, calls-keep, cond, counted-of}
 use Rattle.monitor.proofs.Names.{crowds, done, eqb, eqb-false, false, freeAfter, getD, inl, inr, keeps-begins, keptWithout, lastCount, leftBy}
-use Rattle.monitor.proofs.Names.{length, lt-ltb, ltb, map, mapFirst, monitorOf, movesBy, never, nextFor, nextStep, noBefore, noneLeft}
-use Rattle.monitor.proofs.Names.{occurrenceOf, place-small, placeFor, placeIn, play, questions, refl, refusalFor, refuses, replicate, request}
+use Rattle.monitor.proofs.Names.{length, lt-ltb, ltb, map, mapFirst, monitorOf, movesBy, never, nextFor, nextStep, noRowUndo, noneLeft}
+use Rattle.monitor.proofs.Names.{stepInputOf, place-small, placeFor, placeIn, play, questions, refl, refusalFor, refuses, replicate, request}
 use Rattle.monitor.proofs.Names.{requestQuestions, resultOf, row-without, rowLimit, rowStep, rowWithout, run-once, savedBy, savedRow, set}
 use Rattle.monitor.proofs.Names.{set-set, some, split, step, stepFor, stepOf, streamCount, subst, suc, sym, takenCall, takes, true, verdictOf}
 use Rattle.monitor.proofs.Names.{withdrawOf, withdrawn, withdraws, zero, zipFirst, ℕ}
 use Rattle.monitor.proofs.Demand.{broken-row, reads-still, start-follows, step-untouched, verdict-reads}
-use Rattle.monitor.proofs.{FittingRows.FitRows, Following.Follows, Following.recorded, Following.step-answered, Following.step-is}
+use Rattle.monitor.proofs.{FittingRows.FitRows, StepRefinement.Follows, StepRefinement.recorded, StepRefinement.step-answered}
+use Rattle.monitor.proofs.{StepRefinement.step-is}
 
 -- ---- what may be withdrawn does not matter to a call
 
@@ -67,32 +68,32 @@ taken-monitor m s e =
 -- ---- each row is put back
 
 -- the first k stamps are of steps before a number
-abbrev pub Stamped : ℕ → ℕ → List Before → Type 0
+abbrev pub Stamped : ℕ → ℕ → List RowUndo → Type 0
 Stamped zero number before = Unit {0}
 Stamped (suc k) number [] = ⊥
-Stamped (suc k) number (b ∷ before) = (b .stamp < number) × Stamped k number before
+Stamped (suc k) number (b ∷ before) = (b .step < number) × Stamped k number before
 
-stamped-none : (k n number : ℕ) → k ≤ n → 0 < number → Stamped k number (replicate n noBefore)
+stamped-none : (k n number : ℕ) → k ≤ n → 0 < number → Stamped k number (replicate n noRowUndo)
 stamped-none zero n number few positive = tt
 stamped-none (suc k) zero number few positive = absurd (omega arith)
 stamped-none (suc k) (suc n) number few positive = (positive, stamped-none k n number (omega arith) positive)
 
 -- what a step keeps of a row has its number, or an earlier one
-saved-stamp : (o : Occurrence) (number : ℕ) (r : Row) (b : Before) → b .stamp < number → savedBy o number r b .stamp < number + 1
+saved-stamp : (o : StepInput) (number : ℕ) (r : Row) (b : RowUndo) → b .step < number → savedBy o number r b .step < number + 1
 unfolding savedBy
 saved-stamp o number r b earlier =
-    split (movesBy (r .rule) (r .now) o) (λ x. cond x (savedRow r o number) b .stamp < number + 1) (λ e. omega arith) (λ e. omega arith)
+    split (movesBy (r .parameters) (r .now) o) (λ x. cond x (savedRow r o number) b .step < number + 1) (λ e. omega arith) (λ e. omega arith)
 
 -- without the step it has an earlier one
-kept-stamp : (o : Occurrence) (number : ℕ) (r : Row) (b : Before) → 0 < number → b .stamp < number
-    → keptWithout number (savedBy o number r b) .stamp < number
+kept-stamp : (o : StepInput) (number : ℕ) (r : Row) (b : RowUndo) → 0 < number → b .step < number
+    → keptWithout number (savedBy o number r b) .step < number
 unfolding keptWithout
 kept-stamp o number r b positive earlier =
-    split (eqb (savedBy o number r b .stamp) number) (λ x. cond x noBefore (savedBy o number r b) .stamp < number) (λ e. positive)
-    (λ e. omega (arith, eqb-false (savedBy o number r b .stamp) number e, saved-stamp o number r b earlier))
+    split (eqb (savedBy o number r b .step) number) (λ x. cond x noRowUndo (savedBy o number r b) .step < number) (λ e. positive)
+    (λ e. omega (arith, eqb-false (savedBy o number r b .step) number e, saved-stamp o number r b earlier))
 
-module _ (engine : (c : Constraint) → Sound c → Exact c) (o : Occurrence) (number : ℕ) where
-  stamped-taken : (steps : List Step) (cs : List Constraint) (rows : List Row) (before : List Before) → FitRows engine steps cs rows
+module _ (every-type-exact : (c : Constraint) → Sound c → Exact c) (o : StepInput) (number : ℕ) where
+  stamped-taken : (steps : List Step) (cs : List Constraint) (rows : List Row) (before : List RowUndo) → FitRows every-type-exact steps cs rows
       → Stamped (length cs) number before
       → Stamped (length cs) (number + 1) (zipFirst (length cs) (savedBy o number) rows before)
   unfolding zipFirst
@@ -102,8 +103,8 @@ module _ (engine : (c : Constraint) → Sound c → Exact c) (o : Occurrence) (n
   stamped-taken steps (c ∷ cs) (r ∷ rows) (b ∷ before) fit stamped =
       (saved-stamp o number r b (stamped .0), stamped-taken steps cs rows before (fit .1) (stamped .1))
 
-  stamped-back : (steps : List Step) (cs : List Constraint) (rows others : List Row) (before : List Before) → 0 < number
-      → FitRows engine steps cs rows → length others ≡ length rows
+  stamped-back : (steps : List Step) (cs : List Constraint) (rows others : List Row) (before : List RowUndo) → 0 < number
+      → FitRows every-type-exact steps cs rows → length others ≡ length rows
       → Stamped (length cs) number before → Stamped (length cs) number
       (zipFirst (length cs) (λ (r : Row) b. keptWithout number b) others (zipFirst (length cs) (savedBy o number) rows before))
   unfolding zipFirst
@@ -114,7 +115,7 @@ module _ (engine : (c : Constraint) → Sound c → Exact c) (o : Occurrence) (n
   stamped-back steps (c ∷ cs) (r ∷ rows) (x ∷ others) (b ∷ before) positive fit same stamped =
       (kept-stamp o number r b positive (stamped .0), stamped-back steps cs rows others before positive (fit .1) (omega arith) (stamped .1))
 
-  rows-back : (steps : List Step) (cs : List Constraint) (rows : List Row) (before : List Before) → FitRows engine steps cs rows
+  rows-back : (steps : List Step) (cs : List Constraint) (rows : List Row) (before : List RowUndo) → FitRows every-type-exact steps cs rows
       → Stamped (length cs) number before
       → zipFirst (length cs) (λ b r. rowWithout number r b) (zipFirst (length cs) (savedBy o number) rows before)
       (mapFirst (length cs) (λ r. rowStep r o number .row) rows) ≡ rows
@@ -171,8 +172,8 @@ after-call rows calls s = ap (after rows) (asks-more calls s)
 
 -- ---- what holds between the steps that are left and the monitor
 
-module _ (engine : (c : Constraint) → Sound c → Exact c) (rows : List Constraint) where
-  follows-bare : (steps : List Step) (m : Monitor) → Follows engine rows steps m → Follows engine rows steps (bare m)
+module _ (every-type-exact : (c : Constraint) → Sound c → Exact c) (rows : List Constraint) where
+  follows-bare : (steps : List Step) (m : Monitor) → Follows every-type-exact rows steps m → Follows every-type-exact rows steps (bare m)
   unfolding bare
   follows-bare steps m f =
       record {
@@ -187,7 +188,7 @@ module _ (engine : (c : Constraint) → Sound c → Exact c) (rows : List Constr
         fit = f .fit;
       }
 
-  bare-follows : (steps : List Step) (m : Monitor) → Follows engine rows steps (bare m) → Follows engine rows steps m
+  bare-follows : (steps : List Step) (m : Monitor) → Follows every-type-exact rows steps (bare m) → Follows every-type-exact rows steps m
   unfolding bare
   bare-follows steps m f =
       record {
@@ -202,12 +203,13 @@ module _ (engine : (c : Constraint) → Sound c → Exact c) (rows : List Constr
         fit = f .fit;
       }
 
-  pub follows-same : (steps : List Step) (a b : Monitor) → SameBare a b → Follows engine rows steps a → Follows engine rows steps b
-  follows-same steps a b e f = bare-follows steps b (subst (Follows engine rows steps) e (follows-bare steps a f))
+  pub follows-same : (steps : List Step) (a b : Monitor) → SameBare a b → Follows every-type-exact rows steps a
+      → Follows every-type-exact rows steps b
+  follows-same steps a b e f = bare-follows steps b (subst (Follows every-type-exact rows steps) e (follows-bare steps a f))
 
   -- the monitor follows the steps; what is kept of each row is of a step that it has; and it is the monitor after calls that are all taken
   pub record Part (steps : List Step) (m : Monitor) : Type 0 where
-    pub follows : Follows engine rows steps m
+    pub follows : Follows every-type-exact rows steps m
     pub stamped : Stamped (length rows) (m .count + 1) (m .before)
     pub calls : List Call
     pub taken : TakesAll rows calls steps
@@ -222,7 +224,7 @@ module _ (engine : (c : Constraint) → Sound c → Exact c) (rows : List Constr
     pub ready : Ready left m
 
   module _ (steps : List Step) (m : Monitor) (p : Part steps m) (s : Call) where
-    f : Follows engine rows steps m
+    f : Follows every-type-exact rows steps m
     f = p .follows
 
     -- a withdrawal gives back the monitor that the step found
@@ -233,19 +235,19 @@ module _ (engine : (c : Constraint) → Sound c → Exact c) (rows : List Constr
         ∙ set-set (m .next) (placeFor s) (freeAfter s (nextFor m s)) (nextFor m s) ∙ set-own (m .next) (placeFor s)
 
     module _ (e : stepOf m s .answer ≡ Taken) where
-      answered : Judged (questions rows steps s) Taken × Follows engine rows (steps ++ (stepFor s ∷ [])) (takenCall m s)
+      answered : Judged (questions rows steps s) Taken × Follows every-type-exact rows (steps ++ (stepFor s ∷ [])) (takenCall m s)
       answered =
-          let a = step-answered engine rows steps m f s in (
+          let a = step-answered every-type-exact rows steps m f s in (
             subst (Judged (questions rows steps s)) e (a .0),
-            subst (Follows engine rows (steps ++ (stepFor s ∷ []))) (taken-monitor m s e)
-                (subst (λ (x : Answer). Follows engine rows (recorded steps s x) (stepOf m s .monitor)) e (a .1)),
+            subst (Follows every-type-exact rows (steps ++ (stepFor s ∷ []))) (taken-monitor m s e)
+                (subst (λ (x : Answer). Follows every-type-exact rows (recorded steps s x) (stepOf m s .monitor)) e (a .1)),
           )
 
       -- there is room for the step
       next-number : nextStep m ≡ m .count + 1
       next-number =
           let counted : length steps < lastCount = counted-of (stepFor s) steps (accepts-taken rows steps s (answered .0)) in
-          omega (arith, step-is engine rows steps m f counted, f .count-is)
+          omega (arith, step-is every-type-exact rows steps m f counted, f .count-is)
 
       stamped-next : Stamped (length rows) (nextStep m) (m .before)
       stamped-next = subst (λ (n : ℕ). Stamped (length rows) n (m .before)) (sym next-number) (p .stamped)
@@ -265,9 +267,9 @@ module _ (engine : (c : Constraint) → Sound c → Exact c) (rows : List Constr
             undo = m .undo;
           }))
           (subst (λ (k : ℕ). zipFirst k (λ b r. rowWithout (nextStep m) r b)
-          (zipFirst k (savedBy (occurrenceOf m s) (nextStep m)) (m .rows) (m .before))
-          (mapFirst k (λ r. rowStep r (occurrenceOf m s) (nextStep m) .row) (m .rows)) ≡ m .rows) (sym (f .len-is))
-          (rows-back engine (occurrenceOf m s) (nextStep m) steps rows (m .rows) (m .before) (f .fit) stamped-next))
+          (zipFirst k (savedBy (stepInputOf m s) (nextStep m)) (m .rows) (m .before))
+          (mapFirst k (λ r. rowStep r (stepInputOf m s) (nextStep m) .row) (m .rows)) ≡ m .rows) (sym (f .len-is))
+          (rows-back every-type-exact (stepInputOf m s) (nextStep m) steps rows (m .rows) (m .before) (f .fit) stamped-next))
           next-back
 
       taken-part : Part (steps ++ (stepFor s ∷ [])) (takenCall m s)
@@ -277,8 +279,8 @@ module _ (engine : (c : Constraint) → Sound c → Exact c) (rows : List Constr
             follows = answered .1;
             stamped =
                 subst (λ (k : ℕ). Stamped (length rows) (nextStep m + 1)
-                (zipFirst k (savedBy (occurrenceOf m s) (nextStep m)) (m .rows) (m .before))) (sym (f .len-is))
-                (stamped-taken engine (occurrenceOf m s) (nextStep m) steps rows (m .rows) (m .before) (f .fit) stamped-next);
+                (zipFirst k (savedBy (stepInputOf m s) (nextStep m)) (m .rows) (m .before))) (sym (f .len-is))
+                (stamped-taken every-type-exact (stepInputOf m s) (nextStep m) steps rows (m .rows) (m .before) (f .fit) stamped-next);
             calls = p .calls ++ (s ∷ []);
             taken = takes-more rows (p .calls) steps s (p .taken) (answered .0);
             same = ap bare (sym (taken-monitor m s e)) ∙ same-step m (after rows (map asks (p .calls))) s (p .same)
@@ -288,11 +290,11 @@ module _ (engine : (c : Constraint) → Sound c → Exact c) (rows : List Constr
       stamped-less : Stamped (length rows) (nextStep m) (withdrawn (takenCall m s) .before)
       unfolding withdrawn takenCall
       stamped-less =
-          let move : Row → Row = λ r. rowStep r (occurrenceOf m s) (nextStep m) .row in
+          let move : Row → Row = λ r. rowStep r (stepInputOf m s) (nextStep m) .row in
           subst (λ (k : ℕ). Stamped (length rows) (nextStep m)
           (zipFirst k (λ r b. keptWithout (nextStep m) b) (mapFirst k move (m .rows))
-          (zipFirst k (savedBy (occurrenceOf m s) (nextStep m)) (m .rows) (m .before)))) (sym (f .len-is))
-          (stamped-back engine (occurrenceOf m s) (nextStep m) steps rows (m .rows) (mapFirst (length rows) move (m .rows)) (m .before)
+          (zipFirst k (savedBy (stepInputOf m s) (nextStep m)) (m .rows) (m .before)))) (sym (f .len-is))
+          (stamped-back every-type-exact (stepInputOf m s) (nextStep m) steps rows (m .rows) (mapFirst (length rows) move (m .rows)) (m .before)
           (omega (arith, next-number)) (f .fit) (map-length (length rows) move (m .rows)) stamped-next)
 
       back-part : Part steps (withdrawn (takenCall m s))
@@ -313,7 +315,7 @@ module _ (engine : (c : Constraint) → Sound c → Exact c) (rows : List Constr
 
   call-holds : (left : Left) (m : Monitor) → Holds left m → (s : Call) → Answers left m (asks s)
   unfolding takenCall
-  call-holds left m h s = (step-answered engine rows (left .steps) m (h .part .follows) s .0, by-answer (stepOf m s .answer) refl)
+  call-holds left m h s = (step-answered every-type-exact rows (left .steps) m (h .part .follows) s .0, by-answer (stepOf m s .answer) refl)
     where
       by-answer : (a : Answer) → stepOf m s .answer ≡ a → Holds (leftBy left (asks s) (stepOf m s .answer)) (stepOf m s .monitor)
       by-answer Taken e =
@@ -365,7 +367,7 @@ module _ (engine : (c : Constraint) → Sound c → Exact c) (rows : List Constr
   start-holds : Accepted rows → Holds noneLeft (monitorOf rows)
   unfolding monitorOf after play
   start-holds accepted =
-      let f = start-follows engine rows accepted in
+      let f = start-follows every-type-exact rows accepted in
       record {
         part = record {
           follows = f;
@@ -392,36 +394,36 @@ module _ (engine : (c : Constraint) → Sound c → Exact c) (rows : List Constr
 
   -- it follows them
   pub remains-follows : Accepted rows → (requests : List Request) {left : Left} → Remains rows requests left
-      → Follows engine rows (left .steps) (after rows requests)
+      → Follows every-type-exact rows (left .steps) (after rows requests)
   unfolding after
   remains-follows accepted requests remains = held-at accepted requests (remains .1) .part .follows
 
 -- ---- the promise
 
-module _ (engine : (c : Constraint) → Sound c → Exact c) where
+module _ (every-type-exact : (c : Constraint) → Sound c → Exact c) where
   final : (rows : List Constraint) → Accepted rows → (requests further : List Request) {answers more : List Answer} {left end : Left}
       → Run rows noneLeft requests answers left → (run : Run rows left further more end) → Keeps (length (left .steps)) run
       → (i n : ℕ) → verdictOf (play step (monitorOf rows) requests .monitor) i ≡ some (Verdict.Broken n)
       → verdictOf (play step (monitorOf rows) (requests ++ further) .monitor) i ≡ some (Verdict.Broken n)
   final rows accepted requests further {left = left} {end = end} first run keeps i n broken =
       let m = play step (monitorOf rows) requests .monitor in
-      let a = held-at engine rows accepted requests first in
-      let b = requests-hold engine rows left m a further in
-      let last = subst (λ (x : Left). Holds engine rows x (play step m further .monitor)) (run-once rows (b .1) run .1) (b .2) in
+      let a = held-at every-type-exact rows accepted requests first in
+      let b = requests-hold every-type-exact rows left m a further in
+      let last = subst (λ (x : Left). Holds every-type-exact rows x (play step m further .monitor)) (run-once rows (b .1) run .1) (b .2) in
       let c = broken-row rows (left .steps) i n (subst (ReadsRow rows (left .steps) i) broken
-      (verdict-reads engine rows (left .steps) m (a .part .follows) i)) in
+      (verdict-reads every-type-exact rows (left .steps) m (a .part .follows) i)) in
       let later = begins-broken (c .0) n (left .steps) (end .steps) (keeps-begins (left .steps) run keeps ([], sym (append-nil (left .steps))))
       (c .2) in
       ap (λ (x : Monitor). verdictOf x i) (play-append (monitorOf rows) requests further)
       ∙ reads-still rows (end .steps) i n (c .0) (last .part .follows .valid) (c .1) later (verdictOf (play step m further .monitor) i)
-      (verdict-reads engine rows (end .steps) (play step m further .monitor) (last .part .follows) i)
+      (verdict-reads every-type-exact rows (end .steps) (play step m further .monitor) (last .part .follows) i)
 
   pub stays : (rows : List Constraint) → Accepted rows → (requests : List Request) (calls : List Call) (i n : ℕ)
       → verdictOf (after rows requests) i ≡ some (Verdict.Broken n) → verdictOf (after rows (requests ++ map asks calls)) i ≡ some (Verdict.Broken n)
   unfolding after
   stays rows accepted requests calls i n broken =
-      let h = held engine rows accepted requests in
-      let later = requests-hold engine rows (h .0) (play step (monitorOf rows) requests .monitor) (h .2) (map asks calls) in
+      let h = held every-type-exact rows accepted requests in
+      let later = requests-hold every-type-exact rows (h .0) (play step (monitorOf rows) requests .monitor) (h .2) (map asks calls) in
       final rows accepted requests (map asks calls) (h .1) (later .1) (calls-keep (length (h .0 .steps)) calls (later .1) (omega arith)) i n broken
 
   withdrawal-untouched : (m : Monitor) (n : ℕ) → withdrawOf m .answer ≡ Refused n → withdrawOf m .monitor ≡ m
@@ -441,8 +443,8 @@ module _ (engine : (c : Constraint) → Sound c → Exact c) where
   promise =
       record {
         exact = λ rows accepted requests.
-            let h = held engine rows accepted requests in
-            (h .0, h .1, verdict-reads engine rows (h .0 .steps) (play step (monitorOf rows) requests .monitor) (h .2 .part .follows));
+            let h = held every-type-exact rows accepted requests in
+            (h .0, h .1, verdict-reads every-type-exact rows (h .0 .steps) (play step (monitorOf rows) requests .monitor) (h .2 .part .follows));
         untouched = untouched;
         final = final;
       }
@@ -453,17 +455,17 @@ module _ (engine : (c : Constraint) → Sound c → Exact c) where
       × SameBare (after rows requests) (after rows (map asks calls))
   unfolding after
   struck rows accepted requests =
-      let h = held engine rows accepted requests in
+      let h = held every-type-exact rows accepted requests in
       (h .0, (play step (monitorOf rows) requests .answers, h .1), h .2 .part .calls, h .2 .part .taken, h .2 .part .same)
 
   -- ---- the contracts
 
-  -- the monitor after a list of requests follows the steps that they have left
+  -- §3.4: the monitor after a list of requests follows the steps that they have left
   pub after-follows : (rows : List Constraint) (requests : List Request) → Accepted rows → (left : Left) × Remains rows requests left
-      × Follows engine rows (left .steps) (after rows requests)
+      × Follows every-type-exact rows (left .steps) (after rows requests)
   unfolding after
   after-follows rows requests accepted =
-      let h = held engine rows accepted requests in (h .0, (play step (monitorOf rows) requests .answers, h .1), h .2 .part .follows)
+      let h = held every-type-exact rows accepted requests in (h .0, (play step (monitorOf rows) requests .answers, h .1), h .2 .part .follows)
 
   pub steps-keep : (m : Monitor) (r : Request) → Steps m r (resultOf m r)
   unfolding after
@@ -471,8 +473,8 @@ module _ (engine : (c : Constraint) → Sound c → Exact c) where
       record {
         equals = refl;
         means = λ rows requests accepted e.
-            let h = held engine rows accepted requests in
-            let judged = request-holds engine rows (h .0) (after rows requests) (h .2) r .0 in (
+            let h = held every-type-exact rows accepted requests in
+            let judged = request-holds every-type-exact rows (h .0) (after rows requests) (h .2) r .0 in (
               (
                 h .0,
                 (play step (monitorOf rows) requests .answers, h .1),
@@ -491,6 +493,6 @@ module _ (engine : (c : Constraint) → Sound c → Exact c) where
               a .0,
               a .1,
               subst (λ (x : Monitor). ReadsRow rows (a .0 .steps) i (verdictOf x i)) (sym e)
-                  (verdict-reads engine rows (a .0 .steps) (after rows requests) (a .2) i),
+                  (verdict-reads every-type-exact rows (a .0 .steps) (after rows requests) (a .2) i),
             );
       }

@@ -44,10 +44,11 @@ pub record FreshlyIn (edition : ℕ) (table : Table) (answer : Answer) (m : Moni
   pub made : answer ≡ Taken → m ≡ after (rowsOf table) []
   pub refused : (n : ℕ) → answer ≡ Refused n → m ≡ after [] []
 
--- §9.7: in the first edition
+-- §3.6, §9.7: in the first edition
 abbrev pub Freshly : Table → Answer → Monitor → Type 0
 Freshly = FreshlyIn 1
 
+-- §3.6, §3.13, §11.2
 -- a request: the answer that its questions give over what the requests have left, and the monitor after the longer list of requests
 pub record Steps (m : Monitor) (r : Request) (result : Stepped) : Type 0 where
   pub equals : result ≡ resultOf m r
@@ -55,7 +56,7 @@ pub record Steps (m : Monitor) (r : Request) (result : Stepped) : Type 0 where
       → ((left : Left) × Remains rows requests left × Judged (requestQuestions rows left r) (result .answer))
       × (result .monitor ≡ after rows (requests ++ (r ∷ [])))
 
--- §3.6, §3.13: the verdict of a row number: what the row reads after the steps that the requests have left, or none where there is no such row
+-- §3.5, §3.6, §3.13: the verdict of a row number: what the row reads after the steps that the requests have left, or none where there is no such row
 pub record Reading (m : Monitor) (i : ℕ) (verdict : Option Verdict) : Type 0 where
   pub equals : verdict ≡ verdictOf m i
   pub means : (rows : List Constraint) (requests : List Request) → Accepted rows → m ≡ after rows requests
@@ -66,7 +67,7 @@ abbrev pub verdictIn : RowVerdict → Option Verdict
 verdictIn (RowVerdict.Reads v) = some v
 verdictIn (RowVerdict.Refused n) = none
 
--- §9.6: a row that is not there is refused with 15
+-- §3.6, §8.15, §9.6: a row that is not there is refused with 15
 pub record VerdictOf (m : Monitor) (i : ℕ) (answer : RowVerdict) : Type 0 where
   pub reads : Reading m i (verdictIn answer)
   pub number : (n : ℕ) → answer ≡ RowVerdict.Refused n → n ≡ 15

@@ -12,12 +12,12 @@ use Rattle.constraint.specs.declared.Answer.the-variants.{Taken, Refused}
 use Rattle.constraint.specs.declared.Call.{Call}
 use Rattle.constraint.specs.declared.Constraint.{Constraint}
 use Rattle.constraint.specs.declared.Verdict.{Verdict}
-use Rattle.machine.specs.Parts.{plus}
+use Rattle.row_type.specs.Parts.{plus}
 use Rattle.row.specs.Machine.{rowOf, rowStep, rowVerdict}
-use Rattle.row.specs.Undo.{noBefore, savedBy, rowWithout, keptWithout}
-use Rattle.row.specs.declared.Occurrence.{Occurrence}
+use Rattle.row.specs.Undo.{noRowUndo, savedBy, rowWithout, keptWithout}
+use Rattle.row.specs.declared.StepInput.{StepInput}
 use Rattle.row.specs.declared.Row.{Row}
-use Rattle.questions.specs.Questions.{noUndo, placeFor, placeIn, refusalBy, occurrenceBy, freeAfter, closedAfter, undoBy}
+use Rattle.questions.specs.Questions.{noUndo, placeFor, placeIn, refusalBy, stepInputBy, freeAfter, closedAfter, undoBy}
 use Rattle.monitor.specs.declared.Monitor.{Monitor}
 use Rattle.monitor.specs.declared.Stepped.{Stepped}
 
@@ -25,7 +25,7 @@ use Rattle.monitor.specs.declared.Stepped.{Stepped}
 abbrev pub noRow : Row
 noRow = rowOf filler
 
--- §1.6: over the rows, the clock at 0, no events, count 0, not closed
+-- §1.6, §3.2: over the rows, the clock at 0, no events, count 0, not closed
 unfoldable pub monitorOf : List Constraint → Monitor
 monitorOf rows =
     record {
@@ -35,7 +35,7 @@ monitorOf rows =
       count = 0;
       closed = 0;
       len = length rows;
-      before = replicate rowLimit noBefore;
+      before = replicate rowLimit noRowUndo;
       undo = noUndo;
     }
 
@@ -77,26 +77,26 @@ nextFor m call = getD (m .next) (placeFor call) 0
 abbrev pub refusalFor : Monitor → Call → ℕ
 refusalFor m call = refusalBy call (m .closed) (m .count) (m .clock) (nextFor m call)
 
-abbrev pub occurrenceOf : Monitor → Call → Occurrence
-occurrenceOf m call = occurrenceBy call (m .clock)
+abbrev pub stepInputOf : Monitor → Call → StepInput
+stepInputOf m call = stepInputBy call (m .clock)
 
 -- each row after the call, which is the next step
 unfoldable pub takenCall : Monitor → Call → Monitor
 takenCall m call =
     record {
-      rows = mapFirst (m .len) (λ r. rowStep r (occurrenceOf m call) (nextStep m) .row) (m .rows);
+      rows = mapFirst (m .len) (λ r. rowStep r (stepInputOf m call) (nextStep m) .row) (m .rows);
       next = set (m .next) (placeFor call) (freeAfter call (nextFor m call));
-      clock = occurrenceOf m call .time;
+      clock = stepInputOf m call .time;
       count = nextStep m;
       closed = closedAfter call (m .closed);
       len = m .len;
-      before = zipFirst (m .len) (savedBy (occurrenceOf m call) (nextStep m)) (m .rows) (m .before);
+      before = zipFirst (m .len) (savedBy (stepInputOf m call) (nextStep m)) (m .rows) (m .before);
       undo = undoBy call (m .closed) (m .clock) (nextFor m call) (m .count);
     }
 
 -- the call crowds one of the rows
 abbrev pub crowds : Monitor → Call → Bool
-crowds m call = anyFirst (m .len) (λ r. rowStep r (occurrenceOf m call) (nextStep m) .crowded) (m .rows)
+crowds m call = anyFirst (m .len) (λ r. rowStep r (stepInputOf m call) (nextStep m) .crowded) (m .rows)
 
 -- the refusal by that number; or, for 0, 12, or the call is taken
 abbrev pub steppedBy : Monitor → Call → ℕ → Stepped
@@ -111,7 +111,7 @@ verdictOf m i = cond (ltb i (m .len) && ltb i rowLimit) (some (rowVerdict (getD 
 
 -- ---- withdrawing the last step
 
--- the rows, what is kept of them, and the other numbers, as they were before the last step (§3.12); nothing may be withdrawn then
+-- §3.12: the rows, what is kept of them, and the other numbers, as they were before the last step (§3.12); nothing may be withdrawn then
 unfoldable pub withdrawn : Monitor → Monitor
 withdrawn m =
     record {
@@ -129,7 +129,7 @@ withdrawn m =
 unfoldable pub withdrawOf : Monitor → Stepped
 withdrawOf m = cond (ltb 0 (m .undo .may)) (takes (withdrawn m)) (refuses 21 m)
 
--- the monitor but for what may be withdrawn: its rows, first free times, clock, count, close and number of rows
+-- §3.14: the monitor but for what may be withdrawn: its rows, first free times, clock, count, close and number of rows
 unfoldable pub bare : Monitor → Monitor
 bare m =
     record {

@@ -8,8 +8,8 @@ use Rattle.constraint.specs.Limits.{rowLimit}
 use Rattle.constraint.specs.declared.Verdict.{Verdict}
 use Rattle.row.specs.Machine.{rowStep}
 use Rattle.row.specs.Undo.{savedBy, rowWithout, keptWithout}
-use Rattle.row.specs.declared.Before.{Before}
-use Rattle.row.specs.declared.Occurrence.{Occurrence}
+use Rattle.row.specs.declared.RowUndo.{RowUndo}
+use Rattle.row.specs.declared.StepInput.{StepInput}
 use Rattle.row.specs.declared.Row.{Row}
 use Rattle.monitor.specs.Machine.{mapFirst, zipFirst, anyFirst}
 use Rattle.monitor.specs.declared.Monitor.{Monitor}
@@ -19,7 +19,7 @@ use Rattle.monitor.specs.declared.rows.RowsStepped.{RowsStepped}
 -- ---- every row, one after the other
 
 -- the monitor with other rows, and what is kept of them
-abbrev pub withRows : Monitor → List Row → List Before → Monitor
+abbrev pub withRows : Monitor → List Row → List RowUndo → Monitor
 withRows m rows before =
     record {
       rows = rows;
@@ -33,7 +33,7 @@ withRows m rows before =
     }
 
 -- the monitor with each of its first n rows after what occurs, which is the step of that number
-abbrev pub steppedRows : Monitor → ℕ → Occurrence → ℕ → Monitor
+abbrev pub steppedRows : Monitor → ℕ → StepInput → ℕ → Monitor
 steppedRows m n o number = withRows m (mapFirst n (λ r. rowStep r o number .row) (m .rows)) (zipFirst n (savedBy o number) (m .rows) (m .before))
 
 -- and with each of them without the step of that number
@@ -42,7 +42,7 @@ rowsWithout m n number =
     withRows m (zipFirst n (λ b r. rowWithout number r b) (m .before) (m .rows)) (zipFirst n (λ r b. keptWithout number b) (m .rows) (m .before))
 
 -- what occurs, which is the step of that number: the monitor with each row after it, or as it was where that crowds a row
-pub record RowsAfter (m : Monitor) (o : Occurrence) (number : ℕ) (result : RowsStepped) : Type 0 where
+pub record RowsAfter (m : Monitor) (o : StepInput) (number : ℕ) (result : RowsStepped) : Type 0 where
   pub crowded-is : result .crowded ≡ anyFirst (m .len) (λ r. rowStep r o number .crowded) (m .rows)
   pub stepped : result .crowded ≡ false → result .monitor ≡ steppedRows m (m .len) o number
   pub as-it-was : result .crowded ≡ true → result .monitor ≡ m

@@ -3,10 +3,10 @@ use constraint::Answer;
 use constraint::Call;
 use constraint::Table;
 use constraint::Verdict;
-use machine::parts::plus;
 pub use questions::Undo;
-use row::Before;
 use row::Row;
+use row::RowUndo;
+use row_type::parts::plus;
 ghost use mathlib.Core.Path.{_≡_};
 ghost use Rattle.constraint.specs.Run.{asks, withdraws};
 ghost use Rattle.constraint.specs.declared.Call.{Call};
@@ -29,7 +29,7 @@ pub struct Monitor {
     // the number of rows
     pub len: usize,
     // for each row what it was before the step that last changed it
-    pub before: [Before; 32],
+    pub before: [RowUndo; 32],
     // what the last step changed beside the rows
     pub undo: Undo,
 }
@@ -57,6 +57,7 @@ impl Monitor {
     // The largest count of steps, 2^64 - 1.
     pub const LAST_COUNT: u64 = constraint::LAST_COUNT;
 
+    // §1.6, §3.2, §9.7
     // A monitor over a table of the first edition, with clock 0, or the refusal: questions 3 to 7 and 18, row by row.
     pub fn fresh(table: Table) -> Stepped
         ensures { λ r. ⌜ Freshly table (r .answer) (r .monitor) ⌝ }
@@ -68,7 +69,7 @@ impl Monitor {
     pub fn fresh_in(edition: u8, table: Table) -> Stepped
         ensures { λ r. ⌜ FreshlyIn edition table (r .answer) (r .monitor) ⌝ }
     {
-        match table.judge(edition) {
+        match table.validate(edition) {
             Answer::Refused(number) => Stepped {
                 answer: Answer::Refused(number),
                 monitor: rows::over(table, 0),
@@ -90,7 +91,7 @@ impl Monitor {
         if 0 < number {
             return self.refused(number);
         }
-        let o = questions::occurrence(call, self.clock);
+        let o = questions::step_input(call, self.clock);
         let step = plus(self.count, 1);
         let stepped = rows::step(self, o, step);
         if stepped.crowded {
@@ -105,6 +106,7 @@ impl Monitor {
         after.taken()
     }
 
+    // §3.12, §3.14, §8.21
     // The monitor without its last step, or the refusal: question 21.
     pub fn withdraw(self) -> Stepped
         ensures { λ r. ⌜ Steps self withdraws r ⌝ }
@@ -114,7 +116,7 @@ impl Monitor {
             return self.refused(21);
         }
         let at = questions::place_in(undo.place);
-        let mut after = rows::back(self, self.count);
+        let mut after = rows::undo_rows(self, self.count);
         after.next[at] = undo.next;
         after.clock = undo.clock;
         after.count = undo.count;
@@ -123,6 +125,7 @@ impl Monitor {
         after.taken()
     }
 
+    // §1.3, §8.8 to §8.12, §8.19, §8.24, §9.5
     // The monitor after an event of a kind at a time, or the refusal.
     pub fn event(self, kind: u8, time: u64) -> Stepped
         ensures { λ r. ⌜ Steps self (asks (Call.Event kind time)) r ⌝ }
@@ -130,6 +133,7 @@ impl Monitor {
         self.step(Call::Event { kind, time })
     }
 
+    // §1.3, §8.19
     // The monitor after an event of a coloured kind and a colour at a time, or the refusal.
     pub fn coloured_event(self, kind: u8, colour: u8, time: u64) -> Stepped
         ensures { λ r. ⌜ Steps self (asks (Call.ColouredEvent kind colour time)) r ⌝ }
@@ -137,6 +141,7 @@ impl Monitor {
         self.step(Call::ColouredEvent { kind, colour, time })
     }
 
+    // §1.4, §8.8, §8.10, §8.11, §8.24, §9.5
     // The monitor after a tick to a time, or the refusal.
     pub fn tick(self, time: u64) -> Stepped
         ensures { λ r. ⌜ Steps self (asks (Call.Tick time)) r ⌝ }
@@ -144,6 +149,7 @@ impl Monitor {
         self.step(Call::Tick { time })
     }
 
+    // §1.5, §8.8, §8.24, §9.5
     // The monitor after the close, or the refusal.
     pub fn close(self) -> Stepped
         ensures { λ r. ⌜ Steps self (asks Call.Close) r ⌝ }
@@ -151,6 +157,7 @@ impl Monitor {
         self.step(Call::Close)
     }
 
+    // §2.4 to §2.6, §8.15, §9.6
     // The verdict of a row, or the refusal: question 15.
     pub fn verdict(self, row: usize) -> RowVerdict
         ensures { λ r. ⌜ VerdictOf self row r ⌝ }

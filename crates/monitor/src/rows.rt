@@ -2,9 +2,9 @@
 use crate::Monitor;
 use constraint::Constraint;
 use constraint::Table;
-use row::Before;
-use row::Occurrence;
 use row::Row;
+use row::RowUndo;
+use row::StepInput;
 ghost use mathlib.Core.Path.{_≡_};
 ghost use Prim.Native.Nat.{_≤_, min};
 ghost use lib.ListN.{take};
@@ -53,13 +53,13 @@ pub(crate) fn over(table: Table, len: usize) -> Monitor
         count: 0,
         closed: 0,
         len,
-        before: [Before::none(); 32],
+        before: [RowUndo::none(); 32],
         undo: questions::no_undo(),
     }
 }
 
 // The monitor with each row after what occurs, which is the step of that number; as it was where that crowds one of them.
-pub fn step(m: Monitor, o: Occurrence, number: u64) -> RowsStepped
+pub fn step(m: Monitor, o: StepInput, number: u64) -> RowsStepped
     ensures { λ r. ⌜ RowsAfter m o number r ⌝ }
 {
     let len = held(m.len);
@@ -88,7 +88,7 @@ pub fn step(m: Monitor, o: Occurrence, number: u64) -> RowsStepped
 }
 
 // The monitor with each row without the step of that number.
-pub fn back(m: Monitor, number: u64) -> Monitor
+pub fn undo_rows(m: Monitor, number: u64) -> Monitor
     ensures { λ r. ⌜ r ≡ rowsWithout m (m .len) number ⌝ }
 {
     let len = held(m.len);
@@ -97,9 +97,9 @@ pub fn back(m: Monitor, number: u64) -> Monitor
     while i < len {
         let row = after.rows[i];
         let kept = after.before[i];
-        let before = row.without(kept, number);
+        let before = row.without_step(kept, number);
         after.rows[i] = before;
-        after.before[i] = kept.without(number);
+        after.before[i] = kept.without_step(number);
         i += 1;
     }
     after

@@ -7,7 +7,7 @@ use Rattle.constraint.proofs.Lists.{Each, each-append, each-cons, each-none}
 use Rattle.constraint.specs.Page.{leftIn, lineText, nameOf, pageLine, pageWidth, rightIn, stepText, verdictWord}
 use Rattle.constraint.specs.{Report.blank, Report.decimal, Report.lineEnd, Types.typeNames, Types.unknownName, declared.Verdict.Verdict}
 use Rattle.constraint.specs.{declared.Verdict.the-variants.Broken, declared.Verdict.the-variants.Kept, declared.Verdict.the-variants.Open}
-use Rattle.number.proofs.Stores.{stores-append}
+use Rattle.big_endian.proofs.Stores.{stores-append}
 use Rattle.text.proofs.Decimals.{decimal-each, decimal-few, decimal-length}
 
 -- ---- texts
@@ -61,16 +61,19 @@ any-fits width [] other e f i = f
 any-fits width (text ∷ texts) other e f zero = fits width text (and-true (fits? width text) (all-fit? width texts) e .0)
 any-fits width (text ∷ texts) other e f (suc i) = any-fits width texts other (and-true (fits? width text) (all-fit? width texts) e .1) f i
 
+-- §7.16
 pub name-fits : (type : ℕ) → Fits 24 (nameOf type)
 unfolding all-fit? fits? letters?
 name-fits type = any-fits 24 typeNames unknownName refl (fits 24 unknownName refl) type
 
+-- §7.16
 pub word-fits : (v : Verdict) → Fits 8 (verdictWord v)
 unfolding fits? letters?
 word-fits Open = fits 8 (verdictWord Open) refl
 word-fits Kept = fits 8 (verdictWord Kept) refl
 word-fits (Broken n) = fits 8 (verdictWord (Broken n)) refl
 
+-- §7.16
 pub step-fits : (v : Verdict) → Fits 20 (stepText v)
 step-fits Open = record { short = omega arith; letters = each-none Letter }
 step-fits Kept = record { short = omega arith; letters = each-none Letter }

@@ -80,7 +80,7 @@ module _ (types : ℕ → ℕ) (verdicts : ℕ → Verdict) where
         line-length i (types i) (verdicts i) (omega arith),
       )
 
-  -- the length in closed form
+  -- §7.15: the length in closed form
   pub page-length : (n : ℕ) → n ≤ 1000 → length (pageText types verdicts n) ≡ pageLength n
   page-length zero few = hyphens-length
   page-length (suc n) few = omega (arith, lines-length (suc n) few)
@@ -100,7 +100,7 @@ module _ (types : ℕ → ℕ) (verdicts : ℕ → Verdict) where
       (lines-append (pageLines types verdicts i ++ heading i) (line i)
       (lines-append (pageLines types verdicts i) (heading i) (rows-lines i (omega arith)) (heading-lines i)) one)
 
-  -- each line has 72 bytes before the line end
+  -- §7.15, §7.17: each line has 72 bytes before the line end
   pub page-width : (n : ℕ) → n ≤ 1000 → Lines (linesOf n) (pageText types verdicts n)
   page-width zero few = hyphens-line
   page-width (suc n) few =

@@ -70,7 +70,7 @@ module _ (types : ℕ → ℕ) (verdicts : ℕ → Verdict) (n i : ℕ) (few : n
       rw (parts, ← s .start, drop-append-add (s .before) (b ++ (c ++ (d ++ s .behind))) from, drop-at b (c ++ (d ++ s .behind)) from f)
       (take-at c (d ++ s .behind) width g)
 
-  -- the fields read off row i's line are its number, the name of its type, and its verdict
+  -- §7.18: the fields read off row i's line are its number, the name of its type, and its verdict
   pub page-reads-back : lineRead (pageText types verdicts n) i ≡ record { number = i; name = nameOf type; verdict = some v }
   unfolding lineRead
   page-reads-back =
@@ -96,7 +96,7 @@ rows-read : (types more : ℕ → ℕ) (verdicts others : ℕ → Verdict) (n k 
     → n ≡ k
 rows-read types more verdicts others n k few few′ e = omega (arith, ap length e, page-length types verdicts n few, page-length more others k few′)
 
--- two pages with the same bytes have as many rows, and say the same verdict of each
+-- §7.18: two pages with the same bytes have as many rows, and say the same verdict of each
 pub equal-pages : (types more : ℕ → ℕ) (verdicts others : ℕ → Verdict) (n k : ℕ) → n ≤ 1000 → k ≤ 1000
     → ((i : ℕ) → i < n → StepFits (verdicts i)) → ((i : ℕ) → i < k → StepFits (others i))
     → pageText types verdicts n ≡ pageText more others k → (n ≡ k) × ((i : ℕ) → i < n → verdicts i ≡ others i)

@@ -50,10 +50,10 @@ pub struct Summary {
 }
 
 // The name of a type, left-aligned in 24; that of 0 stands for every number that is no type's, which no table has.
-fn name(form: u64) -> [u8; 24]
-    ensures { λ r. ⌜ r ≡ leftIn 24 (nameOf form) ⌝ }
+fn name(tag: u64) -> [u8; 24]
+    ensures { λ r. ⌜ r ≡ leftIn 24 (nameOf tag) ⌝ }
 {
-    let at = form as usize;
+    let at = tag as usize;
     if at < NAMES.len() {
         return NAMES[at];
     }
@@ -109,21 +109,23 @@ fn size(rows: usize) -> usize
     LINE * (rows + (rows + 15) / GROUP)
 }
 
+// §7.16
 // Puts a row's line at a place of a buffer, column by column.
-fn put_line(buffer: &mut [u8], place: usize, row: usize, form: u64, verdict: Verdict)
+fn put_line(buffer: &mut [u8], place: usize, row: usize, tag: u64, verdict: Verdict)
     requires { ⌜ (place ≤ 4096) × (row < rowLimit) ⌝ }
-    ensures { λ _. ⌜ now (buffer .exit) ≡ sets (now (buffer .entry)) place (pageLine row form verdict) ⌝ }
+    ensures { λ _. ⌜ now (buffer .exit) ≡ sets (now (buffer .entry)) place (pageLine row tag verdict) ⌝ }
 {
     let digits = text::digits_of(row as u64);
     let bytes = digits.bytes;
-    number::put(buffer, place, &bytes[17..]);
-    number::put(buffer, place + 3, b"  ");
-    number::put(buffer, place + 5, &name(form));
-    number::put(buffer, place + 29, &word(verdict));
-    number::put(buffer, place + 37, &step(verdict));
-    number::put(buffer, place + 57, b"               \n");
+    big_endian::put(buffer, place, &bytes[17..]);
+    big_endian::put(buffer, place + 3, b"  ");
+    big_endian::put(buffer, place + 5, &name(tag));
+    big_endian::put(buffer, place + 29, &word(verdict));
+    big_endian::put(buffer, place + 37, &step(verdict));
+    big_endian::put(buffer, place + 57, b"               \n");
 }
 
+// §7.17
 // Puts the heading of a row, if it has one, at a place of a buffer, and answers the place behind it.
 fn put_heading(buffer: &mut [u8], place: usize, row: usize) -> usize
     requires { ⌜ place ≤ 4096 ⌝ }
@@ -132,7 +134,7 @@ fn put_heading(buffer: &mut [u8], place: usize, row: usize) -> usize
     if row % GROUP != 0 {
         return place;
     }
-    number::put(buffer, place, &HYPHENS);
+    big_endian::put(buffer, place, &HYPHENS);
     place + LINE
 }
 
@@ -166,6 +168,7 @@ pub fn held(rows: usize) -> usize
 }
 
 impl Summary {
+    // §7.15
     // Writes the page to the front of a buffer and answers its length; where the buffer is too short, answers 0 and leaves it as it was.
     pub fn write(self, buffer: &mut [u8]) -> usize
         ensures { λ r. ⌜ Copied (textOf self) (now (buffer .entry)) r (now (buffer .exit)) ⌝ }
@@ -176,7 +179,7 @@ impl Summary {
             return 0;
         }
         if rows == 0 {
-            number::put(buffer, 0, &HYPHENS);
+            big_endian::put(buffer, 0, &HYPHENS);
             return size;
         }
         put_rows(buffer, &self.types, &self.steps, rows, self.closed);

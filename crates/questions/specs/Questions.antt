@@ -5,9 +5,9 @@ use lib.Dec.{leb, ltb}
 use Rattle.constraint.specs.Limits.{lastKind, firstColoured, lastColour, streamCount, lastTime, lastCount}
 use Rattle.constraint.specs.Streams.{stream}
 use Rattle.constraint.specs.declared.Call.{Call}
-use Rattle.machine.specs.Parts.{plus}
+use Rattle.row_type.specs.Parts.{plus}
 use Rattle.row.specs.Machine.{eventAt, tickAt, closeAt}
-use Rattle.row.specs.declared.Occurrence.{Occurrence}
+use Rattle.row.specs.declared.StepInput.{StepInput}
 use Rattle.questions.specs.declared.Undo.{Undo}
 
 -- the stream of a call's event; 0 where there is no event
@@ -42,11 +42,11 @@ abbrev pub refusalBy : Call → ℕ → ℕ → ℕ → ℕ → ℕ
 refusalBy call closed count clock next = cond (ltb 0 closed) 8 (cond (leb lastCount count) 24 (ownRefusal call clock next))
 
 -- what the rows see of a call at a clock
-abbrev pub occurrenceBy : Call → ℕ → Occurrence
-occurrenceBy (Call.Event kind t) clock = eventAt kind t
-occurrenceBy (Call.ColouredEvent kind colour t) clock = eventAt (stream kind colour) t
-occurrenceBy (Call.Tick t) clock = tickAt t
-occurrenceBy Call.Close clock = closeAt clock
+abbrev pub stepInputBy : Call → ℕ → StepInput
+stepInputBy (Call.Event kind t) clock = eventAt kind t
+stepInputBy (Call.ColouredEvent kind colour t) clock = eventAt (stream kind colour) t
+stepInputBy (Call.Tick t) clock = tickAt t
+stepInputBy Call.Close clock = closeAt clock
 
 -- the first free time of its stream after a call, and the mark of the close
 abbrev pub freeAfter : Call → ℕ → ℕ

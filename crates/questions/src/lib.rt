@@ -6,16 +6,16 @@ use constraint::LAST_COUNT;
 use constraint::LAST_KIND;
 use constraint::LAST_TIME;
 use constraint::STREAM_COUNT;
-use machine::parts::kind_of;
-use machine::parts::plus;
-use queue::minus;
-use row::Occurrence;
+use ring::minus;
+use row::StepInput;
+use row_type::parts::kind_of;
+use row_type::parts::plus;
 ghost use mathlib.Core.Path.{_≡_};
 ghost use Prim.Native.Nat.{ℕ};
 ghost use Rattle.constraint.specs.Streams.{stream};
 ghost use Rattle.constraint.specs.declared.Call.{Call};
 ghost use Rattle.row.specs.Machine.{eventAt};
-ghost use Rattle.questions.specs.Questions.{streamFor, placeFor, timeRefusal, ownRefusal, refusalBy, occurrenceBy, freeAfter, closedAfter};
+ghost use Rattle.questions.specs.Questions.{streamFor, placeFor, timeRefusal, ownRefusal, refusalBy, stepInputBy, freeAfter, closedAfter};
 ghost use Rattle.questions.specs.Questions.{noUndo, undoBy, placeIn};
 
 // No event: a kind that no row has, and no stream.
@@ -173,6 +173,7 @@ fn own_refusal(call: Call, clock: u64, next: u64) -> u8
     }
 }
 
+// §8.24
 // A call's questions but 12, over the mark of the close and the count of steps too: the number of the first "no", or 0.
 pub fn refusal(call: Call, closed: u64, count: u64, clock: u64, next: u64) -> u8
     ensures { λ r. ⌜ r ≡ refusalBy call closed count clock next ⌝ }
@@ -187,10 +188,10 @@ pub fn refusal(call: Call, closed: u64, count: u64, clock: u64, next: u64) -> u8
 }
 
 // What the rows see of an event of a stream.
-pub fn event_of(stream: u64, time: u64) -> Occurrence
+pub fn event_of(stream: u64, time: u64) -> StepInput
     ensures { λ r. ⌜ r ≡ eventAt stream time ⌝ }
 {
-    Occurrence {
+    StepInput {
         kind: kind_of(stream),
         stream,
         time,
@@ -199,19 +200,19 @@ pub fn event_of(stream: u64, time: u64) -> Occurrence
 }
 
 // What the rows see of a call.
-pub fn occurrence(call: Call, clock: u64) -> Occurrence
-    ensures { λ r. ⌜ r ≡ occurrenceBy call clock ⌝ }
+pub fn step_input(call: Call, clock: u64) -> StepInput
+    ensures { λ r. ⌜ r ≡ stepInputBy call clock ⌝ }
 {
     match call {
         Call::Event { kind, time } => event_of(kind as u64, time),
         Call::ColouredEvent { kind, colour, time } => event_of(stream_of(kind, colour), time),
-        Call::Tick { time } => Occurrence {
+        Call::Tick { time } => StepInput {
             kind: NO_EVENT,
             stream: NO_STREAM,
             time,
             closes: false,
         },
-        Call::Close => Occurrence {
+        Call::Close => StepInput {
             kind: NO_EVENT,
             stream: NO_STREAM,
             time: clock,

@@ -47,6 +47,7 @@ module _ (bytes : List ℕ) (place : ℕ) where
       reads-none (λ there. (rw rest at none)
       ((omega (arith, length-drop place bytes, there .0 .0), omega (arith, length-drop place bytes, there .0 .1)), there .1, there .2))
 
+  -- §7.1
   pub reads-whole : (call : Call) (size : ℕ) → RecordAt stretch 0 → callOf (at bytes 0) (bodyAt stretch 0) ≡ call → size ≡ 2 + lengthAt stretch 0
       → (place + size ≤ length bytes) × ReadsCall bytes place (record { number = 0; call = call; next = place + size })
   reads-whole call size =
@@ -71,7 +72,7 @@ module _ (bytes : List ℕ) (place : ℕ) where
 
 -- From a record to the answer to its questions
 
--- question 14 is answered "yes", so the answer is that to the step's questions
+-- §7.2, §8.14, §9.4: question 14 is answered "yes", so the answer is that to the step's questions
 pub record-judged : (rows : List Constraint) (steps : List Step) (bytes : List ℕ) (place : ℕ) (call : Call) (next : ℕ) (a : Answer)
     → CallAt bytes place call next → Judged (questions rows steps call) a → Judged (recordQuestions rows steps bytes place) a
 unfolding recordQuestions

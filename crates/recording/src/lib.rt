@@ -23,9 +23,10 @@ pub struct CallRead {
 pub fn version(bytes: &[u8]) -> u8
     ensures { λ r. ⌜ r ≡ at (now (bytes .entry)) 0 ⌝ }
 {
-    number::byte_at(bytes, 0)
+    big_endian::byte_at(bytes, 0)
 }
 
+// §8.1, §8.13
 // Question 13: is the first byte there, and 1 or 2?
 pub fn version_known(bytes: &[u8]) -> bool
     ensures { λ r. ⌜ Decides (VersionKnown (now (bytes .entry))) r ⌝ }
@@ -74,7 +75,7 @@ fn eight_at(bytes: &[u8], place: usize) -> u64
             return eight_there(bytes, place);
         }
     }
-    number::eight_at(bytes, place)
+    big_endian::eight_at(bytes, place)
 }
 
 // The call of a record's bytes behind its length field, of which the last eight are its time.
@@ -87,11 +88,11 @@ fn call_of(version: u8, body: &[u8]) -> Call
     if length == 8 {
         return Call::Tick { time };
     }
-    let kind = number::byte_at(body, 0);
+    let kind = big_endian::byte_at(body, 0);
     if length == 9 {
         return Call::Event { kind, time };
     }
-    let colour = colour_in(version, number::byte_at(body, 1));
+    let colour = colour_in(version, big_endian::byte_at(body, 1));
     Call::ColouredEvent { kind, colour, time }
 }
 
@@ -103,7 +104,7 @@ fn size_of(stretch: &[u8]) -> usize
     if there < 10 {
         return 0;
     }
-    let length = number::two_at(stretch, 0);
+    let length = big_endian::two_at(stretch, 0);
     if length < 8 {
         return 0;
     }
@@ -143,6 +144,7 @@ fn read_record(version: u8, stretch: &[u8]) -> CallRead
     }
 }
 
+// §7.2, §8.14
 // The record at a place, which is read from its own stretch.
 pub fn call_at(bytes: &[u8], place: usize) -> CallRead
     ensures { λ r. ⌜ ReadsCall (now (bytes .entry)) place r ⌝ }

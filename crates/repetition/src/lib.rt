@@ -1,53 +1,54 @@
 // Repetition: for the hidden point of each of the last span events, or of all while they are fewer, the places where it can be, from
 // a low to a high. These stand in turn, the oldest first, and an event puts in two numbers.
 use constraint::NO_LIMIT;
-use machine::parts;
-use machine::words;
-use queue::SIZE;
-use queue::minus;
-use queue::time_at;
+use ring::SIZE;
+use ring::minus;
+use ring::time_at;
+use row_type::parts;
+use row_type::row_words;
 ghost use mathlib.Core.Path.{_≡_};
-ghost use Rattle.queue.specs.Ring.{ring};
-ghost use Rattle.machine.specs.Words.{noneKept, askedOf, Applies};
-ghost use Rattle.repetition.specs.Repetition.{fillsRepetition, takenRepetition, firstHigh, decideRepetition};
+ghost use Rattle.ring.specs.Ring.{ring};
+ghost use Rattle.row_type.specs.Words.{noneSaved, askedOf, Applies};
+ghost use Rattle.repetition.specs.Repetition.{overflowsRepetition, takenRepetition, firstHigh, decideRepetition};
 
+// §5.10
 // What an event makes of the row, where it lies. Its point comes at most upper behind the oldest that is kept, less one place for each point that is
 // still to come before the span is over; one of the first span is tied to no earlier one from below; with a later one the oldest leaves.
 pub fn apply(row: &mut [[u64; SIZE]; 2], stream: u64, t: u64, number: u64)
-    ensures { λ _. ⌜ Applies noneKept decideRepetition (now (row .entry)) stream t number (now (row .exit)) ⌝ }
+    ensures { λ _. ⌜ Applies noneSaved decideRepetition (now (row .entry)) stream t number (now (row .exit)) ⌝ }
 {
-    let head = row[1][words::HEAD] as usize;
-    let len = row[1][words::LEN] as usize;
+    let head = row[1][row_words::HEAD] as usize;
+    let len = row[1][row_words::LEN] as usize;
     let n = (len / 2) as u64;
-    let span = row[1][words::SPAN];
-    let upper = row[1][words::UPPER];
-    let near = minus(t, row[1][words::JITTER]);
+    let span = row[1][row_words::SPAN];
+    let upper = row[1][row_words::UPPER];
+    let near = minus(t, row[1][row_words::JITTER]);
     let first = parts::plus(first_high(&row[0], head, len, t), minus(upper, span));
     let high = parts::smaller(t, parts::plus(first, n));
     if n < span {
-        words::push_two(row, 0, near, high, number);
-        words::settle(&mut row[1], NO_LIMIT, 1);
+        row_words::push_two(row, 0, near, high, number);
+        row_words::settle(&mut row[1], NO_LIMIT, 1);
         return;
     }
     let oldest = parts::front(&row[0], head, len);
-    let low = parts::larger(near, parts::plus(oldest, row[1][words::LOWER]));
+    let low = parts::larger(near, parts::plus(oldest, row[1][row_words::LOWER]));
     if span <= upper && low <= high {
-        words::push_two(row, 2, low, high, number);
-        words::settle(&mut row[1], NO_LIMIT, 1);
+        row_words::push_two(row, 2, low, high, number);
+        row_words::settle(&mut row[1], NO_LIMIT, 1);
         return;
     }
-    words::break_at(row, number);
+    row_words::break_at(row, number);
 }
 
 // Whether an event lets two more numbers come, where there is no room for two.
-pub fn fills(w: &[u64; SIZE], stream: u64, t: u64) -> bool
-    ensures { λ r. ⌜ r ≡ askedOf fillsRepetition (now (w .entry)) stream t ⌝ }
+pub fn overflows(w: &[u64; SIZE], stream: u64, t: u64) -> bool
+    ensures { λ r. ⌜ r ≡ askedOf overflowsRepetition (now (w .entry)) stream t ⌝ }
 {
-    w[words::LEN] / 2 < w[words::SPAN]
+    w[row_words::LEN] / 2 < w[row_words::SPAN]
 }
 
 // How many places are taken where so many numbers are kept: none where the points of a span find room.
-pub fn taken(span: u64, len: u64) -> u64
+pub fn slots_used(span: u64, len: u64) -> u64
     ensures { λ r. ⌜ r ≡ takenRepetition span len ⌝ }
 {
     if 31 < span {

@@ -2,16 +2,16 @@
 use Rattle.row.proofs.Names.{FitsRow, List, List·getD-eq-default, Machine, [], _+_, _<_, _∷_, _≡_, _≢_, _⊎_, arith, fits-none, getD, inl, inr}
 use Rattle.row.proofs.Names.{machineOf, machines, noMachine, refl, suc, zero, ℕ}
 -- Made by release/row-types.py.
-use Rattle.pairs.proofs.Laws.Delay.{fitsDelay}
-use Rattle.pairs.proofs.Laws.StrongDelay.{fitsStrongDelay}
-use Rattle.spans.proofs.Laws.Repeat.{fitsRepeat}
-use Rattle.points.proofs.Laws.Sporadic.{fitsSporadic}
-use Rattle.pairs.proofs.Laws.Order.{fitsOrder}
-use Rattle.groups.proofs.Laws.StrongSynchronization.{fitsStrongSynchronization}
-use Rattle.phases.proofs.Laws.ExecutionTime.{fitsExecutionTime}
-use Rattle.chains.proofs.Laws.Reaction.{fitsReaction}
+use Rattle.delay_order.proofs.Laws.Delay.{fitsDelay}
+use Rattle.delay_order.proofs.Laws.StrongDelay.{fitsStrongDelay}
+use Rattle.repeat_burst.proofs.Laws.Repeat.{fitsRepeat}
+use Rattle.hidden_points.proofs.Laws.Sporadic.{fitsSporadic}
+use Rattle.delay_order.proofs.Laws.Order.{fitsOrder}
+use Rattle.synchronizations.proofs.Laws.StrongSynchronization.{fitsStrongSynchronization}
+use Rattle.execution.proofs.Laws.ExecutionTime.{fitsExecutionTime}
+use Rattle.event_chain.proofs.Laws.Reaction.{fitsReaction}
 use Rattle.repetition.proofs.Laws.Repetition.{fitsRepetition}
-use Rattle.groups.proofs.Laws.Synchronization.{fitsSynchronization}
+use Rattle.synchronizations.proofs.Laws.Synchronization.{fitsSynchronization}
 
 -- each of several machines fits a row, and so does the one of a number
 data EachFits : List Machine → Type 0 where
@@ -71,7 +71,7 @@ none-of (suc n) is =
     (is .0 .1))
     (is .1))
 
-pub fits : (form : ℕ) → FitsRow (machineOf form)
+pub fits : (tag : ℕ) → FitsRow (machineOf tag)
 fits =
     each-fits
     (one-more fits-none

@@ -12,25 +12,26 @@ pub use Rattle.constraint.specs.Continuation.{BrokenAt, Open, Reads, reads-brok
 pub use Rattle.constraint.specs.Steps.{Step, among, at, clock, close, event, own, tick}
 pub use Rattle.constraint.specs.{Accepted.KindsFit, Accepted.kinds, Limits.lastTime, Limits.streamCount, Limits.waitingLimit, Meets.Meets}
 pub use Rattle.constraint.specs.{Streams.kindOf, Types.fieldsOf, Waiting.waiting, declared.Constraint.Constraint, declared.Verdict.Verdict}
-pub use Rattle.machine.proofs.FitsRow.{FitsRow, crowds-of, fits-none, neither, words-few}
-pub use Rattle.machine.proofs.{FieldNumbers.kinds-are, SeveralKinds.kinds-small}
-pub use Rattle.machine.specs.{Machine.Machine, Machine.noMachine, Parts.noMarks, Rule.noKind, Rule.ruleOf, Rule.waitsIn, Words.Applies, Words.askedOf}
-pub use Rattle.machine.specs.{Words.ruleAt, declared.Change.Change, declared.Rule.Rule, declared.State.State}
-pub use Rattle.queue.proofs.{Laws.edit-back, Laws.items-edited, Laws.ring-length, Laws.ring-zeros, Laws.same-back, Laws.times-edited, Shared.free}
-pub use Rattle.queue.specs.Ring.{Ring, changed, dropRing, editPlace, edited, items, putBack, ring, ringOf, ringPlace, secondAt, timeAt}
-pub use Rattle.queue.specs.declared.Edit.{Edit}
-pub use Rattle.queue.specs.declared.Edit.the-variants.{Drop, Push, PushTwo, Store}
-pub use Rattle.row.specs.Apart.{appliedBefore, appliedRow, appliesBy, changeBy, fills, writesAt}
+pub use Rattle.row_type.proofs.FitsRow.{FitsRow, kind-overflows, fits-none, neither, words-few}
+pub use Rattle.row_type.proofs.{FieldNumbers.kinds-are, SeveralKinds.kinds-small}
+pub use Rattle.row_type.specs.{Machine.Machine, Machine.noMachine, Parts.noRegisters, Parameters.noKind, Parameters.parametersOf, Parameters.waitsIn}
+pub use Rattle.row_type.specs.{Words.Applies, Words.askedOf}
+pub use Rattle.row_type.specs.{Words.parametersAt, declared.Change.Change, declared.Parameters.Parameters, declared.State.State}
+pub use Rattle.ring.proofs.{Laws.edit-back, Laws.items-edited, Laws.ring-length, Laws.ring-zeros, Laws.same-back, Laws.times-edited, Shared.free}
+pub use Rattle.ring.specs.Ring.{Ring, changed, dropRing, editPlace, edited, items, putBack, ring, ringOf, ringPlace, secondAt, timeAt}
+pub use Rattle.ring.specs.declared.Edit.{Edit}
+pub use Rattle.ring.specs.declared.Edit.the-variants.{Drop, Push, PushTwo, Store}
+pub use Rattle.row.specs.StepParts.{undoOfEvent, appliedRow, appliesBy, changeBy, overflows, writesAt}
 pub use Rattle.row.specs.Machine.{brokenState, closeAt, concerns, crowding, decide, eventAt, itemsOf, machineOf, machines, mark, noEvent}
 pub use Rattle.row.specs.Machine.{rowFrom, stays, tickAt}
-pub use Rattle.row.specs.Stored.{Changes, RestZero, Unused, endedRow, endedSaves, eventKeeps, eventRow, eventSaves, filledBy, keptAtPlace}
-pub use Rattle.row.specs.Stored.{keptMarks, larger, nothing, pastOf, roomIn, stateAt}
-pub use Rattle.row.specs.Undo.{beforeOf, noBefore, noState, savedAt, savedRow}
-pub use Rattle.row.specs.{declared.Before.Before, declared.Occurrence.Occurrence, declared.Row.Row, declared.RowStep.RowStep}
+pub use Rattle.row.specs.Stored.{Changes, RestZero, Unused, endedRow, endedSaves, eventKeeps, eventRow, eventSaves, slotsUsedBy, keptAtPlace}
+pub use Rattle.row.specs.Stored.{savedRegisters, larger, nothing, undoRecordOf, hintAfterRow, stateAt}
+pub use Rattle.row.specs.Undo.{rowUndoOf, noRowUndo, noState, savedAt, savedRow}
+pub use Rattle.row.specs.{declared.RowUndo.RowUndo, declared.StepInput.StepInput, declared.Row.Row, declared.RowStep.RowStep}
 unfoldable pub use Rattle.constraint.specs.{Accepted.KindsSuit, Steps.clockFrom, Steps.closed}
-unfoldable pub use Rattle.machine.specs.Words.{changedWords, numberWords, rowWords}
-unfoldable pub use Rattle.queue.specs.Ring.{pushRing, putRing}
-unfoldable pub use Rattle.row.specs.Apart.{crowdedBy, endedState, endsBy, fullFor, steppedRow, withChange}
+unfoldable pub use Rattle.row_type.specs.Words.{changedWords, numberWords, rowWords}
+unfoldable pub use Rattle.ring.specs.Ring.{pushRing, putRing}
+unfoldable pub use Rattle.row.specs.StepParts.{crowdedBy, endedState, endsBy, eventOverflows, steppedRow, withChange}
 unfoldable pub use Rattle.row.specs.Machine.{applied, brokenRow, changedRow, rowOf, rowStep, rowVerdict}
-unfoldable pub use Rattle.row.specs.Stored.{appliedKeeps, stepKeeps, wordsOf}
+unfoldable pub use Rattle.row.specs.Stored.{appliedKeeps, stepKeeps, wordsOfRow}
 unfoldable pub use Rattle.row.specs.Undo.{backRow, keptWithout, movesBy, rowWithout, savedBy, stepPlace}

@@ -2,7 +2,7 @@
 -- an event is of one of the row's streams just where it is of one of its kinds.
 use Rattle.row.proofs.Names.{Constraint, KindsFit, KindsSuit, List, [], _++_, _<_, _||_, _∙_, _∷_, _≡_, _≤_, among, among-kinds, among-where}
 use Rattle.row.proofs.Names.{ap, arith, concerns, eqb, false, fieldsOf, kind-small, kindOf, kinds, kinds-are, kinds-small, length, ne-eqb}
-use Rattle.row.proofs.Names.{noEvent, noKind, refl, regular, replicate, ruleOf, split, streamCount, streams, suc, take, true, zero, ℕ}
+use Rattle.row.proofs.Names.{noEvent, noKind, refl, regular, replicate, parametersOf, split, streamCount, streams, suc, take, true, zero, ℕ}
 use Rattle.row.proofs.Exact.{OfStream}
 
 -- the kinds that a row lacks are no event's
@@ -18,13 +18,13 @@ among-first k (suc n) m (j ∷ ks) h few =
     split (eqb k j) (λ x. (x || among k (take n (ks ++ replicate m noKind))) ≡ (x || among k ks)) (λ e. refl)
     (λ e. among-first k n m ks h (omega arith))
 
-concerns-kind : (c : Constraint) (k : ℕ) → ¬ (k ≡ noKind) → concerns (ruleOf c) k ≡ among k (kinds c)
+concerns-kind : (c : Constraint) (k : ℕ) → ¬ (k ≡ noKind) → concerns (parametersOf c) k ≡ among k (kinds c)
 concerns-kind c k h = ap (among k) (kinds-are c) ∙ among-first k 4 4 (kinds c) h (regular c .sized .few-kinds)
 
-pub concerns-stream : (c : Constraint) (s : ℕ) → s < streamCount → concerns (ruleOf c) (kindOf s) ≡ among (kindOf s) (kinds c)
+pub concerns-stream : (c : Constraint) (s : ℕ) → s < streamCount → concerns (parametersOf c) (kindOf s) ≡ among (kindOf s) (kinds c)
 concerns-stream c s h = concerns-kind c (kindOf s) (λ e. omega (arith, kind-small s h))
 
-pub concerns-own : (c : Constraint) → KindsSuit c → (s : ℕ) → s < streamCount → concerns (ruleOf c) (kindOf s) ≡ among s (streams c)
+pub concerns-own : (c : Constraint) → KindsSuit c → (s : ℕ) → s < streamCount → concerns (parametersOf c) (kindOf s) ≡ among s (streams c)
 unfolding KindsSuit
 concerns-own c suit s h = concerns-stream c s h ∙ among-kinds s (fieldsOf c) suit
 
@@ -32,7 +32,7 @@ pub among-own : (c : Constraint) (s : ℕ) → among s (streams c) ≡ true → 
 among-own c s e = among-where s (streams c) e
 
 -- no event concerns a row: no kind is so large
-pub concerns-none : (c : Constraint) → KindsFit (kinds c) → concerns (ruleOf c) noEvent ≡ false
+pub concerns-none : (c : Constraint) → KindsFit (kinds c) → concerns (parametersOf c) noEvent ≡ false
 concerns-none c fit =
     rw (concerns-kind c noEvent (λ e. omega arith))
     (split (among noEvent (kinds c)) (λ x. x ≡ false)

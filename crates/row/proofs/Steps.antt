@@ -1,13 +1,13 @@
 -- A row of any type keeps what it has to: going on, it is open and holds what waits; broken, it has the first step after which no
 -- continuation was left. By cases on what the machine does at a step, from what each type proves.
-use Rattle.row.proofs.Names.{Accepts, Bool, BrokenAt, Change, Constraint, KindsSuit, List, Meets, Occurrence, Open, Past, Reads, Row, RowStep}
-use Rattle.row.proofs.Names.{Rule, State, Step, Valid, Verdict, [], _&&_, _++_, _+_, _<_, _∙_, _∷_, _≡_, _≤_, _⊎_, among, ap, append-nil}
+use Rattle.row.proofs.Names.{Accepts, Bool, BrokenAt, Change, Constraint, KindsSuit, List, Meets, StepInput, Open, Past, Reads, Row, RowStep}
+use Rattle.row.proofs.Names.{Parameters, State, Step, Valid, Verdict, [], _&&_, _++_, _+_, _<_, _∙_, _∷_, _≡_, _≤_, _⊎_, among, ap, append-nil}
 use Rattle.row.proofs.Names.{applied, arith, both, broken-later, broken-now, broken-shut, brokenRow, changed, changedRow, clock, clock-close}
 use Rattle.row.proofs.Names.{clock-event, clock-tick, clockFrom, close, closeAt, closed, closed-close, closed-event, closed-tick, cond}
 use Rattle.row.proofs.Names.{continues-closed, crowding, decide, edited, eqb, eqb-false, eqb-true, event, eventAt, false, inl, inr, items}
 use Rattle.row.proofs.Names.{items-edited, itemsOf, lastTime, le-ltb, length, lt-ltb, ltb, ltb-false, ltb-true, mark, meets-same, noEvent}
 use Rattle.row.proofs.Names.{open-at-tick, open-of-meets, own, own-close, own-other, own-tick, past-of, reads-broken, reads-kept, reads-open}
-use Rattle.row.proofs.Names.{refl, ring, ring-length, ring-zeros, ringOf, rowFrom, rowOf, rowStep, rowVerdict, ruleOf, split, stays}
+use Rattle.row.proofs.Names.{refl, ring, ring-length, ring-zeros, ringOf, rowFrom, rowOf, rowStep, rowVerdict, parametersOf, split, stays}
 use Rattle.row.proofs.Names.{streamCount, streams, subst, sym, tick, tickAt, times-edited, true, valid-more, waiting, waitingLimit, waitsIn}
 use Rattle.row.proofs.Names.{words-few, ℕ, ⊎-elim}
 use Rattle.row.proofs.Exact.{ByOutcome, Exact, GoesOn, Sound, Waits}
@@ -19,9 +19,9 @@ module _ (c : Constraint) (exact : Exact c) where
   -- a row that goes on
   pub record Going (steps : List Step) (words : List ℕ) (s : State) : Type 0 where
     pub unbroken : s .broken ≡ 0
-    pub live : exact .Live steps (s .marks) (ring words (s .head) (s .len))
-    pub due-is : s .due ≡ exact .due (s .marks) (ring words (s .head) (s .len))
-    pub kept-is : s .kept ≡ mark (exact .kept (s .marks) (ring words (s .head) (s .len)))
+    pub live : exact .Live steps (s .registers) (ring words (s .head) (s .len))
+    pub due-is : s .due ≡ exact .due (s .registers) (ring words (s .head) (s .len))
+    pub kept-is : s .kept ≡ mark (exact .kept (s .registers) (ring words (s .head) (s .len)))
     pub in-time : clock steps ≤ s .due
     pub room : s .len ≤ waitingLimit
     pub met : closed steps ≡ true → Meets c steps
@@ -32,7 +32,7 @@ module _ (c : Constraint) (exact : Exact c) where
     pub first : BrokenAt c steps broken
 
   pub record Fits (steps : List Step) (r : Row) : Type 0 where
-    pub rule-is : r .rule ≡ ruleOf c
+    pub parameters-is : r .parameters ≡ parametersOf c
     pub whole : length (r .times) ≡ 64
     pub state : Going steps (r .times) (r .now) ⊎ Broken steps (r .now .broken)
 
@@ -42,11 +42,12 @@ After c exact steps true r = Open c steps × (waitingLimit < waiting c steps)
 After c exact steps false r = Fits c exact steps r
 
 -- what holds of each row of the constraint's rule holds of a row that has that rule
-with-rule : (c : Constraint) (P : Row → Type 0) (r : Row) → r .rule ≡ ruleOf c → P (rowFrom (ruleOf c) (r .times) (r .now)) → P r
-with-rule c P r e p = subst (λ (rule : Rule). P (rowFrom rule (r .times) (r .now))) (sym e) p
+with-parameters : (c : Constraint) (P : Row → Type 0) (r : Row) → r .parameters ≡ parametersOf c → P (rowFrom (parametersOf c) (r .times) (r .now))
+    → P r
+with-parameters c P r e p = subst (λ (parameters : Parameters). P (rowFrom parameters (r .times) (r .now))) (sym e) p
 
 -- what a row sees of a step over the steps before it
-abbrev pub seen : List Step → Step → Occurrence
+abbrev pub seen : List Step → Step → StepInput
 seen steps (event k t) = eventAt k t
 seen steps (tick t) = tickAt t
 seen steps close = closeAt (clock steps)
@@ -68,7 +69,7 @@ pub fits-start : (c : Constraint) (exact : Exact c) → Fits c exact [] (rowOf c
 unfolding rowOf clockFrom closed
 fits-start c exact =
     record {
-      rule-is = refl;
+      parameters-is = refl;
       whole = refl;
       state = inl (record {
         unbroken = refl;
@@ -76,7 +77,7 @@ fits-start c exact =
         due-is = rw (ring-zeros 64 0 _) (exact .start .due-is);
         kept-is = rw (ring-zeros 64 0 _) (ap mark (exact .start .kept-is));
         in-time = omega arith;
-        room = words-few (ruleOf c);
+        room = words-few (parametersOf c);
         met = λ e. both (sym e);
       });
     }
@@ -90,16 +91,17 @@ module _ (c : Constraint) (exact : Exact c) (steps : List Step) (valid : Valid s
 
   -- by whether a row goes on or is broken
   by-state : (P : Row → Type 0) (r : Row) → Fits c exact steps r
-      → ((words : List ℕ) (s : State) → length words ≡ 64 → ltb 0 (s .broken) ≡ false → Going c exact steps words s → P (rowFrom (ruleOf c) words s))
+      → ((words : List ℕ) (s : State) → length words ≡ 64 → ltb 0 (s .broken) ≡ false → Going c exact steps words s
+      → P (rowFrom (parametersOf c) words s))
       → (ltb 0 (r .now .broken) ≡ true → Broken c exact steps (r .now .broken) → P r) → P r
   by-state P r f going broken =
       ⊎-elim
       (λ (g : Going c exact steps (r .times) (r .now)).
-      with-rule c P r (f .rule-is) (going (r .times) (r .now) (f .whole) (le-ltb 0 (r .now .broken) (omega (arith, g .unbroken))) g))
+      with-parameters c P r (f .parameters-is) (going (r .times) (r .now) (f .whole) (le-ltb 0 (r .now .broken) (omega (arith, g .unbroken))) g))
       (λ b. broken (lt-ltb 0 (r .now .broken) (b .counted)) b) (f .state)
 
   -- the clock is not past its due time
-  by-due : (words : List ℕ) (s : State) → (g : Going c exact steps words s) → clock steps ≤ exact .due (s .marks) (ring words (s .head) (s .len))
+  by-due : (words : List ℕ) (s : State) → (g : Going c exact steps words s) → clock steps ≤ exact .due (s .registers) (ring words (s .head) (s .len))
   by-due words s g = subst (λ (n : ℕ). clock steps ≤ n) (g .due-is) (g .in-time)
 
   -- ---- Open and Waiting
@@ -107,12 +109,12 @@ module _ (c : Constraint) (exact : Exact c) (steps : List Step) (valid : Valid s
   going-open : (words : List ℕ) (s : State) → closed steps ≡ false → Going c exact steps words s → Open c steps
   going-open words s o g = exact .is-open past o (g .live) (by-due words s g)
 
-  -- a row that is open has at most 64 waiting
+  -- §6.5, §8.12: a row that is open has at most 64 waiting
   pub fits-room : (r : Row) → Fits c exact steps r → Open c steps → waiting c steps ≤ waitingLimit
   fits-room r f o =
       ⊎-elim
       (λ (g : Going c exact steps (r .times) (r .now)).
-      waits-few (waitsIn (ruleOf c .form)) (omega (arith, ring-length (r .times) (r .now .head) (r .now .len), g .room))
+      waits-few (waitsIn (parametersOf c .tag)) (omega (arith, ring-length (r .times) (r .now .head) (r .now .len), g .room))
       (exact .waits past (g .live)))
       (λ b. absurd (broken-shut c (r .now .broken) valid (b .first) o)) (f .state)
 
@@ -120,17 +122,17 @@ module _ (c : Constraint) (exact : Exact c) (steps : List Step) (valid : Valid s
 
   -- the row that the machine makes of one that breaks
   broken-fits : (s : Step) (words : List ℕ) (was : State) → length words ≡ 64 → Open c steps → ¬ Open c (steps ++ (s ∷ []))
-      → Fits c exact (steps ++ (s ∷ [])) (brokenRow (rowFrom (ruleOf c) words was) (length steps + 1))
+      → Fits c exact (steps ++ (s ∷ [])) (brokenRow (rowFrom (parametersOf c) words was) (length steps + 1))
   unfolding brokenRow
   broken-fits s words was whole o shut =
-      record { rule-is = refl; whole = whole; state = inr (record { counted = omega arith; first = broken-now c steps s valid o shut }) }
+      record { parameters-is = refl; whole = whole; state = inr (record { counted = omega arith; first = broken-now c steps s valid o shut }) }
 
   -- one that is broken stays so
-  broken-stays : (s : Step) (r : Row) → r .rule ≡ ruleOf c → length (r .times) ≡ 64 → Broken c exact steps (r .now .broken)
+  broken-stays : (s : Step) (r : Row) → r .parameters ≡ parametersOf c → length (r .times) ≡ 64 → Broken c exact steps (r .now .broken)
       → Fits c exact (steps ++ (s ∷ [])) r
-  broken-stays s r rule whole b =
+  broken-stays s r parameters whole b =
       record {
-        rule-is = rule;
+        parameters-is = parameters;
         whole = whole;
         state = inr (record { counted = b .counted; first = broken-later c steps s (r .now .broken) (b .first) });
       }
@@ -139,10 +141,10 @@ module _ (c : Constraint) (exact : Exact c) (steps : List Step) (valid : Valid s
   going-on : (s : Step) (words : List ℕ) (was : State) → length words ≡ 64 → Going c exact steps words was
       → own (streams c) (steps ++ (s ∷ [])) ≡ own (streams c) steps → clock (steps ++ (s ∷ [])) ≤ was .due
       → (closed (steps ++ (s ∷ [])) ≡ true → Meets c (steps ++ (s ∷ [])))
-      → Fits c exact (steps ++ (s ∷ [])) (rowFrom (ruleOf c) words was)
+      → Fits c exact (steps ++ (s ∷ [])) (rowFrom (parametersOf c) words was)
   going-on s words was whole g same in-time met =
       record {
-        rule-is = refl;
+        parameters-is = refl;
         whole = whole;
         state = inl (record {
           unbroken = g .unbroken;
@@ -167,7 +169,7 @@ module _ (c : Constraint) (exact : Exact c) (steps : List Step) (valid : Valid s
 
     module _ (words : List ℕ) (was : State) (whole : length words ≡ 64) (g : Going c exact steps words was) where
       abbrev row-was : Row
-      row-was = rowFrom (ruleOf c) words was
+      row-was = rowFrom (parametersOf c) words was
 
       -- at a time past the due time no continuation was left already
       event-late : was .due < t → Fits c exact (steps ++ (event k t ∷ [])) (brokenRow row-was (length steps + 1))
@@ -195,10 +197,11 @@ module _ (c : Constraint) (exact : Exact c) (steps : List Step) (valid : Valid s
             exact .is-open (past-with (event k t) accepts) (closed-event k t steps ∙ accepts .not-closed) (goes .live)
             (rw (clock-event k t steps) (subst (λ (n : ℕ). t ≤ n) (goes .due-is) (goes .in-time)))
 
+        -- §6.5, §8.12
         crowded-after : waitingLimit < length kept-times → Open c (steps ++ (event k t ∷ [])) × (waitingLimit < waiting c (steps ++ (event k t ∷ [])))
         crowded-after many = (
           open-after,
-          waits-many (waitsIn (ruleOf c .form)) many (exact .waits (past-with (event k t) accepts) (goes .live)),
+          waits-many (waitsIn (parametersOf c .tag)) many (exact .waits (past-with (event k t) accepts) (goes .live)),
         )
 
         applied-fits : length kept-times ≤ waitingLimit → Fits c exact (steps ++ (event k t ∷ [])) (applied row-was change)
@@ -208,7 +211,7 @@ module _ (c : Constraint) (exact : Exact c) (steps : List Step) (valid : Valid s
             let new = edited (change .edit) old in
             let holds : items new ≡ kept-times = items-edited old whole (g .room) (change .edit) few in
             record {
-              rule-is = refl;
+              parameters-is = refl;
               whole = times-edited old (change .edit) ∙ whole;
               state = inl (record {
                 unbroken = refl;
@@ -247,7 +250,7 @@ module _ (c : Constraint) (exact : Exact c) (steps : List Step) (valid : Valid s
           (subst (λ (b : Bool). Holds (cond b (stays row-was) open-row)) (sym unbroken)
           (split (ltb (was .due) t) (λ x. Holds (cond x (stays (brokenRow row-was number)) in-time-row)) (λ e. event-late (ltb-true (was .due) t e))
           (λ e. split (among k (streams c)) (λ y. Holds (cond y (changedRow row-was change number) (stays row-was)))
-          (λ f. let soon : t ≤ exact .due (was .marks) (itemsOf row-was) = subst (λ (n : ℕ). t ≤ n) (g .due-is) (ltb-false (was .due) t e) in
+          (λ f. let soon : t ≤ exact .due (was .registers) (itemsOf row-was) = subst (λ (n : ℕ). t ≤ n) (g .due-is) (ltb-false (was .due) t e) in
           changed-after change (exact .does past (g .live) (among-own c k f) accepts soon))
           (λ f. event-other (ltb-false (was .due) t e) f))))
         where
@@ -255,7 +258,7 @@ module _ (c : Constraint) (exact : Exact c) (steps : List Step) (valid : Valid s
           number = length steps + 1
 
           change : Change
-          change = decide (ruleOf c) (was .marks) (itemsOf row-was) k t
+          change = decide (parametersOf c) (was .registers) (itemsOf row-was) k t
 
           in-time-row : RowStep
           in-time-row = cond (among k (streams c)) (changedRow row-was change number) (stays row-was)
@@ -273,14 +276,14 @@ module _ (c : Constraint) (exact : Exact c) (steps : List Step) (valid : Valid s
         cond (ltb (r .now .due) t) (stays (brokenRow r number)) (cond (closes && eqb (r .now .kept) 0) (stays (brokenRow r number)) (stays r))
 
     no-event : (words : List ℕ) (was : State) (t : ℕ) (closes : Bool) (number : ℕ) → ltb 0 (was .broken) ≡ false
-        → rowStep (rowFrom (ruleOf c) words was) (record { kind = noEvent; stream = streamCount; time = t; closes = closes }) number
-        ≡ other-row (rowFrom (ruleOf c) words was) t closes number
+        → rowStep (rowFrom (parametersOf c) words was) (record { kind = noEvent; stream = streamCount; time = t; closes = closes }) number
+        ≡ other-row (rowFrom (parametersOf c) words was) t closes number
     unfolding rowStep
     no-event words was t closes number unbroken = rw (unbroken, concerns-none c (sound .kinds-fit))
 
     tick-going : (t : ℕ) (accepts : Accepts steps (tick t)) (words : List ℕ) (was : State) → length words ≡ 64 → Going c exact steps words was
-        → After c exact (steps ++ (tick t ∷ [])) (other-row (rowFrom (ruleOf c) words was) t false (length steps + 1) .crowded)
-        (other-row (rowFrom (ruleOf c) words was) t false (length steps + 1) .row)
+        → After c exact (steps ++ (tick t ∷ [])) (other-row (rowFrom (parametersOf c) words was) t false (length steps + 1) .crowded)
+        (other-row (rowFrom (parametersOf c) words was) t false (length steps + 1) .row)
     tick-going t accepts words was whole g =
         split (ltb (was .due) t) (λ x. Holds (cond x (stays (brokenRow row-was (length steps + 1))) (stays row-was)))
         (λ e. broken-fits (tick t) words was whole (going-open words was (accepts .not-closed) g)
@@ -289,7 +292,7 @@ module _ (c : Constraint) (exact : Exact c) (steps : List Step) (valid : Valid s
         (λ shut. both (sym shut ∙ closed-tick t steps ∙ accepts .not-closed)))
       where
         row-was : Row
-        row-was = rowFrom (ruleOf c) words was
+        row-was = rowFrom (parametersOf c) words was
 
         Holds : RowStep → Type 0
         Holds s = After c exact (steps ++ (tick t ∷ [])) (s .crowded) (s .row)
@@ -301,8 +304,8 @@ module _ (c : Constraint) (exact : Exact c) (steps : List Step) (valid : Valid s
         (subst (λ (f : List Step). Meets c (steps ++ (close ∷ []) ++ f)) (continues-closed (closed-close steps) follows) meets)))
 
     close-going : closed steps ≡ false → (words : List ℕ) (was : State) → length words ≡ 64 → Going c exact steps words was
-        → After c exact (steps ++ (close ∷ [])) (other-row (rowFrom (ruleOf c) words was) (clock steps) true (length steps + 1) .crowded)
-        (other-row (rowFrom (ruleOf c) words was) (clock steps) true (length steps + 1) .row)
+        → After c exact (steps ++ (close ∷ [])) (other-row (rowFrom (parametersOf c) words was) (clock steps) true (length steps + 1) .crowded)
+        (other-row (rowFrom (parametersOf c) words was) (clock steps) true (length steps + 1) .row)
     close-going not-closed words was whole g =
         subst (λ (b : Bool). Holds (cond b (stays (brokenRow row-was (length steps + 1))) closing-row))
         (sym (le-ltb (was .due) (clock steps) (g .in-time)))
@@ -314,7 +317,7 @@ module _ (c : Constraint) (exact : Exact c) (steps : List Step) (valid : Valid s
         (exact .is-kept past (g .live) (by-due words was g) (marked (eqb-false (was .kept) 0 e))))))
       where
         row-was : Row
-        row-was = rowFrom (ruleOf c) words was
+        row-was = rowFrom (parametersOf c) words was
 
         Holds : RowStep → Type 0
         Holds s = After c exact (steps ++ (close ∷ [])) (s .crowded) (s .row)
@@ -323,7 +326,7 @@ module _ (c : Constraint) (exact : Exact c) (steps : List Step) (valid : Valid s
         closing-row = cond (eqb (was .kept) 0) (stays (brokenRow row-was (length steps + 1))) (stays row-was)
 
         kept-now : Bool
-        kept-now = exact .kept (was .marks) (ring words (was .head) (was .len))
+        kept-now = exact .kept (was .registers) (ring words (was .head) (was .len))
 
         mark-0 : (b : Bool) → mark b ≡ 0 → b ≡ false
         mark-0 true e = absurd (omega arith)
@@ -346,15 +349,15 @@ module _ (c : Constraint) (exact : Exact c) (steps : List Step) (valid : Valid s
     unfolding rowStep
     fits-step s accepts r f =
         by-state (λ r. Holds (rowStep r (seen steps s) (length steps + 1))) r f (by-step s accepts)
-        (λ e b. rw e (broken-stays s r (f .rule-is) (f .whole) b))
+        (λ e b. rw e (broken-stays s r (f .parameters-is) (f .whole) b))
       where
         Holds : RowStep → Type 0
         Holds x = After c exact (steps ++ (s ∷ [])) (x .crowded) (x .row)
 
         by-step : (s : Step) → Accepts steps s → (words : List ℕ) (was : State) → length words ≡ 64 → ltb 0 (was .broken) ≡ false
             → Going c exact steps words was
-            → After c exact (steps ++ (s ∷ [])) (rowStep (rowFrom (ruleOf c) words was) (seen steps s) (length steps + 1) .crowded)
-            (rowStep (rowFrom (ruleOf c) words was) (seen steps s) (length steps + 1) .row)
+            → After c exact (steps ++ (s ∷ [])) (rowStep (rowFrom (parametersOf c) words was) (seen steps s) (length steps + 1) .crowded)
+            (rowStep (rowFrom (parametersOf c) words was) (seen steps s) (length steps + 1) .row)
         by-step (event k t) a words was whole unbroken g = event-going k t a words was whole g (sound .kinds-suit) unbroken
         by-step (tick t) a words was whole unbroken g = rw (no-event words was t false (length steps + 1) unbroken) (tick-going t a words was whole g)
         by-step close a words was whole unbroken g =
@@ -363,13 +366,14 @@ module _ (c : Constraint) (exact : Exact c) (steps : List Step) (valid : Valid s
     -- the close crowds no row
     pub close-calm : (r : Row) → Fits c exact steps r → (number : ℕ) → rowStep r (closeAt (clock steps)) number .crowded ≡ false
     unfolding rowStep
-    close-calm r f number = with-rule c (λ r. rowStep r (closeAt (clock steps)) number .crowded ≡ false) r (f .rule-is) (calm (r .times) (r .now))
+    close-calm r f number = with-parameters c (λ r. rowStep r (closeAt (clock steps)) number .crowded ≡ false) r (f .parameters-is)
+        (calm (r .times) (r .now))
       where
         one-of : (b : Bool) (x y : RowStep) → x .crowded ≡ false → y .crowded ≡ false → cond b x y .crowded ≡ false
         one-of true x y p q = p
         one-of false x y p q = q
 
-        calm : (words : List ℕ) (was : State) → rowStep (rowFrom (ruleOf c) words was) (closeAt (clock steps)) number .crowded ≡ false
+        calm : (words : List ℕ) (was : State) → rowStep (rowFrom (parametersOf c) words was) (closeAt (clock steps)) number .crowded ≡ false
         calm words was =
             rw (concerns-none c (sound .kinds-fit))
             (one-of (ltb 0 (was .broken)) _ _ refl
@@ -384,7 +388,7 @@ module _ (c : Constraint) (exact : Exact c) (steps : List Step) (valid : Valid s
       by-state (λ r. Reads c steps (rowVerdict r (closed steps))) r f going-reads (λ e b. rw e (reads-broken (r .now .broken) (b .first)))
     where
       going-reads : (words : List ℕ) (was : State) → length words ≡ 64 → ltb 0 (was .broken) ≡ false → Going c exact steps words was
-          → Reads c steps (rowVerdict (rowFrom (ruleOf c) words was) (closed steps))
+          → Reads c steps (rowVerdict (rowFrom (parametersOf c) words was) (closed steps))
       going-reads words was whole unbroken g =
           subst (λ (b : Bool). Reads c steps (cond b (Verdict.Broken (was .broken)) (cond (closed steps) Verdict.Kept Verdict.Open))) (sym unbroken)
           (split (closed steps) (λ x. Reads c steps (cond x Verdict.Kept Verdict.Open))

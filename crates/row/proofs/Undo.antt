@@ -1,6 +1,6 @@
 -- A row that a step may change is put back word for word: an edit writes at its own place, or there and at the next, and a break writes no word. A
 -- row that it may not change stays as it is.
-use Rattle.row.proofs.Names.{Before, Bool, Change, List, Occurrence, Row, RowStep, _&&_, _≡_, ap, applied, backRow, both, brokenRow, changed}
+use Rattle.row.proofs.Names.{RowUndo, Bool, Change, List, StepInput, Row, RowStep, _&&_, _≡_, ap, applied, backRow, both, brokenRow, changed}
 use Rattle.row.proofs.Names.{changedRow, concerns, cond, crowding, decide, edit-back, editPlace, eq-eqb, eqb, false, itemsOf, length, ltb}
 use Rattle.row.proofs.Names.{movesBy, ne-eqb, putBack, refl, ringOf, rowFrom, rowStep, rowWithout, same-back, savedAt, savedBy, savedRow}
 use Rattle.row.proofs.Names.{secondAt, split, stays, stepPlace, timeAt, true, waitingLimit, ℕ}
@@ -16,11 +16,11 @@ module _ (r : Row) (whole : length (r .times) ≡ 64) where
 
   back-same : (place : ℕ) → Back place r
   unfolding backRow
-  back-same place number = ap (λ (words : List ℕ). rowFrom (r .rule) words (r .now)) (back-words place)
+  back-same place number = ap (λ (words : List ℕ). rowFrom (r .parameters) words (r .now)) (back-words place)
 
   back-broken : (place n : ℕ) → Back place (brokenRow r n)
   unfolding backRow brokenRow
-  back-broken place n number = ap (λ (words : List ℕ). rowFrom (r .rule) words (r .now)) (back-words place)
+  back-broken place n number = ap (λ (words : List ℕ). rowFrom (r .parameters) words (r .now)) (back-words place)
 
   -- one with a change
   abbrev at : Change → ℕ
@@ -29,7 +29,8 @@ module _ (r : Row) (whole : length (r .times) ≡ 64) where
   back-applied : (change : Change) → Back (at change) (applied r change)
   unfolding backRow applied
   back-applied change number =
-      ap (λ (words : List ℕ). rowFrom (r .rule) words (r .now)) (edit-back (ringOf (r .times) (r .now .head) (r .now .len)) (change .edit) whole)
+      ap (λ (words : List ℕ). rowFrom (r .parameters) words (r .now))
+      (edit-back (ringOf (r .times) (r .now .head) (r .now .len)) (change .edit) whole)
 
   back-changed : (change : Change) (n : ℕ) → Back (at change) (changedRow r change n .row)
   unfolding changedRow
@@ -47,17 +48,18 @@ module _ (r : Row) (whole : length (r .times) ≡ 64) where
       goes = cond more (crowding r) (stays (applied r change))
 
   -- what a step makes of the row is put back
-  pub step-back : (o : Occurrence) (n : ℕ) → Back (stepPlace r o) (rowStep r o n .row)
+  pub step-back : (o : StepInput) (n : ℕ) → Back (stepPlace r o) (rowStep r o n .row)
   unfolding rowStep stepPlace
   step-back o n =
       split (ltb 0 (r .now .broken)) (λ x. Back (cond x 0 late-place) (cond x (stays r) late .row)) (λ e. back-same 0) (λ e.
       split (ltb (r .now .due) (o .time)) (λ x. Back (cond x 0 own-place) (cond x (stays (brokenRow r n)) own .row)) (λ f. back-broken 0 n) (λ f.
-      split (concerns (r .rule) (o .kind)) (λ x. Back (cond x (at change) 0) (cond x (changedRow r change n) end .row)) (λ g. back-changed change n)
+      split (concerns (r .parameters) (o .kind)) (λ x. Back (cond x (at change) 0) (cond x (changedRow r change n) end .row))
+      (λ g. back-changed change n)
       (λ g.
       split unkept (λ x. Back 0 (cond x (stays (brokenRow r n)) (stays r) .row)) (λ h. back-broken 0 n) (λ h. back-same 0))))
     where
       change : Change
-      change = decide (r .rule) (r .now .marks) (itemsOf r) (o .stream) (o .time)
+      change = decide (r .parameters) (r .now .registers) (itemsOf r) (o .stream) (o .time)
 
       unkept : Bool
       unkept = o .closes && eqb (r .now .kept) 0
@@ -66,10 +68,10 @@ module _ (r : Row) (whole : length (r .times) ≡ 64) where
       end = cond unkept (stays (brokenRow r n)) (stays r)
 
       own : RowStep
-      own = cond (concerns (r .rule) (o .kind)) (changedRow r change n) end
+      own = cond (concerns (r .parameters) (o .kind)) (changedRow r change n) end
 
       own-place : ℕ
-      own-place = cond (concerns (r .rule) (o .kind)) (at change) 0
+      own-place = cond (concerns (r .parameters) (o .kind)) (at change) 0
 
       late : RowStep
       late = cond (ltb (r .now .due) (o .time)) (stays (brokenRow r n)) own
@@ -78,13 +80,13 @@ module _ (r : Row) (whole : length (r .times) ≡ 64) where
       late-place = cond (ltb (r .now .due) (o .time)) 0 own-place
 
 -- a row that what occurs may not change stays as it is
-pub still : (r : Row) (o : Occurrence) (n : ℕ) → movesBy (r .rule) (r .now) o ≡ false → rowStep r o n .row ≡ r
+pub still : (r : Row) (o : StepInput) (n : ℕ) → movesBy (r .parameters) (r .now) o ≡ false → rowStep r o n .row ≡ r
 unfolding movesBy rowStep
-still r o n e = by-tests (ltb 0 (r .now .broken)) (ltb (r .now .due) (o .time)) (o .closes) (concerns (r .rule) (o .kind)) e
+still r o n e = by-tests (ltb 0 (r .now .broken)) (ltb (r .now .due) (o .time)) (o .closes) (concerns (r .parameters) (o .kind)) e
   where
     by-tests : (broken late closes own : Bool) → cond broken false (cond late true (cond closes true own)) ≡ false
         → cond broken (stays r) (cond late (stays (brokenRow r n))
-        (cond own (changedRow r (decide (r .rule) (r .now .marks) (itemsOf r) (o .stream) (o .time)) n)
+        (cond own (changedRow r (decide (r .parameters) (r .now .registers) (itemsOf r) (o .stream) (o .time)) n)
         (cond (closes && eqb (r .now .kept) 0) (stays (brokenRow r n)) (stays r)))) .row ≡ r
     by-tests true late closes own e = refl
     by-tests false true closes own e = both e
@@ -92,13 +94,13 @@ still r o n e = by-tests (ltb 0 (r .now .broken)) (ltb (r .now .due) (o .time)) 
     by-tests false false false true e = both e
     by-tests false false false false e = refl
 
--- a row without the step that it has just taken is the row as it was, where nothing of that number was kept before
-pub row-without : (r : Row) (b : Before) (o : Occurrence) (number : ℕ) → length (r .times) ≡ 64 → ¬ (b .stamp ≡ number)
+-- §3.13: a row without the step that it has just taken is the row as it was, where nothing of that number was kept before
+pub row-without : (r : Row) (b : RowUndo) (o : StepInput) (number : ℕ) → length (r .times) ≡ 64 → ¬ (b .step ≡ number)
     → rowWithout number (rowStep r o number .row) (savedBy o number r b) ≡ r
 unfolding rowWithout savedBy
 row-without r b o number whole other =
-    split (movesBy (r .rule) (r .now) o)
-    (λ x. let kept = cond x (savedRow r o number) b in cond (eqb (kept .stamp) number) (backRow (rowStep r o number .row) kept)
+    split (movesBy (r .parameters) (r .now) o)
+    (λ x. let kept = cond x (savedRow r o number) b in cond (eqb (kept .step) number) (backRow (rowStep r o number .row) kept)
     (rowStep r o number .row) ≡ r)
     (λ e. rw (eq-eqb number number refl) (step-back r whole o number number))
-    (λ e. rw (ne-eqb (b .stamp) number other) (still r o number e))
+    (λ e. rw (ne-eqb (b .step) number other) (still r o number e))

@@ -1,5 +1,5 @@
 -- The machine of a row: what the code computes, as functions on numbers and lists.
 pub mod Machine
 pub mod Undo
-pub mod Apart
+pub mod StepParts
 pub mod Stored

@@ -9,28 +9,28 @@ use Rattle.constraint.specs.Streams.{kindOf}
 use Rattle.constraint.specs.Steps.{among}
 use Rattle.constraint.specs.declared.Constraint.{Constraint}
 use Rattle.constraint.specs.declared.Verdict.{Verdict}
-use Rattle.queue.specs.Ring.{Ring, ringOf, ring, changed, edited}
-use Rattle.machine.specs.Rule.{ruleOf, wordsOf}
-use Rattle.machine.specs.Parts.{noMarks}
-use Rattle.machine.specs.declared.Rule.{Rule}
-use Rattle.machine.specs.declared.Marks.{Marks}
-use Rattle.machine.specs.declared.Change.{Change}
-use Rattle.machine.specs.declared.State.{State}
-use Rattle.machine.specs.Machine.{Machine, noMachine}
-use Rattle.row.specs.declared.Occurrence.{Occurrence}
+use Rattle.ring.specs.Ring.{Ring, ringOf, ring, changed, edited}
+use Rattle.row_type.specs.Parameters.{parametersOf, startWordCount}
+use Rattle.row_type.specs.Parts.{noRegisters}
+use Rattle.row_type.specs.declared.Parameters.{Parameters}
+use Rattle.row_type.specs.declared.Registers.{Registers}
+use Rattle.row_type.specs.declared.Change.{Change}
+use Rattle.row_type.specs.declared.State.{State}
+use Rattle.row_type.specs.Machine.{Machine, noMachine}
+use Rattle.row.specs.declared.StepInput.{StepInput}
 use Rattle.row.specs.declared.Row.{Row}
 use Rattle.row.specs.declared.RowStep.{RowStep}
 -- Made by release/row-types.py.
-use Rattle.pairs.specs.Delay.{machineDelay}
-use Rattle.pairs.specs.StrongDelay.{machineStrongDelay}
-use Rattle.spans.specs.Repeat.{machineRepeat}
-use Rattle.points.specs.Sporadic.{machineSporadic}
-use Rattle.pairs.specs.Order.{machineOrder}
-use Rattle.groups.specs.StrongSynchronization.{machineStrongSynchronization}
-use Rattle.phases.specs.ExecutionTime.{machineExecutionTime}
-use Rattle.chains.specs.Reaction.{machineReaction}
+use Rattle.delay_order.specs.Delay.{machineDelay}
+use Rattle.delay_order.specs.StrongDelay.{machineStrongDelay}
+use Rattle.repeat_burst.specs.Repeat.{machineRepeat}
+use Rattle.hidden_points.specs.Sporadic.{machineSporadic}
+use Rattle.delay_order.specs.Order.{machineOrder}
+use Rattle.synchronizations.specs.StrongSynchronization.{machineStrongSynchronization}
+use Rattle.execution.specs.ExecutionTime.{machineExecutionTime}
+use Rattle.event_chain.specs.Reaction.{machineReaction}
 use Rattle.repetition.specs.Repetition.{machineRepetition}
-use Rattle.groups.specs.Synchronization.{machineSynchronization}
+use Rattle.synchronizations.specs.Synchronization.{machineSynchronization}
 
 -- the machines by the numbers of their types; 0 is no type's
 abbrev pub machines : List Machine
@@ -51,19 +51,19 @@ machines =
 
 -- a row of a number that is no type's breaks at its first event
 abbrev pub machineOf : ℕ → Machine
-machineOf form = getD machines form noMachine
+machineOf tag = getD machines tag noMachine
 
 -- what an event of one of the row's streams makes of it, by the number of its type, the clock not being past its due time
-abbrev pub decide : Rule → Marks → List ℕ → ℕ → ℕ → Change
-decide rule = machineOf (rule .form) .decide rule
+abbrev pub decide : Parameters → Registers → List ℕ → ℕ → ℕ → Change
+decide parameters = machineOf (parameters .tag) .decide parameters
 
 -- the event is of one of the row's kinds
-abbrev pub concerns : Rule → ℕ → Bool
-concerns rule kind = among kind (rule .first ∷ rule .second ∷ rule .third ∷ rule .fourth ∷ [])
+abbrev pub concerns : Parameters → ℕ → Bool
+concerns parameters kind = among kind (parameters .first ∷ parameters .second ∷ parameters .third ∷ parameters .fourth ∷ [])
 
 -- a row of its rule, its times and what it keeps beside them
-abbrev pub rowFrom : Rule → List ℕ → State → Row
-rowFrom rule times now = record { rule = rule; times = times; now = now }
+abbrev pub rowFrom : Parameters → List ℕ → State → Row
+rowFrom parameters times now = record { parameters = parameters; times = times; now = now }
 
 -- the times that a row keeps, the oldest first
 abbrev pub itemsOf : Row → List ℕ
@@ -74,28 +74,29 @@ abbrev pub mark : Bool → ℕ
 mark so = cond so 1 0
 
 -- a row of a constraint before any step: it is kept if the recording is closed now
-abbrev pub freshState : Rule → State
-freshState rule = record { marks = noMarks; head = 0; len = wordsOf rule; due = noLimit; kept = 1; broken = 0 }
+abbrev pub freshState : Parameters → State
+freshState parameters = record { registers = noRegisters; head = 0; len = startWordCount parameters; due = noLimit; kept = 1; broken = 0 }
 
 unfoldable pub rowOf : Constraint → Row
-rowOf c = rowFrom (ruleOf c) (replicate 64 0) (freshState (ruleOf c))
+rowOf c = rowFrom (parametersOf c) (replicate 64 0) (freshState (parametersOf c))
 
 -- the row broken at a step: it keeps the step and holds nothing waiting
 abbrev pub brokenState : ℕ → State
-brokenState number = record { marks = noMarks; head = 0; len = 0; due = noLimit; kept = 0; broken = number }
+brokenState number = record { registers = noRegisters; head = 0; len = 0; due = noLimit; kept = 0; broken = number }
 
+-- §6.4
 unfoldable pub brokenRow : Row → ℕ → Row
-brokenRow r number = rowFrom (r .rule) (r .times) (brokenState number)
+brokenRow r number = rowFrom (r .parameters) (r .times) (brokenState number)
 
 -- the row with a ring and what a change says of the rest
-abbrev pub goingRow : Rule → Ring → Change → Row
-goingRow rule q change =
-    rowFrom rule (q .times)
-    (record { marks = change .marks; head = q .head; len = q .len; due = change .due; kept = mark (change .kept); broken = 0 })
+abbrev pub goingRow : Parameters → Ring → Change → Row
+goingRow parameters q change =
+    rowFrom parameters (q .times)
+    (record { registers = change .registers; head = q .head; len = q .len; due = change .due; kept = mark (change .kept); broken = 0 })
 
 -- the row with a change
 unfoldable pub applied : Row → Change → Row
-applied r change = goingRow (r .rule) (edited (change .edit) (ringOf (r .times) (r .now .head) (r .now .len))) change
+applied r change = goingRow (r .parameters) (edited (change .edit) (ringOf (r .times) (r .now .head) (r .now .len))) change
 
 abbrev pub stays : Row → RowStep
 stays r = record { crowded = false; row = r }
@@ -117,22 +118,22 @@ abbrev pub noEvent : ℕ
 noEvent = 65
 
 -- what a row sees of a step that moves the clock to t: an event of a stream, a tick, the close
-abbrev pub eventAt : ℕ → ℕ → Occurrence
+abbrev pub eventAt : ℕ → ℕ → StepInput
 eventAt s t = record { kind = kindOf s; stream = s; time = t; closes = false }
 
-abbrev pub tickAt : ℕ → Occurrence
+abbrev pub tickAt : ℕ → StepInput
 tickAt t = record { kind = noEvent; stream = streamCount; time = t; closes = false }
 
-abbrev pub closeAt : ℕ → Occurrence
+abbrev pub closeAt : ℕ → StepInput
 closeAt t = record { kind = noEvent; stream = streamCount; time = t; closes = true }
 
 -- a step, of that number: is the row broken already, is the clock past its due time, is the event of one of its kinds, is it closed before it
 -- is kept?
-unfoldable pub rowStep : Row → Occurrence → ℕ → RowStep
+unfoldable pub rowStep : Row → StepInput → ℕ → RowStep
 rowStep r o number =
     cond (ltb 0 (r .now .broken)) (stays r)
     (cond (ltb (r .now .due) (o .time)) (stays (brokenRow r number))
-    (cond (concerns (r .rule) (o .kind)) (changedRow r (decide (r .rule) (r .now .marks) (itemsOf r) (o .stream) (o .time)) number)
+    (cond (concerns (r .parameters) (o .kind)) (changedRow r (decide (r .parameters) (r .now .registers) (itemsOf r) (o .stream) (o .time)) number)
     (cond (o .closes && eqb (r .now .kept) 0) (stays (brokenRow r number))
     (stays r))))
 

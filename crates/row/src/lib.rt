@@ -1,28 +1,28 @@
 // One row of the monitor: its constraint as numbers, what it keeps of the events so far, and its step.
 use constraint::Constraint;
 use constraint::NO_LIMIT;
-pub use machine::Marks;
-pub use machine::Rule;
-pub use machine::State;
-use machine::numbers;
-use machine::parts;
-use queue::SIZE;
+use ring::SIZE;
+pub use row_type::Parameters;
+pub use row_type::Registers;
+pub use row_type::State;
+use row_type::from_constraint;
+use row_type::parts;
 ghost use mathlib.Core.Path.{_≡_};
-ghost use Rattle.row.specs.Undo.{movesBy, savedBy, rowWithout, keptWithout, beforeOf, noBefore};
+ghost use Rattle.row.specs.Undo.{movesBy, savedBy, rowWithout, keptWithout, rowUndoOf, noRowUndo};
 ghost use Rattle.row.specs.Machine.{concerns, rowOf, rowStep};
 
 pub mod stored;
 
 #[repr(C)]
 pub struct Row {
-    pub rule: Rule,
+    pub parameters: Parameters,
     pub times: [u64; SIZE],
     pub now: State,
 }
 
 // What a row sees of a step: the kind of the event (65: no event) and its stream, the clock that the step leaves, and whether it closes the
 // recording.
-pub struct Occurrence {
+pub struct StepInput {
     pub kind: u64,
     pub stream: u64,
     pub time: u64,
@@ -38,24 +38,26 @@ pub struct RowStep {
 // What a row was before the step that last changed it: what it kept, the word of its ring at a place, or two from it on where 64 is added to it, and
 // the number of that step; 0 where there is none.
 #[repr(C)]
-pub struct Before {
+pub struct RowUndo {
     pub state: State,
     pub place: usize,
     pub first: u64,
     pub second: u64,
-    pub stamp: u64,
+    pub step: u64,
 }
 
+// §2.1
 // Whether an event of the kind is of one of the row's kinds.
-pub fn concerns(rule: Rule, kind: u64) -> bool
-    ensures { λ r. ⌜ r ≡ concerns rule kind ⌝ }
+pub fn concerns(parameters: Parameters, kind: u64) -> bool
+    ensures { λ r. ⌜ r ≡ concerns parameters kind ⌝ }
 {
-    kind == rule.first || (kind == rule.second || (kind == rule.third || kind == rule.fourth))
+    kind == parameters.first
+        || (kind == parameters.second || (kind == parameters.third || kind == parameters.fourth))
 }
 
 // Whether what occurs may change a row: one that is not broken and is overdue, or that the close finds, or that the event concerns.
-fn moves(rule: Rule, now: State, o: Occurrence) -> bool
-    ensures { λ r. ⌜ r ≡ movesBy rule now o ⌝ }
+fn moves(parameters: Parameters, now: State, o: StepInput) -> bool
+    ensures { λ r. ⌜ r ≡ movesBy parameters now o ⌝ }
 {
     if 0 < now.broken {
         return false;
@@ -66,7 +68,7 @@ fn moves(rule: Rule, now: State, o: Occurrence) -> bool
     if o.closes {
         return true;
     }
-    concerns(rule, o.kind)
+    concerns(parameters, o.kind)
 }
 
 impl Row {
@@ -74,28 +76,29 @@ impl Row {
     pub fn begin(c: Constraint) -> Self
         ensures { λ r. ⌜ r ≡ rowOf c ⌝ }
     {
-        let rule = numbers::rule_of(c);
+        let parameters = from_constraint::parameters_of(c);
         let now = State {
-            marks: parts::no_marks(),
+            registers: parts::no_registers(),
             head: 0,
-            len: numbers::words_of(rule),
+            len: from_constraint::start_word_count(parameters),
             due: NO_LIMIT,
             kept: 1,
             broken: 0,
         };
         Row {
-            rule,
+            parameters,
             times: [0u64; SIZE],
             now,
         }
     }
 
+    // §6.5
     // The row after what occurs, which is the step of that number.
-    pub fn step(self, o: Occurrence, number: u64) -> RowStep
+    pub fn step(self, o: StepInput, number: u64) -> RowStep
         ensures { λ r. ⌜ r ≡ rowStep self o number ⌝ }
     {
-        let mut words = stored::laid(self, Before::none());
-        if stored::crowded(&words, o) {
+        let mut words = stored::encode_row(self, RowUndo::none());
+        if stored::would_overflow(&words, o) {
             return RowStep {
                 crowded: true,
                 row: self,
@@ -104,52 +107,52 @@ impl Row {
         stored::step(&mut words, o, number);
         RowStep {
             crowded: false,
-            row: stored::row_at(&words),
+            row: stored::decode_row(&words),
         }
     }
 
     // What is kept of the row beside it after what occurs, which is the step of that number; as it was where the row stays as it is.
-    pub fn saved(self, before: Before, o: Occurrence, number: u64) -> Before
+    pub fn saved(self, before: RowUndo, o: StepInput, number: u64) -> RowUndo
         ensures { λ r. ⌜ r ≡ savedBy o number self before ⌝ }
     {
-        if !moves(self.rule, self.now, o) {
+        if !moves(self.parameters, self.now, o) {
             return before;
         }
-        let mut words = stored::laid(self, Before::of(self.now));
+        let mut words = stored::encode_row(self, RowUndo::of(self.now));
         stored::step(&mut words, o, number);
-        stored::before_at(&words)
+        stored::undo_at(&words)
     }
 
     // The row without the step of that number, by what is kept of it.
-    pub fn without(self, before: Before, number: u64) -> Self
+    pub fn without_step(self, before: RowUndo, number: u64) -> Self
         ensures { λ r. ⌜ r ≡ rowWithout number self before ⌝ }
     {
-        let mut words = stored::laid(self, before);
-        stored::without(&mut words, number);
-        stored::row_at(&words)
+        let mut words = stored::encode_row(self, before);
+        stored::undo_step(&mut words, number);
+        stored::decode_row(&words)
     }
 }
 
-impl Before {
+impl RowUndo {
     // A state is kept, and nothing else.
     fn of(state: State) -> Self
-        ensures { λ r. ⌜ r ≡ beforeOf state ⌝ }
+        ensures { λ r. ⌜ r ≡ rowUndoOf state ⌝ }
     {
-        Before {
+        RowUndo {
             state,
             place: 0,
             first: 0,
             second: 0,
-            stamp: 0,
+            step: 0,
         }
     }
 
     // Nothing is kept.
     pub fn none() -> Self
-        ensures { λ r. ⌜ r ≡ noBefore ⌝ }
+        ensures { λ r. ⌜ r ≡ noRowUndo ⌝ }
     {
-        Before::of(State {
-            marks: parts::no_marks(),
+        RowUndo::of(State {
+            registers: parts::no_registers(),
             head: 0,
             len: 0,
             due: 0,
@@ -159,11 +162,11 @@ impl Before {
     }
 
     // What is kept without the step of that number.
-    pub fn without(self, number: u64) -> Self
+    pub fn without_step(self, number: u64) -> Self
         ensures { λ r. ⌜ r ≡ keptWithout number self ⌝ }
     {
-        if self.stamp == number {
-            return Before::none();
+        if self.step == number {
+            return RowUndo::none();
         }
         self
     }

@@ -1,5 +1,5 @@
 -- §3.10, §3.11: rows are independent of each other, by the exported calls: what two hosts call is the machine's over two tables, of which it holds.
-use Rattle.sessions.proofs.Names.{Accepted, Answer, BeginsUpTo, Call, Constraint, EachBeside, Holds, Host, Left, List, Memory, Monitor}
+use Rattle.sessions.proofs.Names.{Accepted, Answer, BeginsUpTo, Call, Constraint, EachBeside, HoldsMonitor, Host, Left, List, Memory, Monitor}
 use Rattle.sessions.proofs.Names.{NoneFull, ReadsAlike, ReadsTableUpTo, Run, Step, Taken, TakesAll, [], _++_, _+_, _∙_, _∷_, _≡_, after}
 use Rattle.sessions.proofs.Names.{allTaken, answerFrom, answers-alike, ap, append-assoc, append-nil, ap₂, arith, asks, at, done, follows}
 use Rattle.sessions.proofs.Names.{follows-fresh, fresh-holds, getElem?, length, map, never, noneLeft, noneRefused, other-rows-alike, play}
@@ -45,7 +45,7 @@ same-numbers (n ∷ numbers) (k ∷ others) e =
 
 -- ---- what is read of two monitors whose verdicts are the same
 
-alike : (a b : Memory) (m m′ : Monitor) → Holds a m → Holds b m′ → (i j : ℕ) → verdictOf m i ≡ verdictOf m′ j → ReadsAlike a i b j
+alike : (a b : Memory) (m m′ : Monitor) → HoldsMonitor a m → HoldsMonitor b m′ → (i j : ℕ) → verdictOf m i ≡ verdictOf m′ j → ReadsAlike a i b j
 alike a b m m′ holds holds′ i j same =
     record {
       words = λ word word′ w w′. w m holds .says .equals ∙ ap wordOf same ∙ sym (w′ m′ holds′ .says .equals);
@@ -63,10 +63,10 @@ module _ {newest newest′ : ℕ} (table table′ : List ℕ) (before before′ 
   accepted′ : Accepted rows′
   accepted′ = (at table′ 0, read-accepted table′ rows′ read′)
 
-  start : Holds h (after rows [])
+  start : HoldsMonitor h (after rows [])
   start = fresh-holds table before rows h read begins
 
-  start′ : Holds h′ (after rows′ [])
+  start′ : HoldsMonitor h′ (after rows′ [])
   start′ = fresh-holds table′ before′ rows′ h′ read′ begins′
 
   -- §3.10: two lists of calls that are all taken, beside each other at each place. Their first parts are such lists too, so it is so after each place

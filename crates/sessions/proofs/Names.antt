@@ -16,10 +16,10 @@ pub use Rattle.delkuthi.specs.{Lent.StepOfVerdict, Lent.wordOf}
 pub use Rattle.delkuthi.specs.Reporting.{LeftBy, ReportsSteps, unused, used}
 pub use Rattle.delkuthi.specs.Taking.{RecordingTakenAs}
 pub use Rattle.fresh.specs.Fresh.{Begins, BeginsUpTo, begun, freshLent, refused}
-pub use Rattle.lent.proofs.{Blocks.row-read, Lists.SameLists, Lists.lists-stay}
-pub use Rattle.lent.proofs.Parts.{coloured-read, entries-read, numbers-read}
-pub use Rattle.lent.specs.Contract.{Holds, Indexes, ReadOff, Takes, answerFrom}
-pub use Rattle.lent.specs.{Layout.Lent, Layout.Shaped, Layout.halves, Layout.keptAt, Layout.rowAt, Layout.wordsOf, Steps.leaves}
+pub use Rattle.in_place.proofs.{Blocks.row-read, Lists.SameLists, Lists.lists-stay}
+pub use Rattle.in_place.proofs.Parts.{coloured-read, entries-read, numbers-read}
+pub use Rattle.in_place.specs.Contract.{HoldsMonitor, Indexes, ReadOff, Takes, answerFrom}
+pub use Rattle.in_place.specs.{Layout.Lent, Layout.Shaped, Layout.halves, Layout.keptAt, Layout.rowAt, Layout.wordsOfLent, Steps.leaves}
 pub use Rattle.monitor.proofs.Independent.{answers-alike, other-rows-alike, rows-apart}
 pub use Rattle.monitor.proofs.Theorem.{monitor-is-exact, struck-out}
 pub use Rattle.monitor.specs.Beside.{EachBeside, NoneFull, TakesAll, allTaken}
@@ -29,10 +29,10 @@ pub use Rattle.row.specs.{declared.Row.Row}
 pub use Rattle.sessions.specs.LentExact.{LentExact, LentExactUpTo, ReadsRecorded, cut, whole}
 pub use Rattle.sessions.specs.Monitors.{Monitors, SameButUndo, SameNumbers, SameRow}
 pub use Rattle.sessions.specs.{Apart.ReadsAlike, Readers.ReadsAs}
-pub use Rattle.status.specs.Contract.{Asked}
-pub use Rattle.table.proofs.{AcceptedRows.read-accepted, Once.reads-once}
+pub use Rattle.queries.specs.Contract.{QueryAnswer}
+pub use Rattle.table.proofs.{AcceptedRows.read-accepted, ReadUnique.reads-once}
 pub use Rattle.table.specs.declared.ReadAnswer.{ReadAnswer}
 unfoldable pub use Rattle.constraint.specs.{Promise.play}
-unfoldable pub use Rattle.machine.specs.Words.{numberWords, rowWords}
+unfoldable pub use Rattle.row_type.specs.Words.{numberWords, rowWords}
 unfoldable pub use Rattle.monitor.specs.{Contract.after, Machine.bare, Machine.verdictOf}
 unfoldable pub use Rattle.sessions.specs.LentExact.{leavesAll}

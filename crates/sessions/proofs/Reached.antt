@@ -1,9 +1,9 @@
 -- Memory that a host's calls have reached from a fresh monitor keeps all that is promised of a monitor: the calls are the machine's.
-use Rattle.sessions.proofs.Names.{Accepted, Answer, Call, Constraint, Holds, Host, Indexes, Judged, Keeps, Left, List, Memory, Monitors}
+use Rattle.sessions.proofs.Names.{Accepted, Answer, Call, Constraint, HoldsMonitor, Host, Indexes, Judged, Keeps, Left, List, Memory, Monitors}
 use Rattle.sessions.proofs.Names.{Option, ReadOff, Request, Run, SameButUndo, StepOfVerdict, Takes, TakesAll, Verdict, [], _++_, _<_, _∙_, _∷_}
 use Rattle.sessions.proofs.Names.{_≡_, after, answerFrom, ap, arith, asked, asks, bare, done, follows-fresh, freshLent, leavesAll, leftBy}
 use Rattle.sessions.proofs.Names.{length, map, monitor-is-exact, none, noneLeft, noneRefused, over, play, refl, request, requestQuestions}
-use Rattle.sessions.proofs.Names.{run-once, some, stepIn, struck-out, subst, subst₂, sym, wordsOf, ℕ}
+use Rattle.sessions.proofs.Names.{run-once, some, stepIn, struck-out, subst, subst₂, sym, wordsOfLent, ℕ}
 use Rattle.sessions.proofs.{Reading.readers, Words.Leaves, Words.leaves-known, Words.same-words}
 
 -- from the words of the monitor that is fresh over the rows, by requests that leave these steps
@@ -13,11 +13,11 @@ pub record Reached (h : Memory) (rows : List Constraint) (left : Left) : Type 0 
   pub requests : List Request
   pub numbers : List ℕ
   pub answers : List Answer
-  pub host : Host (wordsOf (freshLent rows)) requests numbers h
+  pub host : Host (wordsOfLent (freshLent rows)) requests numbers h
   pub run : Run rows noneLeft requests answers left
 
 -- the fresh monitor itself
-pub reached-fresh : (rows : List Constraint) → Accepted rows → Indexes (freshLent rows) → Reached (wordsOf (freshLent rows)) rows noneLeft
+pub reached-fresh : (rows : List Constraint) → Accepted rows → Indexes (freshLent rows) → Reached (wordsOfLent (freshLent rows)) rows noneLeft
 reached-fresh rows accepted indexes =
     record { accepted = accepted; indexes = indexes; requests = []; numbers = []; answers = []; host = over; run = done }
 
@@ -44,17 +44,17 @@ module _ {h : Memory} {rows : List Constraint} {left : Left} (r : Reached h rows
   leaves-here = leaves-known (freshLent rows) refl (r .indexes) (r .host)
 
   -- each word
-  pub reached-words : h ≡ wordsOf (leavesAll (freshLent rows) (r .requests))
+  pub reached-words : h ≡ wordsOfLent (leavesAll (freshLent rows) (r .requests))
   reached-words = leaves-here .words-are
 
   monitor-here : leavesAll (freshLent rows) (r .requests) .monitor ≡ after rows (r .requests)
   unfolding after play
   monitor-here = leaves-here .monitor-is
 
-  start : Holds (wordsOf (freshLent rows)) (after rows [])
+  start : HoldsMonitor (wordsOfLent (freshLent rows)) (after rows [])
   start = record { lent = freshLent rows; words-are = refl; indexes = r .indexes; monitor-is = refl }
 
-  pub reached-holds : Holds h (after rows (r .requests))
+  pub reached-holds : HoldsMonitor h (after rows (r .requests))
   reached-holds =
       record { lent = _; words-are = leaves-here .words-are; indexes = leaves-here .indexes; monitor-is = monitor-here }
 
@@ -90,7 +90,7 @@ module _ {h : Memory} {rows : List Constraint} {left : Left} (r : Reached h rows
       later _ (follows-fresh rows start (host-append (r .host) further-host)) .says .equals ∙ ap stepIn still
 
   struck : (calls : List Call) × TakesAll rows calls (left .steps)
-      × ((struck : Memory) → Host (wordsOf (freshLent rows)) (map asks calls) (noneRefused calls) struck → SameButUndo h struck)
+      × ((struck : Memory) → Host (wordsOfLent (freshLent rows)) (map asks calls) (noneRefused calls) struck → SameButUndo h struck)
   unfolding after play
   struck =
       let (left′, remains, calls, taken, same) = struck-out rows (r .accepted) (r .requests) in (

@@ -1,10 +1,11 @@
 -- Each reader's contract speaks of every list of calls and withdrawals that has made the monitor, and a list has one outcome.
-use Rattle.sessions.proofs.Names.{Accepted, Answer, Asked, Constraint, Holds, Left, List, Memory, Pages, ReadsAs, ReadsRow, ReportsSteps}
+use Rattle.sessions.proofs.Names.{Accepted, Answer, QueryAnswer, Constraint, HoldsMonitor, Left, List, Memory, Pages, ReadsAs, ReadsRow}
+use Rattle.sessions.proofs.Names.{ReportsSteps}
 use Rattle.sessions.proofs.Names.{Request, Run, Step, after, monitor-is-exact, noneLeft, play, refl, run-once, subst, verdictOf, ℕ}
 
 module _ (rows : List Constraint) (requests : List Request) (answers : List Answer) (left : Left) (accepted : Accepted rows)
     (run : Run rows noneLeft requests answers left) where
-  asked-says : {number answer : ℕ} {Says : List Constraint → List Step → ℕ → Type 0} → Asked (after rows requests) number Says answer
+  asked-says : {number answer : ℕ} {Says : List Constraint → List Step → ℕ → Type 0} → QueryAnswer (after rows requests) number Says answer
       → Says rows (left .steps) answer
   asked-says {answer = answer} {Says = Says} a =
       let means = a .means rows requests accepted refl in
@@ -16,7 +17,7 @@ module _ (rows : List Constraint) (requests : List Request) (answers : List Answ
       let exact = monitor-is-exact .exact rows accepted requests in
       subst (λ (l : Left). ReadsRow rows (l .steps) i (verdictOf (after rows requests) i)) (run-once rows (exact .1) run .1) (exact .2 i)
 
-  pub readers : (h : Memory) → Holds h (after rows requests) → ReadsAs h rows (left .steps)
+  pub readers : (h : Memory) → HoldsMonitor h (after rows requests) → ReadsAs h rows (left .steps)
   readers h holds =
       let m = after rows requests in
       record {

@@ -2,12 +2,12 @@
 use Rattle.sessions.proofs.Names.{Accepted, BeginsUpTo, Call, Constraint, Host, Indexes, LeftBy, List, Memory, ReadAnswer, ReadsRecorded}
 use Rattle.sessions.proofs.Names.{ReadsTableUpTo, RecordingTakenAs, Refused, Step, TakesAll, [], _++_, _<_, _∷_, _≡_, after, allTaken, arith}
 use Rattle.sessions.proofs.Names.{asks, at, begun, close, cut, freshLent, map, never, noneRefused, reads-once, refl, refused, subst, table-of}
-use Rattle.sessions.proofs.Names.{table-refused, unused, used, whole, wordsOf, ℕ}
+use Rattle.sessions.proofs.Names.{table-refused, unused, used, whole, wordsOfLent, ℕ}
 use Rattle.sessions.proofs.Reached.{Reached, monitors}
 
 -- calls that are all taken
 pub reached-taken : {end : Memory} (rows : List Constraint) (calls : List Call) (steps : List Step) → Accepted rows → Indexes (freshLent rows)
-    → (taken : TakesAll rows calls steps) → Host (wordsOf (freshLent rows)) (map asks calls) (noneRefused calls) end
+    → (taken : TakesAll rows calls steps) → Host (wordsOfLent (freshLent rows)) (map asks calls) (noneRefused calls) end
     → Reached end rows (record { steps = steps; may = taken .0 })
 reached-taken rows calls steps accepted indexes taken host =
     record {
@@ -43,7 +43,7 @@ begun-with table rows read begins =
 -- what the readers read then
 reads-recorded : {end : Memory} (rows : List Constraint) (recording : List ℕ) (answer : ReadAnswer) (calls : List Call) → Accepted rows
     → Indexes (freshLent rows) → RecordingTakenAs rows recording answer calls
-    → Host (wordsOf (freshLent rows)) (map asks calls) (noneRefused calls) end → ReadsRecorded end rows recording
+    → Host (wordsOfLent (freshLent rows)) (map asks calls) (noneRefused calls) end → ReadsRecorded end rows recording
 reads-recorded rows recording ReadAnswer.Accepted calls accepted indexes (steps, reads, taken) host =
     whole steps reads (monitors (reached-taken rows calls (steps ++ (close ∷ [])) accepted indexes taken host) .reads)
 reads-recorded rows recording (ReadAnswer.Refused n place) calls accepted indexes (steps, reads, earlier, taken) host =

@@ -3,7 +3,7 @@
 use Rattle.sessions.proofs.Names.{Accepted, BeginsUpTo, Call, Constraint, Host, Indexes, Left, LeftBy, List, Memory, ReadAnswer}
 use Rattle.sessions.proofs.Names.{ReadsTableUpTo, RecordingTakenAs, Refused, Request, Run, Step, Takes, TakesAll, [], _++_, _∷_, _≡_, allTaken}
 use Rattle.sessions.proofs.Names.{answerFrom, arith, asks, begun, close, done, freshLent, leaves, leftBy, map, none, noneLeft, noneRefused}
-use Rattle.sessions.proofs.Names.{refl, refused, request, stepFor, subst, table-of, true, unused, used, wordsOf, zero, ℕ}
+use Rattle.sessions.proofs.Names.{refl, refused, request, stepFor, subst, table-of, true, unused, used, wordsOfLent, zero, ℕ}
 use Rattle.sessions.proofs.Reached.{Reached, monitors, reached-fresh, reached-judged, reached-more}
 use Rattle.sessions.proofs.Recorded.{begun-with, fresh-refused, left-refused, reached-taken}
 use Rattle.sessions.specs.Session as S
@@ -31,7 +31,7 @@ all-from [] done e = e
 all-from (c ∷ calls) (request {left = left} _ _ judged rest) e = all-from calls rest (all-more (left .steps) (stepFor c))
 
 reached-all : {end : Memory} (rows : List Constraint) (calls : List Call) (steps : List Step) → Accepted rows → Indexes (freshLent rows)
-    → TakesAll rows calls steps → Host (wordsOf (freshLent rows)) (map asks calls) (noneRefused calls) end → Reached end rows (S.allLeft steps)
+    → TakesAll rows calls steps → Host (wordsOfLent (freshLent rows)) (map asks calls) (noneRefused calls) end → Reached end rows (S.allLeft steps)
 reached-all {end} rows calls steps accepted indexes taken host =
     subst (Reached end rows) (all-from calls (taken .1) refl) (reached-taken rows calls steps accepted indexes taken host)
 
@@ -50,7 +50,7 @@ module _ (h : Memory) (known : S.Standing) (reached : Stands-in h known) where
 
   by-recording : {newest : ℕ} (table recording : List ℕ) {mid : Memory} (rows : List Constraint) (answer : ReadAnswer) (calls : List Call)
       → ReadsTableUpTo newest table (table-of rows) → Accepted rows → Indexes (freshLent rows) → RecordingTakenAs rows recording answer calls
-      → Host (wordsOf (freshLent rows)) (map asks calls) (noneRefused calls) mid → Then mid (S.ReportLeaves newest table recording known)
+      → Host (wordsOfLent (freshLent rows)) (map asks calls) (noneRefused calls) mid → Then mid (S.ReportLeaves newest table recording known)
   by-recording table recording rows ReadAnswer.Accepted calls read accepted indexes (steps, reads, taken) host = (
     S.monitor rows (S.allLeft (steps ++ (close ∷ []))),
     S.all-taken rows steps read reads,
@@ -98,6 +98,7 @@ untouched (S.fresh newest table number begins rest) = (fresh-refused begins, unt
 untouched (S.request r number takes rest) = (λ above. takes .untouched (λ zero. omega arith), untouched rest)
 untouched (S.report-on newest table recording buffer number written on rest) = (left-refused table recording (on .left-by), untouched rest)
 
+-- §7.22, §11.2
 pub session-is-exact : {h end : Memory} (session : S.Session h end) → S.SessionExact session
 session-is-exact {end = end} session =
     let (known, answers, there) = through S.nothing tt session in

@@ -3,19 +3,19 @@
 use Rattle.sessions.proofs.Names.{Host, Indexes, Lent, List, Memory, Monitor, Request, Row, SameBare, SameButUndo, SameLists, SameNumbers}
 use Rattle.sessions.proofs.Names.{SameRow, Shaped, Stepped, [], _-_, _<_, _∙_, _∷_, _≡_, ap, asked, bare, coloured-read, drop, entries-read}
 use Rattle.sessions.proofs.Names.{getD, halves, keptAt, leaves, leavesAll, lists-stay, noRow, numberWords, numbers-read, over, play, refl}
-use Rattle.sessions.proofs.Names.{row-read, rowAt, rowWords, step, subst, subst₂, sym, take, wordsOf, ℕ}
+use Rattle.sessions.proofs.Names.{row-read, rowAt, rowWords, step, subst, subst₂, sym, take, wordsOfLent, ℕ}
 use Rattle.row.specs.Stored as Stored
 
 -- ---- every word after a list of calls
 
 -- what the list leaves: each word, which says what is so of the monitor; the lists of rows as they were; and the machine's monitor
 pub record Leaves (h : Lent) (requests : List Request) (end : Memory) : Type 0 where
-  pub words-are : end ≡ wordsOf (leavesAll h requests)
+  pub words-are : end ≡ wordsOfLent (leavesAll h requests)
   pub indexes : Indexes (leavesAll h requests)
   pub lists : SameLists h (leavesAll h requests)
   pub monitor-is : leavesAll h requests .monitor ≡ play step (h .monitor) requests .monitor
 
-pub leaves-known : {words end : Memory} {requests : List Request} {numbers : List ℕ} (h : Lent) → words ≡ wordsOf h → Indexes h
+pub leaves-known : {words end : Memory} {requests : List Request} {numbers : List ℕ} (h : Lent) → words ≡ wordsOfLent h → Indexes h
     → Host words requests numbers end → Leaves h requests end
 unfolding leavesAll play
 leaves-known h are indexes over = record { words-are = are; indexes = indexes; lists = (refl, refl); monitor-is = refl }
@@ -38,14 +38,14 @@ module _ (x y : Lent) (shaped : Shaped x) (shaped′ : Shaped y) (same : SameBar
   unfolding bare
   rows-same = ap (λ (m : Monitor). m .rows) same
 
-  row-same : (i : ℕ) → i < 32 → SameRow (getD (wordsOf x) i []) (getD (wordsOf y) i [])
-  unfolding Stored.wordsOf rowWords numberWords
+  row-same : (i : ℕ) → i < 32 → SameRow (getD (wordsOfLent x) i []) (getD (wordsOfLent y) i [])
+  unfolding Stored.wordsOfRow rowWords numberWords
   row-same i small =
       subst₂ SameRow (sym (row-read x shaped i small)) (sym (row-read y shaped′ i small))
-      (subst (λ (r : Row). SameRow (Stored.wordsOf (rowAt (x .monitor) i) (keptAt (x .monitor) i)) (Stored.wordsOf r (keptAt (y .monitor) i)))
+      (subst (λ (r : Row). SameRow (Stored.wordsOfRow (rowAt (x .monitor) i) (keptAt (x .monitor) i)) (Stored.wordsOfRow r (keptAt (y .monitor) i)))
       (ap (λ (rows : List Row). getD rows i noRow) rows-same) (refl, refl, refl))
 
-  numbers-same : x .ends ≡ y .ends → SameNumbers (getD (wordsOf x) 32 []) (getD (wordsOf y) 32 [])
+  numbers-same : x .ends ≡ y .ends → SameNumbers (getD (wordsOfLent x) 32 []) (getD (wordsOfLent y) 32 [])
   unfolding bare
   numbers-same ends =
       subst₂ SameNumbers (sym (numbers-read x shaped)) (sym (numbers-read y shaped′)) (
@@ -54,7 +54,7 @@ module _ (x y : Lent) (shaped : Shaped x) (shaped′ : Shaped y) (same : SameBar
         ends,
       )
 
-  pub same-words : x .ends ≡ y .ends → x .entries ≡ y .entries → SameButUndo (wordsOf x) (wordsOf y)
+  pub same-words : x .ends ≡ y .ends → x .entries ≡ y .entries → SameButUndo (wordsOfLent x) (wordsOfLent y)
   unfolding bare
   same-words ends entries =
       record {

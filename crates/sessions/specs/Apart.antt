@@ -1,7 +1,7 @@
 -- One row in two memories (§3.10, §3.11).
 use Prim.Native.Nat.{ℕ}
 use mathlib.Core.Path.{_≡_}
-use Rattle.lent.specs.Contract.{ReadOff}
+use Rattle.in_place.specs.Contract.{ReadOff}
 use Rattle.delkuthi.specs.Host.{Memory}
 use Rattle.delkuthi.specs.Lent.{WordOfVerdict, StepOfVerdict}
 

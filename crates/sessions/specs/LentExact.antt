@@ -8,9 +8,9 @@ use Rattle.constraint.specs.Table.{ReadsTableUpTo, table-of, table-refused}
 use Rattle.constraint.specs.Recording.{ReadsRecording, recording-of, recording-refused}
 use Rattle.constraint.specs.Report.{ReportsUpTo}
 use Rattle.constraint.specs.declared.Constraint.{Constraint}
-use Rattle.lent.specs.Layout.{Lent, wordsOf}
-use Rattle.lent.specs.Steps.{leaves}
-use Rattle.lent.specs.Contract.{answerFrom, ReadOff}
+use Rattle.in_place.specs.Layout.{Lent, wordsOfLent}
+use Rattle.in_place.specs.Steps.{leaves}
+use Rattle.in_place.specs.Contract.{answerFrom, ReadOff}
 use Rattle.fresh.specs.Fresh.{BeginsUpTo, freshLent}
 use Rattle.delkuthi.specs.Host.{Memory, Host, Untouched}
 use Rattle.delkuthi.specs.Taking.{StepsBefore}
@@ -27,7 +27,8 @@ pub data ReadsRecorded (h : Memory) (rows : List Constraint) (recording : List �
   cut : (n place : ℕ) (steps : List Step) → ReadsRecording rows recording (recording-refused n place) → StepsBefore rows recording place steps
       → ReadsAs h rows steps → ReadsRecorded h rows recording
 
--- §7.22: the report is that of its table and recording, whatever lay in the memory; where the table is refused the memory is as it was, and else
+-- §7.22, §11.2:
+-- the report is that of its table and recording, whatever lay in the memory; where the table is refused the memory is as it was, and else
 -- the readers read what the recording has left
 pub record Reported (newest : ℕ) (before : Memory) (table recording buffer : List ℕ) (number : ℕ) (written : List ℕ) (h : Memory) : Type 0 where
   pub reports : ReportsUpTo newest table recording buffer number written
@@ -55,7 +56,7 @@ pub record LentExactUpTo (newest : ℕ) (bytes : List ℕ) {h end : Memory} {req
   pub left : Left
   pub run : Run rows noneLeft requests (map answerFrom numbers) left
   pub untouched : Untouched host
-  pub words : end ≡ wordsOf (leavesAll (freshLent rows) requests)
+  pub words : end ≡ wordsOfLent (leavesAll (freshLent rows) requests)
   pub monitors : Monitors end rows left
   pub recorded : (recording : List ℕ) (steps : List Step) → ReadsRecording rows recording (recording-of steps) → left .steps ≡ steps ++ (close ∷ [])
       → (buffer : List ℕ) (number : ℕ) (written : List ℕ) → ReadOff end (λ m answer. ReportsOf m buffer answer written) number
@@ -64,6 +65,6 @@ pub record LentExactUpTo (newest : ℕ) (bytes : List ℕ) {h end : Memory} {req
       → ReportsOnUpTo other end table recording buffer number written after → Reported other end table recording buffer number written after
   pub refused : {other : ℕ} (table : List ℕ) (number : ℕ) (after : Memory) → BeginsUpTo other table end number after → 0 < number → after ≡ end
 
--- the same for a table of the first edition
+-- §11.2: the same for a table of the first edition
 abbrev pub LentExact : List ℕ → {h end : Memory} {requests : List Request} {numbers : List ℕ} → Host h requests numbers end → Type 0
 LentExact bytes host = LentExactUpTo 1 bytes host

@@ -7,8 +7,8 @@ use Rattle.constraint.specs.Run.{Request, asks, Left, Run, Keeps}
 use Rattle.constraint.specs.declared.Call.{Call}
 use Rattle.constraint.specs.declared.Constraint.{Constraint}
 use Rattle.monitor.specs.Beside.{TakesAll}
-use Rattle.lent.specs.Layout.{wordsOf}
-use Rattle.lent.specs.Contract.{answerFrom, ReadOff}
+use Rattle.in_place.specs.Layout.{wordsOfLent}
+use Rattle.in_place.specs.Contract.{answerFrom, ReadOff}
 use Rattle.fresh.specs.Fresh.{freshLent}
 use Rattle.delkuthi.specs.Host.{Memory, Host, noneRefused}
 use Rattle.delkuthi.specs.Lent.{StepOfVerdict}
@@ -48,4 +48,4 @@ pub record Monitors (h : Memory) (rows : List Constraint) (left : Left) : Type 0
   -- §3.14: the steps that are left are calls that a fresh monitor takes, and after just these its memory has the same words but for what may be
   -- withdrawn next and two numbers that affect no answer
   pub struck-out : (calls : List Call) × TakesAll rows calls (left .steps)
-      × ((struck : Memory) → Host (wordsOf (freshLent rows)) (map asks calls) (noneRefused calls) struck → SameButUndo h struck)
+      × ((struck : Memory) → Host (wordsOfLent (freshLent rows)) (map asks calls) (noneRefused calls) struck → SameButUndo h struck)

@@ -12,16 +12,16 @@ use Rattle.constraint.specs.declared.Constraint.{Constraint}
 use Rattle.constraint.specs.declared.Verdict.{Verdict}
 use Rattle.row.specs.Machine.{mark}
 use Rattle.monitor.specs.Contract.{stepIn}
-use Rattle.lent.specs.Contract.{ReadOff}
+use Rattle.in_place.specs.Contract.{ReadOff}
 use Rattle.delkuthi.specs.Host.{Memory}
 use Rattle.delkuthi.specs.Lent.{wordOf, WordOfVerdict, StepOfVerdict, NumberOfRows}
 use Rattle.delkuthi.specs.Printed.{WritesPage}
 use Rattle.delkuthi.specs.Reporting.{ReportsSteps, ReportsOf}
-use Rattle.status.specs.Deadlines.{RowDeadline, LeastDeadline}
-use Rattle.status.specs.Contract.{BrokenRows, RowWaiting, CrowdedRow, AsksClock, AsksSteps, AsksClosed, AsksBrokenRows, AsksWaiting}
-use Rattle.status.specs.Contract.{AsksRowDeadline, AsksDeadline, AsksCrowdedRow}
+use Rattle.queries.specs.Deadlines.{RowDeadline, LeastDeadline}
+use Rattle.queries.specs.Contract.{BrokenRows, RowWaiting, CrowdedRow, AsksClock, AsksSteps, AsksClosed, AsksBrokenRows, AsksWaiting}
+use Rattle.queries.specs.Contract.{AsksRowDeadline, AsksDeadline, AsksCrowdedRow}
 
--- each of the thirteen answers what the definitions say of the rows after these steps
+-- §11.2: each of the thirteen answers what the definitions say of the rows after these steps
 pub record ReadsAs (h : Memory) (rows : List Constraint) (steps : List Step) : Type 0 where
   -- §11.5: `delkuthi_row_verdict` and `delkuthi_row_step`: the word and the step of what the row reads
   pub verdicts : (i : ℕ) → (v : Option Verdict) × ReadsRow rows steps i v

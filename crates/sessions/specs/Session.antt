@@ -10,7 +10,7 @@ use Rattle.constraint.specs.Table.{ReadsTableUpTo, table-of, table-refused}
 use Rattle.constraint.specs.Recording.{ReadsRecording, recording-of, recording-refused}
 use Rattle.constraint.specs.Report.{ReportsUpTo}
 use Rattle.constraint.specs.declared.Constraint.{Constraint}
-use Rattle.lent.specs.Contract.{answerFrom, Takes}
+use Rattle.in_place.specs.Contract.{answerFrom, Takes}
 use Rattle.fresh.specs.Fresh.{BeginsUpTo}
 use Rattle.delkuthi.specs.Host.{Memory}
 use Rattle.delkuthi.specs.Taking.{StepsBefore}
@@ -19,6 +19,7 @@ use Rattle.sessions.specs.Monitors.{Monitors}
 
 -- ---- the calls
 
+-- §11.2
 -- from the memory before to the memory after, each call with its arguments and its answer, known by its contract alone. `newest` is 1 for the calls
 -- of the first edition and 2 for those that take both
 pub data Session : Memory → Memory → Type 0 where
@@ -41,7 +42,7 @@ Unchanged (report-on {h = h} {mid = mid} newest table recording buffer number wr
 
 -- ---- what each call answers and leaves, by the definitions alone
 
--- what is known of the memory: nothing before a table is accepted; then the rows of the last table and the steps that are left
+-- §11.2: what is known of the memory: nothing before a table is accepted; then the rows of the last table and the steps that are left
 pub data Standing : Type 0 where
   nothing : Standing
   monitor : (rows : List Constraint) (left : Left) → Standing
@@ -73,7 +74,7 @@ pub data ReportLeaves (newest : ℕ) (table recording : List ℕ) (before : Stan
       → ReadsRecording rows recording (recording-of steps)
       → ReportLeaves newest table recording before (monitor rows (allLeft (steps ++ (close ∷ []))))
 
--- each call of the list answers so, over what the calls before it have left
+-- §11.2: each call of the list answers so, over what the calls before it have left
 abbrev pub SessionAnswers : {h end : Memory} → Standing → Session h end → Standing → Type 0
 SessionAnswers before none after = before ≡ after
 SessionAnswers before (fresh newest table number begins rest) after =
@@ -91,7 +92,8 @@ abbrev pub Promised : Memory → Standing → Type 0
 Promised h nothing = Unit {0}
 Promised h (monitor rows left) = Monitors h rows left
 
--- §3.6, §3.8, §3.13, §7.22: after any list of the calls, from any memory: each was answered as the definitions say over what the calls before it had
+-- §3.6, §3.8, §3.13, §7.22, §11.2:
+-- after any list of the calls, from any memory: each was answered as the definitions say over what the calls before it had
 -- left, each that was refused left the memory as it was, and of the memory after the list all is promised that is promised of a monitor
 pub record SessionExact {h end : Memory} (session : Session h end) : Type 0 where
   pub standing : Standing

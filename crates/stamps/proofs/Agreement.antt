@@ -12,7 +12,7 @@ use Rattle.stamps.proofs.{Answers.within, Progress.record-accepts}
 
 -- ---- one word
 
--- exactly one of the three fits: the stamps are themselves a choice
+-- §12.3: exactly one of the three fits: the stamps are themselves a choice
 pub word-once : (e lower upper : ℕ) (stamps : List ℕ) (now : ℕ) → TrueTimes e stamps stamps → (v w : StampedVerdict)
     → ReadsStamps e lower upper stamps now v → ReadsStamps e lower upper stamps now w → v ≡ w
 word-once e lower upper stamps now own v w (each-meets all) (each-meets all′) = refl
@@ -25,7 +25,7 @@ word-once e lower upper stamps now own v w (both-occur one other c m d f) (each-
 word-once e lower upper stamps now own v w (both-occur one other c m d f) (none-meets none) = absurd (none one c m)
 word-once e lower upper stamps now own v w (both-occur one other c m d f) (both-occur one′ other′ c′ m′ d′ f′) = refl
 
--- the stamps of valid steps are a choice
+-- §12.1: the stamps of valid steps are a choice
 pub stamps-choice : (e k : ℕ) (steps : List Step) → Valid steps → TrueTimes e (times k steps) (times k steps)
 stamps-choice e k steps valid =
     record {
@@ -56,16 +56,16 @@ none-taken rows steps (Call.Event k t) judged =
     let eight = judged-all 8 _ _ judged in
     let full = judged-all 24 _ _ (eight .1) in
     let nine = judged-all 9 _ _ (full .1) in
-    let form = judged-all 19 _ _ (nine .1) in
+    let tag = judged-all 19 _ _ (nine .1) in
     judged-yes 8 _ _ Taken (eight .0) (judged-yes 24 _ _ Taken (full .0) (judged-yes 9 _ _ Taken (nine .0)
-    (judged-yes 19 _ _ Taken (form .0) (event-taken rows steps k t (form .1)))))
+    (judged-yes 19 _ _ Taken (tag .0) (event-taken rows steps k t (tag .1)))))
 none-taken rows steps (Call.ColouredEvent k c t) judged =
     let eight = judged-all 8 _ _ judged in
     let full = judged-all 24 _ _ (eight .1) in
     let nine = judged-all 9 _ _ (full .1) in
-    let form = judged-all 19 _ _ (nine .1) in
+    let tag = judged-all 19 _ _ (nine .1) in
     judged-yes 8 _ _ Taken (eight .0) (judged-yes 24 _ _ Taken (full .0) (judged-yes 9 _ _ Taken (nine .0)
-    (judged-yes 19 _ _ Taken (form .0) (event-taken rows steps (stream k c) t (form .1)))))
+    (judged-yes 19 _ _ Taken (tag .0) (event-taken rows steps (stream k c) t (tag .1)))))
 none-taken rows steps (Call.Tick t) judged =
     let eight = judged-all 8 _ _ judged in
     let full = judged-all 24 _ _ (eight .1) in
@@ -177,6 +177,7 @@ module _ (k lower upper : ℕ) (steps : List Step) (valid : Valid steps) where
       unmet (λ m. let kept = kept-exactly (Repeat k 1 lower upper) after valid-closed (closed-close steps) (Verdict.Broken n) reading .1
       (subst (λ (t : Type 0). t) (sym meets-is) m) in never (cc)) w r
 
+-- §12.4
 -- the call with late = 0 over a table and a recording whose every record the monitor takes, and the close: its answer is the word for what the row
 -- reads then
 pub stamps-agree : {newest : ℕ} (table recording : List ℕ) (rows : List Constraint) (steps : List Step) (i k lower upper : ℕ) (v : Verdict)

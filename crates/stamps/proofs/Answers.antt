@@ -1,6 +1,6 @@
 -- The answer is put together in the order of the questions: the table's, the recording's, the row's and that of the range.
-use Rattle.stamps.proofs.Names.{AnswersStampsUpTo, Asked, Constraint, Finds, InRange, KindsSuit, List, Passed, PassesStamps, ReadsTableUpTo}
-use Rattle.stamps.proofs.Names.{Refused, Repeat, RepeatRow, RowAsked, RowIs, Sound, StampedAnswer, [], _<_, _∷_, _≡_, _≤_}
+use Rattle.stamps.proofs.Names.{AnswersStampsUpTo, LateRow, Constraint, Finds, InRange, KindsSuit, List, Passed, PassesStamps, ReadsTableUpTo}
+use Rattle.stamps.proofs.Names.{Refused, Repeat, RepeatRow, FoundRow, RowIs, Sound, StampedAnswer, [], _<_, _∷_, _≡_, _≤_}
 use Rattle.stamps.proofs.Names.{accepted-sound, arith, firstColoured, getElem?, judged-no, judged-yes, lastTime, length, never, no-recording}
 use Rattle.stamps.proofs.Names.{not-asked, read-accepted, reads, some, sound-at, suc, table-of, zero, ℕ}
 
@@ -19,11 +19,11 @@ unfolding KindsSuit
 event-plain k lower upper sound = sound .kinds-suit .0
 
 -- the row's fields and the range
-abbrev askedOf : RowAsked → ℕ → Asked
+abbrev askedOf : FoundRow → ℕ → LateRow
 askedOf found late = record { event = found .event; lower = found .lower; upper = found .upper; late = late }
 
 module _ {newest : ℕ} (bytes recording : List ℕ) (i late : ℕ) (rows : List Constraint) (read : ReadsTableUpTo newest bytes (table-of rows))
-    (count : ℕ) (c : Constraint) (is : RowIs count i c rows) (found : RowAsked) (finds : Finds count i c found) (passed : Passed) (passes :
+    (count : ℕ) (c : Constraint) (is : RowIs count i c rows) (found : FoundRow) (finds : Finds count i c found) (passed : Passed) (passes :
     PassesStamps recording (askedOf found late) passed) where
   pub answer-recording : 0 < passed .number → AnswersStampsUpTo newest bytes recording i late (StampedAnswer.Refused (passed .number) (passed .place))
   answer-recording h = no-recording rows (passed .number) (passed .place) read (passes .refused h)

@@ -1,24 +1,28 @@
 -- The last true time of a choice can be at each place from the earliest to the stamp, and a choice goes on with any later place of the next stamp; so
 -- each two neighbours can take the ends of their ranges, and the tests on these ends tell what each choice and what some choice does.
-use Rattle.stamps.proofs.Names.{Accepts, Apart, Asked, Bool, Call, Each, List, Marks, MeetsRepeat, NotLater, Places, PointsOf, ReadsStamps}
-use Rattle.stamps.proofs.Names.{Rule, SpansApart, Sporadic, StampedVerdict, Stamps, Step, Tells, TrueTimes, [], _&&_, _++_, _+_, _-_, _<_, _∙_}
+use Rattle.stamps.proofs.Names.{Accepts, Apart, LateRow, Bool, Call, Each, List, Registers, MeetsRepeat, NotLater, Places, PointsOf}
+use Rattle.stamps.proofs.Names.{ReadsStamps}
+use Rattle.stamps.proofs.Names.{Parameters, SpansApart, Sporadic, StampedVerdict, Stamps, Step, Tells, TrueTimes, [], _&&_, _++_, _+_, _-_}
+use Rattle.stamps.proofs.Names.{_<_, _∙_}
 use Rattle.stamps.proofs.Names.{_∷_, _≡_, _≤_, ap, apart-first, arith, at, at-left, at-next, both-occur, by-cases, callAfter, closeVerdict}
 use Rattle.stamps.proofs.Names.{cond, decLt, each-meets, eqb, eqb-false, eqb-true, event, fails, false, first-places, firstColoured}
 use Rattle.stamps.proofs.Names.{firstStamp, getD-take, highest, holds, inl, inr, lastTime, later-place, later-places, laterStamp, length}
-use Rattle.stamps.proofs.Names.{length-append, length-take, marksOf, max, min, nextHigh, nextLow, noLimit, noMarks, noStamps, none-meets, plus}
-use Rattle.stamps.proofs.Names.{points-first, points-more, refl, ruleOf, split, stampAfter, stampsVerdict, stepFor, stream, stride, subst, sym}
+use Rattle.stamps.proofs.Names.{length-append, length-take, registersOf, max, min, nextHigh, nextLow, noLimit, noRegisters, noStamps}
+use Rattle.stamps.proofs.Names.{none-meets, plus}
+use Rattle.stamps.proofs.Names.{points-first, points-more, refl, parametersOf, split, stampAfter, stampsVerdict, stepFor, stream, stride}
+use Rattle.stamps.proofs.Names.{subst, sym}
 use Rattle.stamps.proofs.Names.{take, tells-and, tells-leb, times, times-close, times-other, times-own, times-tick, true, ℕ, ⊎-elim}
 
 -- the hidden points of Sporadic with that jitter: of any choice, and of one that is lower to upper apart
-abbrev anyRule : ℕ → Rule
-anyRule late = ruleOf (Sporadic 0 0 noLimit late 0)
+abbrev anyParameters : ℕ → Parameters
+anyParameters late = parametersOf (Sporadic 0 0 noLimit late 0)
 
-abbrev rowRule : Asked → Rule
-rowRule a = ruleOf (Sporadic 0 (a .lower) (a .upper) (a .late) 0)
+abbrev rowParameters : LateRow → Parameters
+rowParameters a = parametersOf (Sporadic 0 (a .lower) (a .upper) (a .late) 0)
 
 -- a choice of true times
 abbrev Chosen : ℕ → List ℕ → List ℕ → Type 0
-Chosen late events points = PointsOf (anyRule late) events points
+Chosen late events points = PointsOf (anyParameters late) events points
 
 true-chosen : (late : ℕ) (events points : List ℕ) → TrueTimes late events points → Chosen late events points
 true-chosen late events points c =
@@ -38,19 +42,19 @@ not-less x y h = omega arith
 reaches : (x upper t : ℕ) → t ≤ lastTime → NotLater upper x t → t ≤ plus x upper
 reaches x upper t small later = ⊎-elim (λ f. omega arith) (λ h. omega arith) later
 
-module _ (a : Asked) where
+module _ (a : LateRow) where
   abbrev AllApart : List ℕ → Type 0
   AllApart points = SpansApart 1 (a .lower) (a .upper) points
 
   -- a choice that is lower to upper apart
-  apart-of : (events points : List ℕ) → PointsOf (rowRule a) events points → Chosen (a .late) events points × AllApart points
+  apart-of : (events points : List ℕ) → PointsOf (rowParameters a) events points → Chosen (a .late) events points × AllApart points
   unfolding SpansApart
   apart-of events points c = (
     record { one-each = c .one-each; near = c .near; rise = c .rise; apart = λ i h. (omega (arith, c .rise i h), inl refl) },
     λ i h. c .apart i (omega (arith, c .one-each)),
   )
 
-  of-apart : (events points : List ℕ) → Chosen (a .late) events points → AllApart points → PointsOf (rowRule a) events points
+  of-apart : (events points : List ℕ) → Chosen (a .late) events points → AllApart points → PointsOf (rowParameters a) events points
   unfolding SpansApart
   of-apart events points c apart =
       record { one-each = c .one-each; near = c .near; rise = c .rise; apart = λ i h. apart i (omega (arith, c .one-each)) }
@@ -64,15 +68,15 @@ module _ (a : Asked) where
 
   -- the last true time of those that are can be from low to high; or none is
   abbrev SomeAs : List ℕ → ℕ → ℕ → ℕ → Bool → Type 0
-  SomeAs events n low high true = Places (rowRule a) events n low high
-  SomeAs events n low high false = (points : List ℕ) → ¬ PointsOf (rowRule a) events points
+  SomeAs events n low high true = Places (rowParameters a) events n low high
+  SomeAs events n low high false = (points : List ℕ) → ¬ PointsOf (rowParameters a) events points
 
   record Later (events : List ℕ) (s : Stamps) : Type 0 where
     n : ℕ
     last : n + 1 ≡ length events
     small : s .stamp ≤ lastTime
     stamp-is : at events n ≡ s .stamp
-    choices : Places (anyRule (a .late)) events n (s .earliest) (s .stamp)
+    choices : Places (anyParameters (a .late)) events n (s .earliest) (s .stamp)
     each : EachAs events (s .each)
     some : SomeAs events n (s .low) (s .high) (s .some)
 
@@ -93,18 +97,18 @@ module _ (a : Asked) where
         last = omega (arith, length-append events (t ∷ []));
         small = small;
         stamp-is = at-next events t [] (length events) refl;
-        choices = first-places (anyRule (a .late)) events t small empty;
+        choices = first-places (anyParameters (a .late)) events t small empty;
         each = λ points c i h. absurd (omega (arith, c .one-each, length-append events (t ∷ []), empty, h));
-        some = first-places (rowRule a) events t small empty;
+        some = first-places (rowParameters a) events t small empty;
       }
 
   -- ---- a later stamp
 
-  abbrev marksWith : ℕ → ℕ → Marks
-  marksWith low high = marksOf 0 low high noMarks
+  abbrev registersWith : ℕ → ℕ → Registers
+  registersWith low high = registersOf 0 low high noRegisters
 
   -- with no limit the next can be as late as its stamp
-  all-high : (low high t : ℕ) → highest (anyRule (a .late)) (marksWith low high) t ≡ t
+  all-high : (low high t : ℕ) → highest (anyParameters (a .late)) (registersWith low high) t ≡ t
   all-high low high t =
       split (eqb noLimit noLimit) (λ x. cond x t (min (plus high noLimit) t) ≡ t) (λ e. refl)
       (λ e. absurd (eqb-false noLimit noLimit e refl))
@@ -121,10 +125,10 @@ module _ (a : Asked) where
     early = known .choices .ordered
 
     -- the next true time can be from here to its stamp
-    next-choices : Places (anyRule (a .late)) more (length events) next t
+    next-choices : Places (anyParameters (a .late)) more (length events) next t
     next-choices =
-        subst (λ (high : ℕ). Places (anyRule (a .late)) more (length events) next high) (all-high (s .earliest) (s .stamp) t)
-        (later-places (anyRule (a .late)) events t small (marksWith (s .earliest) (s .stamp))
+        subst (λ (high : ℕ). Places (anyParameters (a .late)) more (length events) next high) (all-high (s .earliest) (s .stamp) t)
+        (later-places (anyParameters (a .late)) events t small (registersWith (s .earliest) (s .stamp))
         (known .n) (known .last) (known .choices) (omega arith) (omega arith)
         (rw (all-high (s .earliest) (s .stamp) t) (omega (arith, early))))
 
@@ -222,9 +226,9 @@ module _ (a : Asked) where
     some-after : (low high : ℕ) (b : Bool) → SomeAs events (known .n) low high b → {test : Bool} → Tells (Possible low high) test
         → SomeAs more (length events) (nextLow (a .lower) (a .late) low t) (nextHigh (a .upper) high t) (b && test)
     some-after low high true places (holds fits) =
-        later-places (rowRule a) events t small (marksWith low high) (known .n) (known .last) places small-lower (fits .0) (fits .1)
+        later-places (rowParameters a) events t small (registersWith low high) (known .n) (known .last) places small-lower (fits .0) (fits .1)
     some-after low high true places (fails not) = λ points c.
-        let place = later-place (rowRule a) events t small (marksWith low high) (known .n) (known .last) places small-lower points c in
+        let place = later-place (rowParameters a) events t small (registersWith low high) (known .n) (known .last) places small-lower points c in
         not (place .0, omega (arith, place .1 .0, place .1 .1))
     some-after low high false none tells = λ points c.
         none (take (length events) points) (points-first 1 (a .lower) (a .upper) (a .late) events (t ∷ []) points c)
@@ -263,6 +267,7 @@ module _ (a : Asked) where
         more = λ f. first-later events t small (keeps .none e);
       })
 
+  -- §12.3
   pub keeps-call : a .event < firstColoured → a .lower ≤ lastTime → (steps : List Step) (s : Stamps) → Keeps (times (a .event) steps) s
       → (call : Call) → Accepts steps (stepFor call)
       → Keeps (times (a .event) (steps ++ (stepFor call ∷ []))) (callAfter a s call)
@@ -339,6 +344,7 @@ module _ (a : Asked) where
       reads-by false true (other, oc, not) (one, c, meets) = both-occur one other c meets oc not
       reads-by false false fail none = none-meets none
 
+    -- §12.3
     pub reads-now : (s : Stamps) → Keeps events s → ReadsStamps (a .late) (a .lower) (a .upper) events now (stampsVerdict a s now)
     unfolding stampsVerdict closeVerdict
     reads-now s keeps =

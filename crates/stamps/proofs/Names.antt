@@ -21,17 +21,18 @@ pub use Rattle.constraint.specs.{declared.Answer.the-variants.Taken, declared.C
 pub use Rattle.constraint.specs.{declared.Constraint.the-variants.Repeat, declared.Constraint.the-variants.Sporadic}
 pub use Rattle.constraint.specs.{declared.StampedAnswer.StampedAnswer, declared.StampedVerdict.StampedVerdict}
 pub use Rattle.constraint.specs.{declared.Verdict.Verdict, declared.fields.Fields.Fields}
-pub use Rattle.machine.proofs.{Spans.apart-first, Tests.Tells, Tests.fails, Tests.holds, Tests.tells-and, Tests.tells-leb}
-pub use Rattle.machine.specs.{Parts.marksOf, Parts.noMarks, Parts.plus, Rule.ruleOf, declared.Marks.Marks, declared.Rule.Rule}
+pub use Rattle.row_type.proofs.{Spans.apart-first, Tests.Tells, Tests.fails, Tests.holds, Tests.tells-and, Tests.tells-leb}
+pub use Rattle.row_type.specs.{Parts.registersOf, Parts.noRegisters, Parts.plus, Parameters.parametersOf, declared.Registers.Registers}
+pub use Rattle.row_type.specs.{declared.Parameters.Parameters}
 pub use Rattle.monitor.proofs.{Demand.accepted-sound, FittingRows.sound-at}
-pub use Rattle.points.proofs.Laws.Points.{points-first, points-more}
-pub use Rattle.points.proofs.Laws.Sporadic.{Places, PointsOf, first-places, later-place, later-places}
-pub use Rattle.points.specs.Sporadic.{highest, stride}
-pub use Rattle.queue.proofs.Shared.{free}
+pub use Rattle.hidden_points.proofs.Laws.Points.{points-first, points-more}
+pub use Rattle.hidden_points.proofs.Laws.Sporadic.{Places, PointsOf, first-places, later-place, later-places}
+pub use Rattle.hidden_points.specs.Sporadic.{highest, stride}
+pub use Rattle.ring.proofs.Shared.{free}
 pub use Rattle.row.proofs.Exact.{Sound}
 pub use Rattle.stamps.specs.Machine.{Finds, PassesStamps, callAfter, firstStamp, nextHigh, nextLow, noStamps}
-pub use Rattle.stamps.specs.{declared.Asked.Asked, declared.Passed.Passed, declared.RowAsked.RowAsked, declared.Stamps.Stamps}
-pub use Rattle.table.proofs.{AcceptedRows.read-accepted, Once.reads-once}
+pub use Rattle.stamps.specs.{declared.LateRow.LateRow, declared.Passed.Passed, declared.FoundRow.FoundRow, declared.Stamps.Stamps}
+pub use Rattle.table.proofs.{AcceptedRows.read-accepted, ReadUnique.reads-once}
 pub use Rattle.table.specs.{Scan.Counted, Scan.RowIs}
 unfoldable pub use Rattle.constraint.specs.{Accepted.InRange, Accepted.KindsSuit, Meets.Meets, Meets.MeetsRepeat, Meets.SpansApart}
 unfoldable pub use Rattle.constraint.specs.{Recording.recordQuestions, Run.Room, Run.questions, Steps.times, Types.rowRead}

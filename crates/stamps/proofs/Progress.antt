@@ -1,5 +1,6 @@
 -- What is kept of the stamps goes on from record to record, and at the end it says what the row reads.
-use Rattle.stamps.proofs.Names.{After, Asked, Call, Clock, Constraint, Judged, List, ReadUpTo, ReadsInOrder, ReadsNext, ReadsStamps, RecordAt}
+use Rattle.stamps.proofs.Names.{After, LateRow, Call, Clock, Constraint, Judged, List, ReadUpTo, ReadsInOrder, ReadsNext, ReadsStamps}
+use Rattle.stamps.proofs.Names.{RecordAt}
 use Rattle.stamps.proofs.Names.{RecordRead, Stamps, Step, Taken, VersionKnown, [], _++_, _<_, _∷_, _≡_, _≤_, accepts-taken, after-clock}
 use Rattle.stamps.proofs.Names.{after-valid, callAfter, callAt, clock, firstColoured, judged-all, lastTime, length, noStamps, past-of}
 use Rattle.stamps.proofs.Names.{questions, recordQuestions, recording-of, recording-refused, stampsVerdict, stepFor, subst, sym, times}
@@ -13,12 +14,12 @@ unfolding recordQuestions
 record-accepts bytes rows steps place judged = judged-all 14 _ _ judged
 
 -- the records before a place are read, and this is kept of their stamps
-pub record PassedTo (bytes : List ℕ) (a : Asked) (o : Clock) (s : Stamps) (place : ℕ) : Type 0 where
+pub record PassedTo (bytes : List ℕ) (a : LateRow) (o : Clock) (s : Stamps) (place : ℕ) : Type 0 where
   pub steps : List Step
   pub read : ReadUpTo bytes place steps o
   pub keeps : a .event < firstColoured → a .lower ≤ lastTime → Keeps a (times (a .event) steps) s
 
-module _ (bytes : List ℕ) (a : Asked) where
+module _ (bytes : List ℕ) (a : LateRow) where
   pub pass-start : VersionKnown bytes → (o : Clock) → After [] o → PassedTo bytes a o noStamps 1
   unfolding times
   pass-start known o start = record { steps = []; read = up-to-start bytes known o start; keeps = λ plain small. keeps-none a }

@@ -13,12 +13,12 @@ use Rattle.constraint.specs.declared.Answer.the-variants.{Refused}
 use Rattle.constraint.specs.declared.Call.{Call}
 use Rattle.constraint.specs.declared.Constraint.{Constraint}
 use Rattle.constraint.specs.declared.StampedVerdict.{StampedVerdict}
-use Rattle.machine.specs.Parts.{plus}
-use Rattle.points.specs.Sporadic.{stride}
+use Rattle.row_type.specs.Parts.{plus}
+use Rattle.hidden_points.specs.Sporadic.{stride}
 use Rattle.table.specs.Scan.{RowIs}
-use Rattle.stamps.specs.declared.Asked.{Asked}
+use Rattle.stamps.specs.declared.LateRow.{LateRow}
 use Rattle.stamps.specs.declared.Passed.{Passed}
-use Rattle.stamps.specs.declared.RowAsked.{RowAsked}
+use Rattle.stamps.specs.declared.FoundRow.{FoundRow}
 use Rattle.stamps.specs.declared.Stamps.{Stamps}
 
 -- the first place of a true time stamped t, behind one that is at low or later and by lower before it
@@ -33,15 +33,15 @@ nextHigh upper high t = cond (eqb upper noLimit) t (min (plus high upper) t)
 abbrev pub noStamps : Stamps
 noStamps = record { any = false; stamp = 0; earliest = 0; low = 0; high = 0; each = true; some = true }
 
-abbrev pub firstStamp : Asked → ℕ → Stamps
+abbrev pub firstStamp : LateRow → ℕ → Stamps
 firstStamp a t =
     record { any = true; stamp = t; earliest = t - a .late; low = t - a .late; high = t; each = true; some = true }
 
 -- each two true times of the last two stamps are lower to upper apart: the narrowest gap and the widest are
-abbrev pub pairFits : Asked → ℕ → ℕ → ℕ → ℕ → Bool
+abbrev pub pairFits : LateRow → ℕ → ℕ → ℕ → ℕ → Bool
 pairFits a earliest next stamp t = leb (a .lower) (max 1 (next - stamp)) && leb t (plus earliest (a .upper))
 
-unfoldable pub laterStamp : Asked → Stamps → ℕ → Stamps
+unfoldable pub laterStamp : LateRow → Stamps → ℕ → Stamps
 laterStamp a s t =
     let next = nextLow 0 (a .late) (s .earliest) t in
     let low = nextLow (a .lower) (a .late) (s .low) t in
@@ -56,33 +56,33 @@ laterStamp a s t =
       some = s .some && (leb (stride (a .lower)) (a .upper) && leb low high);
     }
 
-unfoldable pub stampAfter : Asked → Stamps → ℕ → Stamps
+unfoldable pub stampAfter : LateRow → Stamps → ℕ → Stamps
 stampAfter a s t = cond (s .any) (laterStamp a s t) (firstStamp a t)
 
 -- what a call makes of it: an event of the row's kind, which is plain, is a stamp
-abbrev pub callAfter : Asked → Stamps → Call → Stamps
+abbrev pub callAfter : LateRow → Stamps → Call → Stamps
 callAfter a s (Call.Event k t) = cond (eqb k (a .event)) (stampAfter a s t) s
 callAfter a s (Call.ColouredEvent k c t) = s
 callAfter a s (Call.Tick t) = s
 callAfter a s Call.Close = s
 
 -- what the row reads at the clock, behind a stamp and in any case
-unfoldable pub closeVerdict : Asked → Stamps → ℕ → StampedVerdict
+unfoldable pub closeVerdict : LateRow → Stamps → ℕ → StampedVerdict
 closeVerdict a s now =
     cond (s .each && leb now (plus (s .earliest) (a .upper))) StampedVerdict.Kept
     (cond (s .some && leb now (plus (s .high) (a .upper))) StampedVerdict.Unsure StampedVerdict.Broken)
 
-unfoldable pub stampsVerdict : Asked → Stamps → ℕ → StampedVerdict
+unfoldable pub stampsVerdict : LateRow → Stamps → ℕ → StampedVerdict
 stampsVerdict a s now = cond (s .any) (closeVerdict a s now) StampedVerdict.Kept
 
 -- a pass over a recording: refused, or what a row of these fields reads after it, where they are in range and its kind is plain
-pub record PassesStamps (bytes : List ℕ) (a : Asked) (r : Passed) : Type 0 where
+pub record PassesStamps (bytes : List ℕ) (a : LateRow) (r : Passed) : Type 0 where
   pub refused : 0 < r .number → ReadsInOrder bytes (recording-refused (r .number) (r .place))
   pub taken : r .number ≡ 0 → (steps : List Step) × ReadsInOrder bytes (recording-of steps)
       × (a .event < firstColoured → a .lower ≤ lastTime → ReadsStamps (a .late) (a .lower) (a .upper) (times (a .event) steps) (clock steps)
       (r .verdict))
 
 -- a row that is asked for: 15 and 25, else its fields
-pub record Finds (count i : ℕ) (c : Constraint) (r : RowAsked) : Type 0 where
+pub record Finds (count i : ℕ) (c : Constraint) (r : FoundRow) : Type 0 where
   pub refused : 0 < r .number → (rows : List Constraint) → RowIs count i c rows → (e : ℕ) → Judged (stampsQuestions rows i e) (Refused (r .number))
   pub found : r .number ≡ 0 → (rows : List Constraint) → RowIs count i c rows → RepeatRow rows i (r .event) (r .lower) (r .upper)

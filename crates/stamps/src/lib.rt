@@ -5,24 +5,24 @@ use constraint::Constraint;
 use constraint::NO_LIMIT;
 use constraint::StampedAnswer;
 use constraint::StampedVerdict;
-use machine::parts::larger;
-use machine::parts::plus;
-use machine::parts::smaller;
 use monitor::Monitor;
-use queue::minus;
+use ring::minus;
+use row_type::parts::larger;
+use row_type::parts::plus;
+use row_type::parts::smaller;
 use table::ReadAnswer;
 use table::scan;
 ghost use mathlib.Core.Path.{_≡_};
 ghost use mathlib.Core.Bool.{_&&_};
 ghost use lib.Dec.{leb};
-ghost use Rattle.machine.specs.Parts.{plus};
+ghost use Rattle.row_type.specs.Parts.{plus};
 ghost use Rattle.constraint.specs.Stamps.{AnswersStampsUpTo};
 ghost use Rattle.stamps.specs.Words.{spelling};
 ghost use Rattle.stamps.specs.Machine.{nextLow, nextHigh, noStamps, firstStamp, pairFits, laterStamp, stampAfter, callAfter, closeVerdict};
 ghost use Rattle.stamps.specs.Machine.{stampsVerdict, PassesStamps, Finds};
 
 // A Repeat row of span 1, and by how much its stamps are late at most.
-pub struct Asked {
+pub struct LateRow {
     pub event: u8,
     pub lower: u64,
     pub upper: u64,
@@ -52,7 +52,7 @@ pub struct Passed {
 }
 
 // A row that is asked for: its fields, or (number above 0) a refusal.
-pub struct RowAsked {
+pub struct FoundRow {
     pub number: u8,
     pub event: u8,
     pub lower: u64,
@@ -124,7 +124,7 @@ fn at_most(a: u64, b: u64) -> bool
 }
 
 // Whether each two true times of the last two stamps are lower to upper apart.
-fn pair_fits(asked: Asked, earliest: u64, next: u64, stamp: u64, t: u64) -> bool
+fn pair_fits(asked: LateRow, earliest: u64, next: u64, stamp: u64, t: u64) -> bool
     ensures { λ r. ⌜ r ≡ pairFits asked earliest next stamp t ⌝ }
 {
     let narrow = at_most(asked.lower, larger(1, minus(next, stamp)));
@@ -149,7 +149,7 @@ impl Stamps {
     }
 
     // With the first stamp.
-    fn first(asked: Asked, t: u64) -> Self
+    fn first(asked: LateRow, t: u64) -> Self
         ensures { λ r. ⌜ r ≡ firstStamp asked t ⌝ }
     {
         let earliest = minus(t, asked.late);
@@ -165,7 +165,7 @@ impl Stamps {
     }
 
     // With a later stamp.
-    fn later(self, asked: Asked, t: u64) -> Self
+    fn later(self, asked: LateRow, t: u64) -> Self
         ensures { λ r. ⌜ r ≡ laterStamp asked self t ⌝ }
     {
         let earliest = next_low(0, asked.late, self.earliest, t);
@@ -188,7 +188,7 @@ impl Stamps {
     }
 
     // With one stamp more.
-    fn stamped(self, asked: Asked, t: u64) -> Self
+    fn stamped(self, asked: LateRow, t: u64) -> Self
         ensures { λ r. ⌜ r ≡ stampAfter asked self t ⌝ }
     {
         if self.any {
@@ -198,7 +198,7 @@ impl Stamps {
     }
 
     // After a call.
-    fn after(self, asked: Asked, call: Call) -> Self
+    fn after(self, asked: LateRow, call: Call) -> Self
         ensures { λ r. ⌜ r ≡ callAfter asked self call ⌝ }
     {
         match call {
@@ -215,7 +215,7 @@ impl Stamps {
     }
 
     // What the row reads at the clock.
-    fn verdict(self, asked: Asked, now: u64) -> StampedVerdict
+    fn verdict(self, asked: LateRow, now: u64) -> StampedVerdict
         ensures { λ r. ⌜ r ≡ stampsVerdict asked self now ⌝ }
     {
         if self.any {
@@ -225,7 +225,7 @@ impl Stamps {
     }
 
     // What it reads there where there was a stamp.
-    fn reads(self, asked: Asked, now: u64) -> StampedVerdict
+    fn reads(self, asked: LateRow, now: u64) -> StampedVerdict
         ensures { λ r. ⌜ r ≡ closeVerdict asked self now ⌝ }
     {
         if both(self.each, in_time(self.earliest, asked.upper, now)) {
@@ -238,8 +238,9 @@ impl Stamps {
     }
 }
 
+// §12.3
 // The pass over a recording: questions 13 and 14 and those of the steps, and what the row reads in the end.
-fn pass(bytes: &[u8], asked: Asked) -> Passed
+fn pass(bytes: &[u8], asked: LateRow) -> Passed
     ensures { λ r. ⌜ PassesStamps (now (bytes .entry)) asked r ⌝ }
 {
     if !recording::version_known(bytes) {
@@ -275,10 +276,10 @@ fn pass(bytes: &[u8], asked: Asked) -> Passed
 }
 
 // A row that is not asked.
-fn no_row(number: u8) -> RowAsked
+fn no_row(number: u8) -> FoundRow
     ensures { λ r. ⌜ r ≡ record { number = number; event = 0; lower = 0; upper = 0 } ⌝ }
 {
-    RowAsked {
+    FoundRow {
         number,
         event: 0,
         lower: 0,
@@ -287,7 +288,7 @@ fn no_row(number: u8) -> RowAsked
 }
 
 // The row of a number in a table of so many rows: questions 15 and 25.
-fn row_of(count: usize, row: u64, constraint: Constraint) -> RowAsked
+fn row_of(count: usize, row: u64, constraint: Constraint) -> FoundRow
     ensures { λ r. ⌜ Finds count row constraint r ⌝ }
 {
     if count as u64 <= row {
@@ -297,13 +298,13 @@ fn row_of(count: usize, row: u64, constraint: Constraint) -> RowAsked
     let line = fields.line;
     let bytes = fields.bytes;
     let times = fields.times;
-    if line.form != 3 {
+    if line.tag != 3 {
         return no_row(25);
     }
     if bytes[1] != 1 {
         return no_row(25);
     }
-    RowAsked {
+    FoundRow {
         number: 0,
         event: bytes[0],
         lower: times[0],
@@ -311,6 +312,7 @@ fn row_of(count: usize, row: u64, constraint: Constraint) -> RowAsked
     }
 }
 
+// §8.25, §12.4, §12.5
 // What a row of a table of an edition up to the newest reads at the close of a recording whose stamps are late by at most so much; or the refusal.
 pub fn read(newest: u8, table: &[u8], recording: &[u8], row: u64, late: u64) -> StampedAnswer
     ensures { λ r. ⌜ AnswersStampsUpTo newest (now (table .entry)) (now (recording .entry)) row late r ⌝ }
@@ -323,7 +325,7 @@ pub fn read(newest: u8, table: &[u8], recording: &[u8], row: u64, late: u64) -> 
     }
     let constraint = numbered.row;
     let found = row_of(scanned.rows, row, constraint);
-    let asked = Asked {
+    let asked = LateRow {
         event: found.event,
         lower: found.lower,
         upper: found.upper,

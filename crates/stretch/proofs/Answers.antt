@@ -10,7 +10,7 @@ use Rattle.constraint.specs.{Steps.Step, Steps.at, declared.Answer.Answer, decl
 use Rattle.constraint.specs.{declared.Constraint.Constraint, declared.StretchAnswer.StretchAnswer}
 use Rattle.table.specs.Scan.{RowIs}
 use Rattle.stretch.proofs.{Places.Inside, Places.first-as, Places.some-as, Places.some-right, Places.stretches-inside, Taking.recording-taken}
-use Rattle.stretch.specs.Machine.{Asks, Enough, Kept, NeedsFrom, RunOf, Searches, Tries, TriesAll}
+use Rattle.stretch.specs.Machine.{AsksRow, Enough, Kept, NeedsFrom, RunOf, Searches, Tries, TriesAll}
 use Rattle.stretch.specs.declared.Found.{Found}
 
 -- ---- one row
@@ -44,12 +44,14 @@ module _ (c : Constraint) (streams times : List ℕ) (count : ℕ) (need : List 
     as-steps : stretches count ≡ stretches (length steps)
     as-steps = ap stretches (sym (run .counted))
 
+    -- §14.4
     pub tries-first : 0 < r .tried → FirstAt (Breaking c steps) (stretches (length steps)) (stretchOf (r .first) (r .size)) (r .tried)
     tries-first h =
         first-as (Enough need) (Breaking c steps) (Inside (length steps)) breaking enough
         (stretches (length steps)) (stretches-inside (length steps)) _ _
         (subst (λ (l : List Stretch). FirstAt (Enough need) l (stretchOf (r .first) (r .size)) (r .tried)) as-steps (searches .first-is h))
 
+    -- §8.23
     pub tries-none : r .tried ≡ 0 → ¬ Some (Breaking c steps) (stretches (length steps))
     tries-none e one =
         searches .none e
@@ -64,7 +66,7 @@ some-first : (P : Stretch → Type 0) (list : List Stretch) (s : Stretch) (place
 some-first P list s place f = subst (Some P) (sym (f .in-order)) (some-right P (f .before) (s ∷ f .later) (inl (f .has)))
 
 module _ (rowCount i : ℕ) (c : Constraint) (streams times : List ℕ) (count : ℕ) (few : count ≤ 256) where
-  pub asks-none : rowCount ≤ i → Asks rowCount i c streams times count (StretchAnswer.Refused 15 0)
+  pub asks-none : rowCount ≤ i → AsksRow rowCount i c streams times count (StretchAnswer.Refused 15 0)
   asks-none past rows steps row accepted run =
       no-stretch 15 (judged-yes 22 _ _ (Refused 15) (omega (arith, run .counted, few))
       (judged-no 15 _ _ (λ h. omega (arith, h, row .counted, past))))
@@ -106,7 +108,7 @@ module _ (rowCount i : ℕ) (c : Constraint) (streams times : List ℕ) (count :
               let same : d ≡ c = cc in
               subst (λ (x : Constraint). Some (Breaking x steps) (stretches (length steps))) same one
 
-    pub asks-row : (answer : StretchAnswer) → TriesAll c streams times count answer → Asks rowCount i c streams times count answer
+    pub asks-row : (answer : StretchAnswer) → TriesAll c streams times count answer → AsksRow rowCount i c streams times count answer
     asks-row answer tries rows steps row accepted run =
         by-answer rows steps row accepted run answer (tries steps run (alone rows steps row accepted run))
 

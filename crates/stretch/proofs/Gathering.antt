@@ -8,13 +8,13 @@ use Rattle.constraint.proofs.{History.Accepts, Judged.judged-all, Lists.split, 
 use Rattle.constraint.specs.Recording.{ReadsInOrder, VersionKnown, callOf, colourIn, recordQuestions, recording-of, recording-refused}
 use Rattle.constraint.specs.{Bytes.numberAt, Limits.streamCount, Questions.Judged, Run.questions, Run.stepFor, Steps.Step, Steps.at, Steps.close}
 use Rattle.constraint.specs.{Streams.stream, Table.bodyAt, declared.Answer.the-variants.Taken, declared.Call.Call}
-use Rattle.questions.specs.Questions.{occurrenceBy}
+use Rattle.questions.specs.Questions.{stepInputBy}
 use Rattle.stretch.specs.Machine.{KeepsRecord, Kept, stepAs}
 
 -- ---- a record's numbers
 
 call-as : (past : List Step) (s : Call) → Accepts past (stepFor s) → (s ≡ Call.Close → ⊥) → stepFor s
-    ≡ stepAs (occurrenceBy s 0 .stream) (occurrenceBy s 0 .time)
+    ≡ stepAs (stepInputBy s 0 .stream) (stepInputBy s 0 .time)
 call-as past (Call.Event k t) accepts other = rw (ne-eqb k streamCount (λ e. omega (arith, e, accepts .stream-small)))
 call-as past (Call.ColouredEvent k colour t) accepts other = rw (ne-eqb (stream k colour) streamCount (λ e. omega (arith, e, accepts .stream-small)))
 call-as past (Call.Tick t) accepts other = refl
@@ -95,7 +95,7 @@ module _ (bytes streams times : List ℕ) where
         judged : Judged (recordQuestions [] (before .steps) bytes place) Taken × After (before .steps ++ (stepFor (r .call) ∷ [])) (r .clock)
         judged = next .taken e (before .steps) (before .read .after)
 
-        is : stepFor (r .call) ≡ stepAs (occurrenceBy (r .call) 0 .stream) (occurrenceBy (r .call) 0 .time)
+        is : stepFor (r .call) ≡ stepAs (stepInputBy (r .call) 0 .stream) (stepInputBy (r .call) 0 .time)
         unfolding recordQuestions
         is =
             call-as (before .steps) (r .call)
@@ -103,7 +103,7 @@ module _ (bytes streams times : List ℕ) where
             (subst (λ (x : Call). Judged (questions [] (before .steps) x) Taken) (next .call-is (next .there e)) (judged-all 14 _ _ (judged .0) .1)))
             (λ close. never-close (at bytes 0) (bodyAt bytes place) (next .call-is (next .there e) ∙ close))
 
-        pub gather-more : (streams′ times′ : List ℕ) (count′ : ℕ) → KeepsRecord streams times count (occurrenceBy (r .call) 0) streams′ times′ count′
+        pub gather-more : (streams′ times′ : List ℕ) (count′ : ℕ) → KeepsRecord streams times count (stepInputBy (r .call) 0) streams′ times′ count′
             → GatheredTo bytes streams′ times′ (r .clock) count′ (r .next)
         gather-more streams′ times′ count′ keeps =
             record {
@@ -121,10 +121,10 @@ module _ (bytes streams times : List ℕ) where
               kept = by-cases (decLt count 256)
                   (λ room. as-kept (sym (keeps .room room .1)) (sym (keeps .room room .2))
                   (kept-room (before .steps) streams times count (before .counted) (before .kept) (before .whole) (before .whole′)
-                  (stepFor (r .call)) (occurrenceBy (r .call) 0 .stream) (occurrenceBy (r .call) 0 .time) is room))
+                  (stepFor (r .call)) (stepInputBy (r .call) 0 .stream) (stepInputBy (r .call) 0 .time) is room))
                   (λ full. as-kept (sym (keeps .full (omega (arith, full)) .1)) (sym (keeps .full (omega (arith, full)) .2))
                   (kept-full (before .steps) streams times count (before .counted) (before .kept) (before .whole) (before .whole′)
-                  (stepFor (r .call)) (occurrenceBy (r .call) 0 .stream) (occurrenceBy (r .call) 0 .time) is (omega (arith, full))));
+                  (stepFor (r .call)) (stepInputBy (r .call) 0 .stream) (stepInputBy (r .call) 0 .time) is (omega (arith, full))));
               whole = by-cases (decLt count 256)
                   (λ room. ap length (keeps .room room .1) ∙ length-set streams count _ ∙ before .whole)
                   (λ full. ap length (keeps .full (omega (arith, full)) .1) ∙ before .whole);

@@ -72,6 +72,7 @@ sizes-inside n (suc left) size pos h =
     all-append (Inside n) (starts (n + 1 - size) 0 size) (sizes left n (size + 1)) (starts-inside n (n + 1 - size) 0 size pos (omega (arith, h)))
     (sizes-inside n left (size + 1) (omega arith) (omega (arith, h)))
 
+-- §14.1
 pub stretches-inside : (n : ℕ) → All (Inside n) (stretches n)
 stretches-inside n = sizes-inside n n 1 (omega arith) (omega arith)
 
@@ -170,6 +171,7 @@ module _ (n : ℕ) where
         in-order : stretches n ≡ s .before ++ (stretchOf first size ∷ left (first + 1) size)
         in-order = s .whole ∙ ap (λ (l : List Stretch). s .before ++ l) (own-first first size (s .inside more))
 
+        -- §14.4
         pub search-found : at need first ≤ size → FirstAt (Enough need) (stretches n) (stretchOf first size) (tried + 1)
         search-found enough =
             record {
@@ -296,7 +298,7 @@ numbered-sizes n i (suc left) p h f =
         subst (λ (k : ℕ). 2 * (i + (n + 1 - (p + 1))) + (k + 1) * k ≡ 2 * (k * (n + 1) + 0)) same
         (by-rows ((p + 1) * p) (p * (n + 1)) ((p + 1 + 1) * (p + 1)) ((p + 1) * (n + 1)) (squares p) (one-more p (n + 1)) (f p refl))
 
--- §14.4: the place of a stretch of n records by its start and length
+-- §14.3, §14.4: the place of a stretch of n records by its start and length
 pub place-formula : (P : Stretch → Type 0) (n : ℕ) (s : Stretch) (place : ℕ) → FirstAt P (stretches n) s place → Formula n (place - 1) s
 place-formula P n s place f =
     let before : 0 + length (f .before) ≡ place - 1 = omega (arith, f .placed) in

@@ -2,12 +2,14 @@
 use Rattle.constraint.proofs.Library.{Bool, List, [], _&&_, _+_, _<_, _∙_, _∷_, _≡_, _≤_, ap, arith, by-cases, cond, eqb, false, getD, getD-set-other}
 use Rattle.constraint.proofs.Library.{getD-set-same, length, length-set, ltb, refl, replicate, set, subst, suc, sym, true, ℕ, ℕ-discrete, ⊎-elim}
 use Rattle.constraint.specs.{Accepted.Accepted, Steps.Step, Steps.at, declared.Constraint.Constraint}
-use Rattle.machine.specs.{Rule.ruleOf, Words.numberWords, Words.rowWords, Words.ruleAt, declared.Rule.Rule}
+use Rattle.row_type.specs.{Parameters.parametersOf, Words.numberWords, Words.rowWords, Words.parametersAt, declared.Parameters.Parameters}
 use Rattle.monitor.proofs.Demand.{accepted-sound}
-use Rattle.row.proofs.{Crowding.crowded-known, Crowding.step-by, Crowding.step-crowds, Engine.engine, Exact.Sound, Steps.Fits, Steps.Going}
+use Rattle.row.proofs.{Overflow.crowded-known, Overflow.step-by, Overflow.step-crowds, EveryType.every-type-exact, Exact.Sound, Steps.Fits}
+use Rattle.row.proofs.{Steps.Going}
 use Rattle.row.specs.Machine.{applied, brokenRow, concerns, freshState, rowFrom, rowOf, rowStep}
-use Rattle.row.specs.{Apart.changeBy, Apart.crowdedBy, Apart.steppedRow, Apart.withChange, Stored.wordsOf, Undo.noBefore, declared.Before.Before}
-use Rattle.row.specs.{declared.Occurrence.Occurrence, declared.Row.Row, declared.RowStep.RowStep}
+use Rattle.row.specs.{StepParts.changeBy, StepParts.crowdedBy, StepParts.steppedRow, StepParts.withChange, Stored.wordsOfRow, Undo.noRowUndo}
+use Rattle.row.specs.{declared.RowUndo.RowUndo}
+use Rattle.row.specs.{declared.StepInput.StepInput, declared.Row.Row, declared.RowStep.RowStep}
 use Rattle.stretch.proofs.Starts.{Running, run-broken, run-crowded, run-end, run-on, run-start}
 use Rattle.stretch.specs.Machine.{NeedsFrom, RunOf, seenAs}
 
@@ -17,34 +19,35 @@ sound-of c accepted = accepted-sound (c ∷ []) accepted .0
 pub few-of : (steps : List Step) (streams times : List ℕ) (count : ℕ) → RunOf steps streams times count → count ≤ 256 → length steps ≤ 256
 few-of steps streams times count run small = omega (arith, run .counted, small)
 
-same-row : (c d : Constraint) → ruleOf c ≡ ruleOf d → rowOf c ≡ rowOf d
+same-row : (c d : Constraint) → parametersOf c ≡ parametersOf d → rowOf c ≡ rowOf d
 unfolding rowOf
-same-row c d e = ap (λ (rule : Rule). rowFrom rule (replicate 64 0) (freshState rule)) e
+same-row c d e = ap (λ (parameters : Parameters). rowFrom parameters (replicate 64 0) (freshState parameters)) e
 
-rule-of : (c : Constraint) → rowOf c .rule ≡ ruleOf c
+parameters-of : (c : Constraint) → rowOf c .parameters ≡ parametersOf c
 unfolding rowOf
-rule-of c = refl
+parameters-of c = refl
 
 -- the rule of the row that lies in words
-abbrev pub ruleIn : List (List ℕ) → Rule
-ruleIn words = ruleAt (getD words 1 [])
+abbrev pub parametersIn : List (List ℕ) → Parameters
+parametersIn words = parametersAt (getD words 1 [])
 
-pub rule-lies : (c : Constraint) (words : List (List ℕ)) → words ≡ wordsOf (rowOf c) noBefore → ruleIn words ≡ ruleOf c
-unfolding wordsOf rowWords numberWords rowOf
-rule-lies c words is = ap ruleIn is
+pub parameters-lies : (c : Constraint) (words : List (List ℕ)) → words ≡ wordsOfRow (rowOf c) noRowUndo → parametersIn words ≡ parametersOf c
+unfolding wordsOfRow rowWords numberWords rowOf
+parameters-lies c words is = ap parametersIn is
 
 -- a step keeps it
-same-rule : (rule : Rule) (b : Bool) (x y : Row) → x .rule ≡ rule → y .rule ≡ rule → cond b x y .rule ≡ rule
-same-rule rule true x y p q = p
-same-rule rule false x y p q = q
+same-parameters : (parameters : Parameters) (b : Bool) (x y : Row) → x .parameters ≡ parameters → y .parameters ≡ parameters
+    → cond b x y .parameters ≡ parameters
+same-parameters parameters true x y p q = p
+same-parameters parameters false x y p q = q
 
-stepped-rule : (r : Row) (o : Occurrence) (number : ℕ) → steppedRow o number r .rule ≡ r .rule
+stepped-parameters : (r : Row) (o : StepInput) (number : ℕ) → steppedRow o number r .parameters ≡ r .parameters
 unfolding steppedRow withChange brokenRow applied
-stepped-rule r o number =
-    same-rule (r .rule) (ltb 0 (r .now .broken)) _ _ refl
-    (same-rule (r .rule) (ltb (r .now .due) (o .time)) _ _ refl
-    (same-rule (r .rule) (concerns (r .rule) (o .kind)) _ _ (same-rule (r .rule) (changeBy r o .breaks) _ _ refl refl)
-    (same-rule (r .rule) (o .closes && eqb (r .now .kept) 0) _ _ refl refl)))
+stepped-parameters r o number =
+    same-parameters (r .parameters) (ltb 0 (r .now .broken)) _ _ refl
+    (same-parameters (r .parameters) (ltb (r .now .due) (o .time)) _ _ refl
+    (same-parameters (r .parameters) (concerns (r .parameters) (o .kind)) _ _ (same-parameters (r .parameters) (changeBy r o .breaks) _ _ refl refl)
+    (same-parameters (r .parameters) (o .closes && eqb (r .now .kept) 0) _ _ refl refl)))
 
 module _ (streams times : List ℕ) (count start : ℕ) (small : count ≤ 256) where
   -- the row is that of a run over the constraint
@@ -54,45 +57,45 @@ module _ (streams times : List ℕ) (count start : ℕ) (small : count ≤ 256) 
       → Running c (sound-of c accepted) steps (run .taken) streams times (run .kept) (few-of steps streams times count run small) start size r
 
   -- so for each constraint of the rule with which the run began
-  pub record RunningTo (rule : Rule) (r : Row) (size place : ℕ) : Type 0 where
+  pub record RunningTo (parameters : Parameters) (r : Row) (size place : ℕ) : Type 0 where
     pub placed : place ≡ start + size
-    pub same : r .rule ≡ rule
-    pub running : (c : Constraint) → rule ≡ ruleOf c → RunningOver c r size
+    pub same : r .parameters ≡ parameters
+    pub running : (c : Constraint) → parameters ≡ parametersOf c → RunningOver c r size
 
   -- such a row lies in the words, which began with those of the rule
   pub record Lies (entry words : List (List ℕ)) (size place : ℕ) : Type 0 where
     pub row : Row
-    pub before : Before
-    pub lies : words ≡ wordsOf row before
-    pub to : RunningTo (ruleIn entry) row size place
+    pub before : RowUndo
+    pub lies : words ≡ wordsOfRow row before
+    pub to : RunningTo (parametersIn entry) row size place
 
-  pub to-start : (c : Constraint) (words : List (List ℕ)) → words ≡ wordsOf (rowOf c) noBefore → Lies words words 0 start
+  pub to-start : (c : Constraint) (words : List (List ℕ)) → words ≡ wordsOfRow (rowOf c) noRowUndo → Lies words words 0 start
   to-start c words is =
       record {
         row = rowOf c;
-        before = noBefore;
+        before = noRowUndo;
         lies = is;
         to = record {
           placed = omega arith;
-          same = rule-of c ∙ sym (rule-lies c words is);
+          same = parameters-of c ∙ sym (parameters-lies c words is);
           running = λ d e steps run accepted h.
               subst (λ (r : Row). Running d (sound-of d accepted) steps (run .taken) streams times (run .kept)
               (few-of steps streams times count run small) start 0 r)
-              (sym (same-row c d (sym (rule-lies c words is) ∙ e)))
+              (sym (same-row c d (sym (parameters-lies c words is) ∙ e)))
               (run-start d (sound-of d accepted) steps (run .taken) streams times (run .kept) (few-of steps streams times count run small) start
               (omega (arith, run .counted, h)));
         };
       }
 
-  module _ (rule : Rule) (r : Row) (size place : ℕ) (to : RunningTo rule r size place) where
-    pub to-end : count ≤ place → (c : Constraint) → rule ≡ ruleOf c → NeedsFrom c streams times count start 257
+  module _ (parameters : Parameters) (r : Row) (size place : ℕ) (to : RunningTo parameters r size place) where
+    pub to-end : count ≤ place → (c : Constraint) → parameters ≡ parametersOf c → NeedsFrom c streams times count start 257
     to-end end c e steps run accepted h =
         run-end c (sound-of c accepted) steps (run .taken) streams times (run .kept) (few-of steps streams times count run small) start size r
         (to .running c e steps run accepted h) (omega (arith, end, to .placed, run .counted))
 
     -- a step of the row
     module _ (more : place < count) where
-      abbrev o : Occurrence
+      abbrev o : StepInput
       o = seenAs (at streams place) (at times place)
 
       there : (steps : List Step) → RunOf steps streams times count → start + size < length steps
@@ -102,25 +105,26 @@ module _ (streams times : List ℕ) (count start : ℕ) (small : count ≤ 256) 
       here = ap (λ (i : ℕ). rowStep r (seenAs (at streams i) (at times i)) (size + 1)) (sym (to .placed))
 
       -- at most 64 wait in a row of a run, so the question for 64 is answered as its step would
-      crowd-is : (c : Constraint) (sound : Sound c) (steps : List Step) → Fits c (engine c sound) steps r → r .now .broken ≡ 0
-          → rowStep r (seenAs (at streams (start + size)) (at times (start + size))) (size + 1) .crowded ≡ crowdedBy (r .rule) (r .now) o
+      crowd-is : (c : Constraint) (sound : Sound c) (steps : List Step) → Fits c (every-type-exact c sound) steps r → r .now .broken ≡ 0
+          → rowStep r (seenAs (at streams (start + size)) (at times (start + size))) (size + 1) .crowded ≡ crowdedBy (r .parameters) (r .now) o
       crowd-is c sound steps f unbroken =
           ap (λ (s : RowStep). s .crowded) here ∙ step-crowds r o (size + 1)
-          ∙ sym (crowded-known r o (⊎-elim (λ (g : Going c (engine c sound) steps (r .times) (r .now)). g .room)
+          ∙ sym (crowded-known r o (⊎-elim (λ (g : Going c (every-type-exact c sound) steps (r .times) (r .now)). g .room)
           (λ b. absurd (omega (arith, b .counted, unbroken))) (f .state)))
 
-      pub to-crowded : crowdedBy (r .rule) (r .now) o ≡ true → (c : Constraint) → rule ≡ ruleOf c → NeedsFrom c streams times count start 257
+      pub to-crowded : crowdedBy (r .parameters) (r .now) o ≡ true → (c : Constraint) → parameters ≡ parametersOf c
+          → NeedsFrom c streams times count start 257
       to-crowded crowded c e steps run accepted h =
           let running = to .running c e steps run accepted h in
           run-crowded c (sound-of c accepted) steps (run .taken) streams times (run .kept) (few-of steps streams times count run small) start size r
           running (there steps run) (crowd-is c (sound-of c accepted) _ (running .fits) (running .unbroken) ∙ crowded)
 
-      module _ (calm : crowdedBy (r .rule) (r .now) o ≡ false) where
+      module _ (calm : crowdedBy (r .parameters) (r .now) o ≡ false) where
         stepped-is : rowStep r (seenAs (at streams (start + size)) (at times (start + size))) (size + 1) .crowded ≡ false
             → rowStep r (seenAs (at streams (start + size)) (at times (start + size))) (size + 1) .row ≡ steppedRow o (size + 1) r
         stepped-is e = ap (λ (s : RowStep). s .row) (here ∙ step-by r o (size + 1) false (ap (λ (s : RowStep). s .crowded) (sym here) ∙ e))
 
-        pub to-broken : 0 < steppedRow o (size + 1) r .now .broken → (c : Constraint) → rule ≡ ruleOf c
+        pub to-broken : 0 < steppedRow o (size + 1) r .now .broken → (c : Constraint) → parameters ≡ parametersOf c
             → NeedsFrom c streams times count start (size + 1)
         to-broken broken c e steps run accepted h =
             let running = to .running c e steps run accepted h in
@@ -128,11 +132,11 @@ module _ (streams times : List ℕ) (count start : ℕ) (small : count ≤ 256) 
             run-broken c (sound-of c accepted) steps (run .taken) streams times (run .kept) (few-of steps streams times count run small) start size r
             running (there steps run) quiet (subst (λ (x : Row). 0 < x .now .broken) (sym (stepped-is quiet)) broken)
 
-        pub to-next : steppedRow o (size + 1) r .now .broken ≤ 0 → RunningTo rule (steppedRow o (size + 1) r) (size + 1) (place + 1)
+        pub to-next : steppedRow o (size + 1) r .now .broken ≤ 0 → RunningTo parameters (steppedRow o (size + 1) r) (size + 1) (place + 1)
         to-next unbroken =
             record {
               placed = omega (arith, to .placed);
-              same = stepped-rule r o (size + 1) ∙ to .same;
+              same = stepped-parameters r o (size + 1) ∙ to .same;
               running = λ c e steps run accepted h.
                   let running = to .running c e steps run accepted h in
                   let quiet = crowd-is c (sound-of c accepted) _ (running .fits) (running .unbroken) ∙ calm in

@@ -11,9 +11,9 @@ use Rattle.constraint.specs.{Limits.streamCount, Limits.waitingLimit, Questions
 use Rattle.constraint.specs.{Stretches.Breaks, Stretches.TakesEach, Stretches.takes-none, Waiting.waiting, declared.Answer.the-variants.Taken}
 use Rattle.constraint.specs.{declared.Call.Call, declared.Constraint.Constraint, declared.Verdict.Verdict}
 use Rattle.row.proofs.Steps.{After, Fits, Going, fits-reads, fits-room, fits-start, fits-step, seen}
-use Rattle.row.proofs.{Engine.engine, Exact.Sound}
+use Rattle.row.proofs.{EveryType.every-type-exact, Exact.Sound}
 use Rattle.row.specs.Machine.{eventAt, rowOf, rowStep, rowVerdict, tickAt}
-use Rattle.row.specs.{declared.Occurrence.Occurrence, declared.Row.Row, declared.RowStep.RowStep}
+use Rattle.row.specs.{declared.StepInput.StepInput, declared.Row.Row, declared.RowStep.RowStep}
 use Rattle.stretch.proofs.Taking.{CallAt, next, next-is, next-judged, part-next, takes-at, takes-next, takes-valid}
 use Rattle.stretch.specs.Machine.{Kept, Needs, seenAs, stepAs}
 
@@ -65,14 +65,16 @@ module _ (c : Constraint) (sound : Sound c) where
   open-of part v (reads-broken n b) is = never (cc)
 
   -- a row that fits is open while it is not broken, and shut when it is
-  fits-open : (part : List Step) → Valid part → closed part ≡ false → (r : Row) → Fits c (engine c sound) part r → r .now .broken ≡ 0 → Open c part
+  fits-open : (part : List Step) → Valid part → closed part ≡ false → (r : Row) → Fits c (every-type-exact c sound) part r → r .now .broken ≡ 0
+      → Open c part
   unfolding rowVerdict
-  fits-open part valid not-closed r fits unbroken = open-of part _ (fits-reads c (engine c sound) part valid r fits) (rw (unbroken, not-closed))
+  fits-open part valid not-closed r fits unbroken = open-of part _ (fits-reads c (every-type-exact c sound) part valid r fits)
+      (rw (unbroken, not-closed))
 
-  fits-shut : (part : List Step) → Valid part → (r : Row) → Fits c (engine c sound) part r → 0 < r .now .broken → ¬ Open c part
+  fits-shut : (part : List Step) → Valid part → (r : Row) → Fits c (every-type-exact c sound) part r → 0 < r .now .broken → ¬ Open c part
   fits-shut part valid r fits broken =
       ⊎-elim
-      (λ (g : Going c (engine c sound) part (r .times) (r .now)). absurd (omega (arith, g .unbroken, broken)))
+      (λ (g : Going c (every-type-exact c sound) part (r .times) (r .now)). absurd (omega (arith, g .unbroken, broken)))
       (λ b. broken-shut c (r .now .broken) valid (b .first)) (fits .state)
 
   module _ (steps : List Step) (taken : TakesEach [] steps) (streams times : List ℕ) (kept : Kept steps streams times) (few : length steps ≤ 256)
@@ -114,12 +116,12 @@ module _ (c : Constraint) (sound : Sound c) where
     pub record Running (size : ℕ) (r : Row) : Type 0 where
       pub within : start + size ≤ length steps
       pub takes : TakesEach alone (part size)
-      pub fits : Fits c (engine c sound) (part size) r
+      pub fits : Fits c (every-type-exact c sound) (part size) r
       pub unbroken : r .now .broken ≡ 0
 
     pub run-start : start ≤ length steps → Running 0 (rowOf c)
     unfolding rowOf
-    run-start h = record { within = omega (arith, h); takes = takes-none; fits = fits-start c (engine c sound); unbroken = refl }
+    run-start h = record { within = omega (arith, h); takes = takes-none; fits = fits-start c (every-type-exact c sound); unbroken = refl }
 
     module _ (size : ℕ) (r : Row) (run : Running size r) where
       is-open : Open c (part size)
@@ -129,14 +131,14 @@ module _ (c : Constraint) (sound : Sound c) where
       unbroken-yet : (m : ℕ) → m ≤ size → ¬ Breaks c (part m)
       unbroken-yet m h breaks = breaks .1 (subst (Open c) (take-take m size rest h) (open-prefix c (takes-valid (run .takes)) is-open m))
 
-      -- the end comes first
+      -- §14.2: the end comes first
       pub run-end : length steps ≤ start + size → Needs c rest 257
       run-end end m more short =
           subst (Decides (Breaks c (part m))) (sym (lt-leb 257 m (omega (arith, short, length-drop start steps, few))))
           (unbroken-yet m (omega (arith, short, length-drop start steps, end)))
 
       module _ (there : start + size < length steps) where
-        abbrev o : Occurrence
+        abbrev o : StepInput
         o = seenAs (at streams (start + size)) (at times (start + size))
 
         abbrev step : Step
@@ -154,7 +156,7 @@ module _ (c : Constraint) (sound : Sound c) where
 
         -- what the step makes of the row
         abbrev Holds : List Step → RowStep → Type 0
-        Holds steps moved = After c (engine c sound) steps (moved .crowded) (moved .row)
+        Holds steps moved = After c (every-type-exact c sound) steps (moved .crowded) (moved .row)
 
         abbrev pub moved : RowStep
         moved = rowStep r o (size + 1)
@@ -162,14 +164,14 @@ module _ (c : Constraint) (sound : Sound c) where
         after : Holds (part (suc size)) moved
         after =
             subst (λ (l : List Step). Holds l moved) (sym (part-next steps taken start size there))
-            (subst (λ (s : Occurrence). Holds (part size ++ (step ∷ [])) (rowStep r s (size + 1))) seen-is
+            (subst (λ (s : StepInput). Holds (part size ++ (step ∷ [])) (rowStep r s (size + 1))) seen-is
             (subst (λ (n : ℕ). Holds (part size ++ (step ∷ [])) (rowStep r (seen (part size) step) (n + 1))) (part-size size (run .within))
-            (fits-step c (engine c sound) (part size) (takes-valid (run .takes)) sound step accepts r (run .fits))))
+            (fits-step c (every-type-exact c sound) (part size) (takes-valid (run .takes)) sound step accepts r (run .fits))))
 
-        -- 12 comes first
+        -- §14.2: 12 comes first
         pub run-crowded : moved .crowded ≡ true → Needs c rest 257
         run-crowded crowded m more short =
-            let full = subst (λ b. After c (engine c sound) (part (suc size)) b (moved .row)) crowded after in
+            let full = subst (λ b. After c (every-type-exact c sound) (part (suc size)) b (moved .row)) crowded after in
             subst (Decides (Breaks c (part m))) (sym (lt-leb 257 m (omega (arith, short, length-drop start steps, few))))
             (by-cases (decLt size m)
             (λ longer breaks. omega (arith, full .1, of-room (part (suc size)) (room-then m longer short (breaks .0)) (full .0)))
@@ -189,14 +191,14 @@ module _ (c : Constraint) (sound : Sound c) where
                 (at-size .judged))))
 
         module _ (calm : moved .crowded ≡ false) where
-          now-fits : Fits c (engine c sound) (part (suc size)) (moved .row)
-          now-fits = subst (λ b. After c (engine c sound) (part (suc size)) b (moved .row)) calm after
+          now-fits : Fits c (every-type-exact c sound) (part (suc size)) (moved .row)
+          now-fits = subst (λ b. After c (every-type-exact c sound) (part (suc size)) b (moved .row)) calm after
 
           now-takes : TakesEach alone (part (suc size))
           now-takes =
               takes-next steps taken start size there alone (run .takes)
               (room-one (part (suc size))
-              (fits-room c (engine c sound) (part (suc size)) (part-valid (suc size) (omega (arith, there))) (moved .row) now-fits))
+              (fits-room c (every-type-exact c sound) (part (suc size)) (part-valid (suc size) (omega (arith, there))) (moved .row) now-fits))
 
           pub run-on : moved .row .now .broken ≡ 0 → Running (suc size) (moved .row)
           run-on unbroken = record { within = omega (arith, there); takes = now-takes; fits = now-fits; unbroken = unbroken }
@@ -217,6 +219,7 @@ module _ (c : Constraint) (sound : Sound c) where
                 (takes-next steps taken start (suc size + d) (omega (arith, h, last)) alone (takes-on d (suc size + d) refl (omega (arith, h, last)))
                 (room-one (part (suc (suc size + d))) (λ o. absurd (shut (suc (suc size + d)) (omega arith) (omega (arith, h, last)) o))))
 
+            -- §14.2
             pub run-broken : Needs c rest (size + 1)
             run-broken m more short =
                 let h : start + m ≤ length steps = omega (arith, more, short, length-drop start steps) in

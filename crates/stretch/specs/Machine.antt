@@ -12,7 +12,7 @@ use Rattle.constraint.specs.Accepted.{Accepted}
 use Rattle.constraint.specs.Recording.{ReadsInOrder, recording-of, recording-refused}
 use Rattle.constraint.specs.declared.Constraint.{Constraint}
 use Rattle.row.specs.Machine.{eventAt, tickAt}
-use Rattle.row.specs.declared.Occurrence.{Occurrence}
+use Rattle.row.specs.declared.StepInput.{StepInput}
 use Rattle.constraint.specs.Stretches.{TakesEach, Breaks, stretchOf, stretches, Some, FirstAt, Breaking, Stretch, recordLimit, AnswersRow}
 use Rattle.table.specs.Scan.{RowIs}
 use Rattle.stretch.specs.declared.Gathered.{Gathered}
@@ -24,7 +24,7 @@ abbrev pub stepAs : ℕ → ℕ → Step
 stepAs s t = cond (eqb s streamCount) (tick t) (event s t)
 
 -- what a row sees of it
-abbrev pub seenAs : ℕ → ℕ → Occurrence
+abbrev pub seenAs : ℕ → ℕ → StepInput
 seenAs s t = cond (eqb s streamCount) (tickAt t) (eventAt s t)
 
 -- the numbers are those of the first 256 steps
@@ -32,7 +32,7 @@ abbrev pub Kept : List Step → List ℕ → List ℕ → Type 0
 Kept steps streams times = (i : ℕ) → i < length steps → i < recordLimit → getD steps i close ≡ stepAs (at streams i) (at times i)
 
 -- one record more, as long as there is room; the count is 257 from then on
-pub record KeepsRecord (streams times : List ℕ) (count : ℕ) (o : Occurrence) (streams′ times′ : List ℕ) (count′ : ℕ) : Type 0 where
+pub record KeepsRecord (streams times : List ℕ) (count : ℕ) (o : StepInput) (streams′ times′ : List ℕ) (count′ : ℕ) : Type 0 where
   pub room : count < recordLimit → (count′ ≡ count + 1) × (streams′ ≡ set streams count (o .stream)) × (times′ ≡ set times count (o .time))
   pub full : recordLimit ≤ count → (count′ ≡ recordLimit + 1) × (streams′ ≡ streams) × (times′ ≡ times)
 
@@ -76,7 +76,7 @@ abbrev pub TriesAll : Constraint → List ℕ → List ℕ → ℕ → StretchAn
 TriesAll c streams times count answer = (steps : List Step) → RunOf steps streams times count → Accepted (c ∷ []) → Tries c steps answer
 
 -- and in the row of number i of a table
-abbrev pub Asks : ℕ → ℕ → Constraint → List ℕ → List ℕ → ℕ → StretchAnswer → Type 0
-Asks rowCount i c streams times count answer =
+abbrev pub AsksRow : ℕ → ℕ → Constraint → List ℕ → List ℕ → ℕ → StretchAnswer → Type 0
+AsksRow rowCount i c streams times count answer =
     (rows : List Constraint) (steps : List Step) → RowIs rowCount i c rows → Accepted rows → RunOf steps streams times count
     → AnswersRow rows steps i answer

@@ -3,20 +3,20 @@
 use clock::Clock;
 use constraint::Constraint;
 use constraint::StretchAnswer;
-use machine::parts::kind_of;
-use machine::words::BROKEN;
 use questions::NO_EVENT;
 use questions::NO_STREAM;
-use queue::SIZE;
-use row::Occurrence;
+use ring::SIZE;
+use row::StepInput;
 use row::stored;
+use row_type::parts::kind_of;
+use row_type::row_words::BROKEN;
 use table::ReadAnswer;
 use table::scan;
 ghost use mathlib.Core.Path.{_≡_};
 ghost use Prim.Native.Nat.{ℕ, _≤_, _<_};
 ghost use lib.ListN.{length, getD};
 ghost use Rattle.constraint.specs.Stretches.{AnswersStretchUpTo};
-ghost use Rattle.stretch.specs.Machine.{seenAs, KeepsRecord, GathersRecords, NeedsFrom, Searches, TriesAll, Asks};
+ghost use Rattle.stretch.specs.Machine.{seenAs, KeepsRecord, GathersRecords, NeedsFrom, Searches, TriesAll, AsksRow};
 
 // How many records a recording may have.
 pub const RECORD_LIMIT: usize = 256;
@@ -39,18 +39,18 @@ pub struct Found {
 }
 
 // What a row sees of a record.
-fn seen(stream: u64, time: u64) -> Occurrence
+fn seen(stream: u64, time: u64) -> StepInput
     ensures { λ r. ⌜ r ≡ seenAs stream time ⌝ }
 {
     if stream == NO_STREAM {
-        return Occurrence {
+        return StepInput {
             kind: NO_EVENT,
             stream: NO_STREAM,
             time,
             closes: false,
         };
     }
-    Occurrence {
+    StepInput {
         kind: kind_of(stream),
         stream,
         time,
@@ -59,7 +59,12 @@ fn seen(stream: u64, time: u64) -> Occurrence
 }
 
 // Keeps a record's stream and time behind those of so many, if there is room, and answers how many there are then.
-fn keep(streams: &mut [u64; 256], times: &mut [u64; 256], count: usize, o: Occurrence) -> usize
+fn append_event(
+    streams: &mut [u64; 256],
+    times: &mut [u64; 256],
+    count: usize,
+    o: StepInput,
+) -> usize
     ensures { λ r. ⌜ KeepsRecord (now (streams .entry)) (now (times .entry)) count o (now (streams .exit)) (now (times .exit)) r ⌝ }
 {
     if RECORD_LIMIT <= count {
@@ -95,8 +100,8 @@ fn gather(bytes: &[u8], streams: &mut [u64; 256], times: &mut [u64; 256]) -> Gat
             };
         }
         let call = read.call;
-        let o = questions::occurrence(call, 0);
-        count = keep(streams, times, count, o);
+        let o = questions::step_input(call, 0);
+        count = append_event(streams, times, count, o);
         let later = read.clock;
         clock = later;
         place = read.next;
@@ -108,6 +113,7 @@ fn gather(bytes: &[u8], streams: &mut [u64; 256], times: &mut [u64; 256]) -> Gat
     }
 }
 
+// §14.2
 // The least number of records from a start on that break the row; 257 where none do, as the end or a 12 comes first.
 fn need_from(
     constraint: Constraint,
@@ -125,7 +131,7 @@ fn need_from(
     let mut at = start;
     while at < count {
         let o = seen(streams[at], times[at]);
-        if stored::crowds(&words, o) {
+        if stored::step_overflows(&words, o) {
             return NEVER;
         }
         at = at + 1;
@@ -157,6 +163,7 @@ fn needs(
     need
 }
 
+// §14.3
 // The first stretch of so many records, by length and then by start, that is as long as its start needs; each one tried is counted.
 fn search(need: &[usize; 256], count: usize) -> Found
     requires { ⌜ count ≤ 256 ⌝ }
@@ -219,7 +226,7 @@ fn ask_row(
     count: usize,
 ) -> StretchAnswer
     requires { ⌜ count ≤ 256 ⌝ }
-    ensures { λ r. ⌜ Asks rows row constraint (now (streams .entry)) (now (times .entry)) count r ⌝ }
+    ensures { λ r. ⌜ AsksRow rows row constraint (now (streams .entry)) (now (times .entry)) count r ⌝ }
 {
     if rows as u64 <= row {
         return StretchAnswer::Refused {
@@ -230,6 +237,7 @@ fn ask_row(
     try_row(constraint, streams, times, count)
 }
 
+// §8.22, §8.23, §14.4, §14.5
 // The shortest stretch of a recording that breaks a row of a table of an edition up to the newest, and how many were tried by length and by start;
 // or the refusal. For n records it takes at most n(n + 1)/2 steps of the row.
 pub fn shortest(newest: u8, table: &[u8], recording: &[u8], row: u64) -> StretchAnswer

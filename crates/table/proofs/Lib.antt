@@ -1,18 +1,18 @@
 -- The laws of the table's bytes.
 mod Names
 pub mod Bodies
-pub mod Standing
+pub mod BodyUnique
 pub mod Shapes
 pub mod Same
 pub mod Places
-pub mod Once
+pub mod ReadUnique
 pub mod RoundTrip
 pub mod AcceptedRows
 pub mod Progress
 pub mod Stores
 pub mod Written
 pub mod Answers
-pub mod Again
+pub mod RoundTripCode
 pub mod Scanning
 pub mod RawRows
-pub mod RawAgain
+pub mod RawRoundTrip

@@ -23,8 +23,8 @@ pub use Rattle.constraint.specs.Types.{takesCount, time, typeOf, upper, upper-o
 pub use Rattle.constraint.specs.{Limits.rowLimit, Questions.Judged, Questions.Question, Steps.at, declared.Answer.Answer}
 pub use Rattle.constraint.specs.{declared.Answer.the-variants.Refused, declared.Answer.the-variants.Taken, declared.Constraint.Constraint}
 pub use Rattle.constraint.specs.{declared.Constraint.the-variants.Delay, declared.Entry.Entry, declared.Table.Table, declared.fields.Fields.Fields}
-pub use Rattle.number.proofs.Numbers.{bytes-length, bytes-of-number, number-below, number-of-bytes}
-pub use Rattle.number.proofs.Stores.{stores-append, stores-front}
+pub use Rattle.big_endian.proofs.Numbers.{bytes-length, bytes-of-number, number-below, number-of-bytes}
+pub use Rattle.big_endian.proofs.Stores.{stores-append, stores-front}
 pub use Rattle.table.specs.Raw.{Known, KnownAt, RawRows, RowTaken, TypeKnown, WritesRaw, all-read, bodyLength, rawBody}
 pub use Rattle.table.specs.Raw.{rawSize, stopped-at}
 pub use Rattle.table.specs.{Reading.ReadsInto, Reading.readAs, Reading.readOf, Rows.ReadsAt, Rows.bytesRead, Rows.timesRead, Rows.timesStart}

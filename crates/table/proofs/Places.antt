@@ -3,7 +3,7 @@ use Rattle.table.proofs.Names.{Answer, Bytes, Constraint, Decides, Judg
 use Rattle.table.proofs.Names.{_+_, _-_, _<_, _∷_, _≡_, _≤_, add-sub-cancel-left, ap, arith, at, bodyAt, constraintOf, drop, edition-above}
 use Rattle.table.proofs.Names.{judged-all, judged-no, judged-once-on, judged-yes, lastType, leb, length, lengthAt, placeQuestions, rowLimit}
 use Rattle.table.proofs.Names.{rowQuestions, same-test, take, test-le, ℕ}
-use Rattle.table.proofs.{Bodies.bytes-part, Shapes.there, Standing.row-stands, Standing.stands-once}
+use Rattle.table.proofs.{Bodies.bytes-part, Shapes.there, BodyUnique.row-stands, BodyUnique.stands-once}
 
 -- a row is whole where its length is no more than what is left behind the length field
 pub whole-asked : (bytes : List ℕ) (place size : ℕ) → size ≡ lengthAt bytes place → place + 2 ≤ length bytes

@@ -9,7 +9,7 @@ use Rattle.table.proofs.Names.{ltb-true}
 use Rattle.table.proofs.Names.{rawBody, rawRows, rawSize, read-back, refl, rowBody, rowBytes, rowLimit, rows-then, rowsBytes, rowsQuestions}
 use Rattle.table.proofs.Names.{sets, split}
 use Rattle.table.proofs.Names.{stopped-at, stores-append, suc, sym, takesCount, true, yes-of, zero, ℕ}
-use Rattle.table.proofs.{Bodies.bytes-part, Bodies.row-length, Shapes.shape-asked, Standing.row-stands, Written.written-refused}
+use Rattle.table.proofs.{Bodies.bytes-part, Bodies.row-length, Shapes.shape-asked, BodyUnique.row-stands, Written.written-refused}
 
 -- The test of a row's type
 

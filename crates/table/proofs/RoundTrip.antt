@@ -6,7 +6,7 @@ use Rattle.table.proofs.Names.{drop-of-length-le, edition-above, fields
 use Rattle.table.proofs.Names.{length-drop, length-take-le, lengthAt, no-more, number-of-bytes, placeQuestions, row-fits, row-refused}
 use Rattle.table.proofs.Names.{row-taken, rowBody, rowBytes, rowLimit, rowQuestions, rowThen, rowsBytes, rowsQuestions, subst₂, sym, table-of}
 use Rattle.table.proofs.Names.{table-refused, tableBytesIn, take-append-drop, take-append-seam, take-at, typeOf, version-taken, ℕ}
-use Rattle.table.proofs.{Bodies.number-back, Bodies.range-fits, Bodies.row-length, Places.place-row, Places.place-taken, Standing.body-short}
+use Rattle.table.proofs.{Bodies.number-back, Bodies.range-fits, Bodies.row-length, Places.place-row, Places.place-taken, BodyUnique.body-short}
 
 -- From bytes to rows and back
 
@@ -50,7 +50,7 @@ rows-written {edition} bytes all (row-taken {i} {place} {later} c h at-c judged 
     let taken = place-taken edition bytes i place c judged in
     one-more bytes place c later (row-written bytes place c all (taken .whole) (at-c (taken .shape))) (rows-written bytes all rows)
 
--- what is read from bytes has those bytes
+-- §1.11, §4.2, §4.3, §4.9, §16.7: what is read from bytes has those bytes
 pub read-then-write : {newest : ℕ} (bytes : List ℕ) (rows : List Constraint) → Bytes bytes → ReadsTableUpTo newest bytes (table-of rows)
     → tableBytesIn (at bytes 0) rows ≡ bytes
 unfolding tableBytesIn
@@ -116,7 +116,7 @@ rows-read edition before i (c ∷ rows) judged =
     row-taken {place = length before} c (omega (arith, length-append before (rowBytes c ++ after), length-append (rowBytes c) after, row-length c))
     (row-there edition before c after (parts .0)) (row-read edition before c after i (room .0) (known .0) (parts .0)) later
 
--- what is written in an edition that the reader takes is read back
+-- §4.10, §16.7: what is written in an edition that the reader takes is read back
 pub write-then-read : (newest edition : ℕ) (rows : List Constraint) → 0 < lastType edition → edition ≤ newest → AcceptedIn edition rows
     → ReadsTableUpTo newest (tableBytesIn edition rows) (table-of rows)
 unfolding tableBytesIn

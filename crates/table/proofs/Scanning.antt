@@ -5,7 +5,7 @@ use Rattle.table.proofs.Names.{getD, getElem?, length, length-append, n
 use Rattle.table.proofs.Names.{suc, sym}
 use Rattle.table.proofs.Names.{some, table-of, table-refused, version-taken, zero, ℕ}
 use Rattle.table.proofs.Progress.{RowsUpTo, rows-end, rows-more, rows-refused, rows-start}
-use Rattle.table.proofs.{AcceptedRows.rows-accepted, Once.reads-once, Places.place-taken, Standing.stands-once}
+use Rattle.table.proofs.{AcceptedRows.rows-accepted, ReadUnique.reads-once, Places.place-taken, BodyUnique.stands-once}
 
 -- Judging
 

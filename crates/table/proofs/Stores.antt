@@ -3,7 +3,7 @@ use Rattle.table.proofs.Names.{Constraint, Entry, Fields, HoldsRow, Lis
 use Rattle.table.proofs.Names.{add-one, ap, ap₂, arith, at, bytes-length, bytesIn, bytesOf, drop, drop-cons, fieldsOf, getD, getD-take, length}
 use Rattle.table.proofs.Names.{length-append, length-take, lengthOf, regular, rowBody, rowBytes, rows-from, rowsBytes, rowsOf, sets}
 use Rattle.table.proofs.Names.{stores-append, suc, sym, timesBytes, timesIn, typeOf, ℕ}
-use Rattle.table.proofs.{Bodies.row-length, Standing.body-expected, Standing.body-parts}
+use Rattle.table.proofs.{Bodies.row-length, BodyUnique.body-expected, BodyUnique.body-parts}
 
 -- A row's numbers
 
@@ -22,7 +22,7 @@ module _ (c : Constraint) (f : Fields) (holds : HoldsRow c f) where
   numbers-there = omega (arith, length-take (length (bytesIn (fieldsOf c))) (f .bytes), ap length (holds .bytes))
 
   -- the length is that of the list
-  pub numbers-length : lengthOf (f .line .form) (at (f .bytes) 0) ≡ length (rowBody c)
+  pub numbers-length : lengthOf (f .line .tag) (at (f .bytes) 0) ≡ length (rowBody c)
   numbers-length = ap₂ lengthOf (holds .typed) first-byte ∙ body-expected c
 
 -- the first of the times left is stored
@@ -38,11 +38,11 @@ times-more buffer place xs i there =
     )
 
 -- what the stores of a body leave: of the type byte, of the other bytes and of the times
-pub body-stores : (buffer one two three : List ℕ) (place : ℕ) (c : Constraint) (form next : ℕ) (bytes times : List ℕ)
-    → form ≡ typeOf c → bytes ≡ bytesIn (fieldsOf c) → next ≡ place + 1 + length (bytesIn (fieldsOf c)) → times ≡ timesIn (fieldsOf c)
-    → one ≡ sets buffer place (form ∷ []) → two ≡ sets one (place + 1) bytes → three ≡ sets two next (timesBytes times)
+pub body-stores : (buffer one two three : List ℕ) (place : ℕ) (c : Constraint) (tag next : ℕ) (bytes times : List ℕ)
+    → tag ≡ typeOf c → bytes ≡ bytesIn (fieldsOf c) → next ≡ place + 1 + length (bytesIn (fieldsOf c)) → times ≡ timesIn (fieldsOf c)
+    → one ≡ sets buffer place (tag ∷ []) → two ≡ sets one (place + 1) bytes → three ≡ sets two next (timesBytes times)
     → three ≡ sets buffer place (rowBody c)
-body-stores buffer one two three place c form next bytes times f b n t p q r = cc (stored)
+body-stores buffer one two three place c tag next bytes times f b n t p q r = cc (stored)
   where
     stored : sets (sets (sets buffer place (typeOf c ∷ [])) (place + 1) (bytesIn (fieldsOf c))) (place + 1 + length (bytesIn (fieldsOf c)))
         (timesBytes (timesIn (fieldsOf c))) ≡ sets buffer place (rowBody c)

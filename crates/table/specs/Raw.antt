@@ -36,7 +36,7 @@ unfoldable pub rawRows : List ℕ → ℕ → ℕ → List Constraint
 rawRows bytes i zero = []
 rawRows bytes i (suc n) = constraintOf (rawBody bytes i) ∷ rawRows bytes (i + 1) n
 
--- the bytes begin with these rows, each the one that its body stands for
+-- §4.10: the bytes begin with these rows, each the one that its body stands for
 pub record RawRows (bytes : List ℕ) (rows : List Constraint) : Type 0 where
   pub whole : length rows * rawSize ≤ length bytes
   pub stand : (i : ℕ) → i < length rows → StandsFor (rawBody bytes i) (getD rows i filler)
@@ -64,7 +64,7 @@ pub record Known (edition : ℕ) (bytes : List ℕ) (n : ℕ) : Type 0 where
 abbrev pub RowTaken : ℕ → List ℕ → ℕ → Type 0
 RowTaken edition bytes i = KnownAt edition bytes i × Judged (rowQuestions (constraintOf (rawBody bytes i))) Taken
 
--- the number of the first row that is refused, or of the first that is not whole or has no entry
+-- §11.5: the number of the first row that is refused, or of the first that is not whole or has no entry
 pub record FirstRefused (edition : ℕ) (bytes : List ℕ) (row : ℕ) : Type 0 where
   pub room : row ≤ rowLimit
   pub taken : (i : ℕ) → i < row → RowTaken edition bytes i

@@ -33,7 +33,7 @@ Says edition Reads (ReadAnswer.Refused n place) count = Reads (table-refused n p
 abbrev pub CountsRows : ℕ → List ℕ → Scan → Type 0
 CountsRows edition bytes r = Says edition (ReadsRows edition bytes 0 1) (r .answer) (r .rows)
 
--- the promise of judging a table: its answer is what reading the bytes gives, and it counts the rows, and no row after a refusal
+-- §9.3: the promise of judging a table: its answer is what reading the bytes gives, and it counts the rows, and no row after a refusal
 abbrev pub Scans : ℕ → List ℕ → Scan → Type 0
 Scans newest bytes r = Says (at bytes 0) (ReadsTableUpTo newest bytes) (r .answer) (r .rows)
 

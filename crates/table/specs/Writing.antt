@@ -14,6 +14,7 @@ abbrev pub answerIn : WriteAnswer → Answer
 answerIn (WriteAnswer.Written n) = Taken
 answerIn (WriteAnswer.Refused n) = Refused n
 
+-- §8.16, §9.7, §9.8
 -- the writer's promise: its answer is that of its questions, the buffer is what writing leaves, and the number is that of the bytes written
 pub record Writes (edition : ℕ) (rows : List Constraint) (before : List ℕ) (r : WriteAnswer) (after : List ℕ) : Type 0 where
   pub judged : Judged (writerQuestions edition rows before) (answerIn r)

@@ -25,17 +25,18 @@ pub(crate) fn times_count(size: usize) -> usize
     size >> 3
 }
 
+// §8.4
 // Question 4 of a type byte and the byte behind it: is the type one of the edition, and is n in range?
-pub(crate) fn type_known(edition: u8, form: u8, n: u8) -> bool
-    ensures { λ r. ⌜ Decides (TypeKnown edition form n) r ⌝ }
+pub(crate) fn type_known(edition: u8, tag: u8, n: u8) -> bool
+    ensures { λ r. ⌜ Decides (TypeKnown edition tag n) r ⌝ }
 {
-    if form == 0 {
+    if tag == 0 {
         return false;
     }
-    if last_type(edition) < form {
+    if last_type(edition) < tag {
         return false;
     }
-    if takes_count(form) {
+    if takes_count(tag) {
         if n < 2 {
             return false;
         }
@@ -46,41 +47,42 @@ pub(crate) fn type_known(edition: u8, form: u8, n: u8) -> bool
     true
 }
 
+// §8.4
 // Question 4, of a row with a length field of that size: is the type one of the edition, n in range, the length right?
 pub(crate) fn shape_fits(edition: u8, body: &[u8], size: usize) -> bool
     requires { ⌜ size ≡ length (now body) ⌝ }
     ensures { λ r. ⌜ Decides (ShapeFits edition (now (body .entry))) r ⌝ }
 {
-    let form = number::byte_at(body, 0);
-    let n = number::byte_at(body, 1);
-    if !type_known(edition, form, n) {
+    let tag = big_endian::byte_at(body, 0);
+    let n = big_endian::byte_at(body, 1);
+    if !type_known(edition, tag, n) {
         return false;
     }
-    size == length_of(form, n)
+    size == length_of(tag, n)
 }
 
 // The row that a body stands for. A body of another shape is read as far as it goes, with 0 past its end.
 pub fn row_of(body: &[u8]) -> Constraint
     ensures { λ r. ⌜ r ≡ constraintOf (now (body .entry)) ⌝ }
 {
-    let form = number::byte_at(body, 0);
-    let n = number::byte_at(body, 1);
-    let start = times_start(length_of(form, n));
+    let tag = big_endian::byte_at(body, 0);
+    let n = big_endian::byte_at(body, 1);
+    let start = times_start(length_of(tag, n));
     let bytes = [
         n,
-        number::byte_at(body, 2),
-        number::byte_at(body, 3),
-        number::byte_at(body, 4),
-        number::byte_at(body, 5),
+        big_endian::byte_at(body, 2),
+        big_endian::byte_at(body, 3),
+        big_endian::byte_at(body, 4),
+        big_endian::byte_at(body, 5),
     ];
     let second = start + 8;
     let third = second + 8;
     let fourth = third + 8;
     let times = [
-        number::eight_at(body, start),
-        number::eight_at(body, second),
-        number::eight_at(body, third),
-        number::eight_at(body, fourth),
+        big_endian::eight_at(body, start),
+        big_endian::eight_at(body, second),
+        big_endian::eight_at(body, third),
+        big_endian::eight_at(body, fourth),
     ];
-    Constraint::read(form, bytes, times)
+    Constraint::read(tag, bytes, times)
 }

@@ -29,6 +29,7 @@ pub enum WriteAnswer {
     Refused(u8),
 }
 
+// §4.2, §4.9, §4.10, §7.6, §8.1, §9.3
 // Reads a table of an edition up to the newest: its rows, or the first question answered "no" and the place.
 pub fn read(newest: u8, bytes: &[u8]) -> Reading
     ensures { λ r. ⌜ ReadsInto newest (now (bytes .entry)) r ⌝ }
@@ -36,15 +37,16 @@ pub fn read(newest: u8, bytes: &[u8]) -> Reading
     if !reader::version_known(newest, bytes) {
         return reader::refused(1, 0);
     }
-    let edition = number::byte_at(bytes, 0);
+    let edition = big_endian::byte_at(bytes, 0);
     reader::read_rows(edition, bytes)
 }
 
+// §4.2, §4.9, §4.10, §8.16, §9.2, §9.7, §9.8
 // Writes a table of an edition to a lent buffer. A refusal leaves the buffer as it was, and bytes after those written stay.
 pub fn write(edition: u8, table: Table, buffer: &mut [u8]) -> WriteAnswer
     ensures { λ r. ⌜ Writes edition (rowsOf table) (now (buffer .entry)) r (now (buffer .exit)) ⌝ }
 {
-    match table.judge(edition) {
+    match table.validate(edition) {
         Answer::Refused(number) => {
             return WriteAnswer::Refused(number);
         }
@@ -54,7 +56,7 @@ pub fn write(edition: u8, table: Table, buffer: &mut [u8]) -> WriteAnswer
     if buffer.len() < size {
         return WriteAnswer::Refused(16);
     }
-    number::put_byte(buffer, 0, edition);
+    big_endian::put_byte(buffer, 0, edition);
     writer::put_rows(buffer, table);
     WriteAnswer::Written(size)
 }

@@ -30,10 +30,10 @@ fn known_rows(edition: u8, bytes: &[u8]) -> usize
         if bytes.len() - start < RAW_SIZE {
             return i;
         }
-        let form = number::byte_at(bytes, start);
+        let tag = big_endian::byte_at(bytes, start);
         let next = start + 1;
-        let n = number::byte_at(bytes, next);
-        if !type_known(edition, form, n) {
+        let n = big_endian::byte_at(bytes, next);
+        if !type_known(edition, tag, n) {
             return i;
         }
         start += RAW_SIZE;
@@ -48,10 +48,10 @@ fn body_end(edition: u8, bytes: &[u8], i: usize) -> usize
     ensures { λ r. ⌜ (r ≡ i * rawSize + bodyLength (now (bytes .entry)) i) × (r ≤ length (now (bytes .entry))) ⌝ }
 {
     let start = i * RAW_SIZE;
-    let form = number::byte_at(bytes, start);
+    let tag = big_endian::byte_at(bytes, start);
     let next = start + 1;
-    let n = number::byte_at(bytes, next);
-    start + length_of(form, n)
+    let n = big_endian::byte_at(bytes, next);
+    start + length_of(tag, n)
 }
 
 // The row that the body of row i is read as.
@@ -65,14 +65,14 @@ fn row_at(edition: u8, bytes: &[u8], i: usize) -> Constraint
 }
 
 // The answer to questions 3 to 7 and 18 of the first rows, row by row.
-fn judge_rows(edition: u8, bytes: &[u8], count: usize) -> Answer
+fn validate_rows(edition: u8, bytes: &[u8], count: usize) -> Answer
     requires { ⌜ Known edition (now bytes) count ⌝ }
     ensures { λ r. ⌜ Judged (rowsQuestions edition 0 (rawRows (now (bytes .entry)) 0 count) []) r ⌝ }
 {
     let mut i = 0;
     while i < count {
         let row = row_at(edition, bytes, i);
-        match row.judge_in(edition) {
+        match row.validate_in(edition) {
             Answer::Refused(number) => {
                 return Answer::Refused(number);
             }
@@ -105,8 +105,8 @@ fn put_row(edition: u8, buffer: &mut [u8], place: usize, bytes: &[u8], i: usize)
     let start = i * RAW_SIZE;
     let end = body_end(edition, bytes, i);
     let size = end - start;
-    number::put_two(buffer, place, size);
-    number::put(buffer, place + 2, &bytes[start..end]);
+    big_endian::put_two(buffer, place, size);
+    big_endian::put(buffer, place + 2, &bytes[start..end]);
     place + 2 + size
 }
 
@@ -129,14 +129,14 @@ fn row_taken(edition: u8, bytes: &[u8], i: usize) -> bool
     ensures { λ r. ⌜ Decides (RowTaken edition (now (bytes .entry)) i) r ⌝ }
 {
     let start = i * RAW_SIZE;
-    let form = number::byte_at(bytes, start);
+    let tag = big_endian::byte_at(bytes, start);
     let next = start + 1;
-    let n = number::byte_at(bytes, next);
-    if !type_known(edition, form, n) {
+    let n = big_endian::byte_at(bytes, next);
+    if !type_known(edition, tag, n) {
         return false;
     }
     let row = row_at(edition, bytes, i);
-    match row.judge() {
+    match row.validate() {
         Answer::Refused(_) => false,
         Answer::Taken => true,
     }
@@ -167,7 +167,7 @@ pub fn write(edition: u8, rows: &[u8], buffer: &mut [u8]) -> WriteAnswer
     ensures { λ r. ⌜ WritesRaw edition (now (rows .entry)) (now (buffer .entry)) r (now (buffer .exit)) ⌝ }
 {
     let known = known_rows(edition, rows);
-    match judge_rows(edition, rows, known) {
+    match validate_rows(edition, rows, known) {
         Answer::Refused(number) => {
             return WriteAnswer::Refused(number);
         }
@@ -183,7 +183,7 @@ pub fn write(edition: u8, rows: &[u8], buffer: &mut [u8]) -> WriteAnswer
     if buffer.len() < size {
         return WriteAnswer::Refused(16);
     }
-    number::put_byte(buffer, 0, edition);
+    big_endian::put_byte(buffer, 0, edition);
     put_rows(edition, buffer, rows, known);
     WriteAnswer::Written(size)
 }

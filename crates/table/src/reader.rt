@@ -34,7 +34,7 @@ pub(crate) fn refused(number: u8, place: usize) -> Reading
 pub(crate) fn version_known(newest: u8, bytes: &[u8]) -> bool
     ensures { λ r. ⌜ Decides (VersionUpTo newest (now (bytes .entry))) r ⌝ }
 {
-    let version = number::byte_at(bytes, 0);
+    let version = big_endian::byte_at(bytes, 0);
     if constraint::last_type(version) == 0 {
         return false;
     }
@@ -52,9 +52,10 @@ pub(crate) fn whole_at(bytes: &[u8], place: usize) -> bool
     if size - 2 < place {
         return false;
     }
-    number::two_at(bytes, place) <= size - 2 - place
+    big_endian::two_at(bytes, place) <= size - 2 - place
 }
 
+// §4.3, §8.2, §8.3
 // Questions 2 to 7, put to the row at a place in a table of an edition, with some rows before it.
 pub(crate) fn read_row(edition: u8, bytes: &[u8], place: usize, before: usize) -> RowRead
     ensures { λ r. ⌜ ReadsAt edition (now (bytes .entry)) before place r ⌝ }
@@ -65,7 +66,7 @@ pub(crate) fn read_row(edition: u8, bytes: &[u8], place: usize, before: usize) -
     if constraint::ROW_LIMIT <= before {
         return RowRead::Refused(3);
     }
-    let size = number::two_at(bytes, place);
+    let size = big_endian::two_at(bytes, place);
     let start = place + 2;
     let next = start + size;
     let body = &bytes[start..next];
@@ -73,7 +74,7 @@ pub(crate) fn read_row(edition: u8, bytes: &[u8], place: usize, before: usize) -
         return RowRead::Refused(4);
     }
     let row = row_of(body);
-    match row.judge() {
+    match row.validate() {
         Answer::Taken => RowRead::Row(row, next),
         Answer::Refused(number) => RowRead::Refused(number),
     }

@@ -29,7 +29,7 @@ pub struct Numbered {
 }
 
 // The rows of an edition behind the version byte, judged and counted.
-fn judge_rows(edition: u8, bytes: &[u8]) -> Scan
+fn validate_rows(edition: u8, bytes: &[u8]) -> Scan
     requires { ⌜ 0 < length (now bytes) ⌝ }
     ensures { λ r. ⌜ CountsRows edition (now (bytes .entry)) r ⌝ }
 {
@@ -51,8 +51,9 @@ fn judge_rows(edition: u8, bytes: &[u8]) -> Scan
     Scan { answer, rows }
 }
 
+// §7.6, §8.1, §9.3
 // Judges the bytes of a table of an edition up to the newest: the number of its rows, or the first question answered "no" and the place.
-pub fn judge(newest: u8, bytes: &[u8]) -> Scan
+pub fn validate(newest: u8, bytes: &[u8]) -> Scan
     ensures { λ r. ⌜ Scans newest (now (bytes .entry)) r ⌝ }
 {
     if !version_known(newest, bytes) {
@@ -62,8 +63,8 @@ pub fn judge(newest: u8, bytes: &[u8]) -> Scan
         };
         return Scan { answer, rows: 0 };
     }
-    let edition = number::byte_at(bytes, 0);
-    judge_rows(edition, bytes)
+    let edition = big_endian::byte_at(bytes, 0);
+    validate_rows(edition, bytes)
 }
 
 // The row at a place, and the place behind it. Where no whole row stands, it is the row of an empty entry, and the place itself.
@@ -78,7 +79,7 @@ pub fn row_at(bytes: &[u8], place: usize) -> Placed
         return Placed { row, next: place };
     }
     let start = place + 2;
-    let next = start + number::two_at(bytes, place);
+    let next = start + big_endian::two_at(bytes, place);
     let row = row_of(&bytes[start..next]);
     Placed { row, next }
 }
@@ -102,7 +103,7 @@ fn row_behind(bytes: &[u8], i: usize) -> Constraint
 pub fn row_numbered(newest: u8, bytes: &[u8], i: u64) -> Numbered
     ensures { λ r. ⌜ FindsRow newest (now (bytes .entry)) i r ⌝ }
 {
-    let scan = judge(newest, bytes);
+    let scan = validate(newest, bytes);
     if scan.rows as u64 <= i {
         let row = Constraint::Order {
             source: 0,

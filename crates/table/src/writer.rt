@@ -16,9 +16,10 @@ fn row_length(row: Constraint) -> usize
 {
     let fields = row.fields();
     let line = fields.line;
-    constraint::length_of(line.form, fields.bytes[0])
+    constraint::length_of(line.tag, fields.bytes[0])
 }
 
+// §4.4
 // Stores the first `count` of some times in a buffer from a place on.
 fn put_times(buffer: &mut [u8], place: usize, times: [u64; 4], count: usize)
     requires { ⌜ (place ≤ length (now buffer)) × (count ≤ 4) ⌝ }
@@ -28,12 +29,13 @@ fn put_times(buffer: &mut [u8], place: usize, times: [u64; 4], count: usize)
     let mut i = 0;
     while i < count {
         let time = times[i];
-        number::put_eight(buffer, next, time);
+        big_endian::put_eight(buffer, next, time);
         next += 8;
         i += 1;
     }
 }
 
+// §4.4
 // Stores a row's body of that size in a buffer from a place on: the type byte, the other bytes before its times, the times.
 fn put_body(buffer: &mut [u8], place: usize, row: Constraint, size: usize)
     requires { ⌜ (size ≡ length (rowBody row)) × (place + size ≤ length (now buffer)) ⌝ }
@@ -45,19 +47,20 @@ fn put_body(buffer: &mut [u8], place: usize, row: Constraint, size: usize)
     let times = fields.times;
     let start = body::times_start(size);
     let count = start - 1;
-    number::put_byte(buffer, place, line.form);
-    number::put(buffer, place + 1, &bytes[..count]);
+    big_endian::put_byte(buffer, place, line.tag);
+    big_endian::put(buffer, place + 1, &bytes[..count]);
     let times_count = body::times_count(size);
     put_times(buffer, place + start, times, times_count);
 }
 
+// §4.3
 // Stores a row in a buffer from a place on: its length, and its body.
 fn put_row(buffer: &mut [u8], place: usize, row: Constraint)
     requires { ⌜ place + length (rowBytes row) ≤ length (now buffer) ⌝ }
     ensures { λ _. ⌜ now (buffer .exit) ≡ sets (now (buffer .entry)) place (rowBytes row) ⌝ }
 {
     let size = row_length(row);
-    number::put_two(buffer, place, size);
+    big_endian::put_two(buffer, place, size);
     put_body(buffer, place + 2, row, size);
 }
 

@@ -141,10 +141,10 @@ digits-first (suc n) x some fits positive =
     rw (List·getD-append (digits n (x / 10)) ((48 + x % 10) ∷ []) 0 0 (digits-some n (x / 10) (room .0)))
     (digits-first n (x / 10) (room .0) (room .1) (omega arith)))
 
--- 20 digits are enough: they stand for the number
+-- §7.7: 20 digits are enough: they stand for the number
 pub decimal-value : (x : ℕ) → x < 10 ^ 20 → numberFrom 0 (decimal x) ≡ x
 decimal-value x fits = digits-value 20 x (omega arith) fits
 
--- no leading zeros: the first digit is 0 of the number 0 alone, which is one digit
+-- §7.7: no leading zeros: the first digit is 0 of the number 0 alone, which is one digit
 pub decimal-first : (x : ℕ) → x < 10 ^ 20 → 0 < x → 48 < at (decimal x) 0
 decimal-first x fits positive = digits-first 20 x (omega arith) fits positive

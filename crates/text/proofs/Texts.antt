@@ -2,8 +2,8 @@
 use Rattle.constraint.proofs.Library.{List, [], _++_, _+_, _<_, _∙_, _∷_, _≡_, _≤_, add-one, ap, append-assoc, append-nil, arith, drop, drop-cons}
 use Rattle.constraint.proofs.Library.{getD, getD-set-other, le-ltb, length, length-append, length-replicate, length-set, length-take-le, lt-ltb, refl}
 use Rattle.constraint.proofs.Library.{replicate, set, sets, suc, take-suc-set, zero, ℕ}
-use Rattle.number.proofs.Stores.{stores-front}
-use Rattle.text.specs.Content.{Copied, Holds, emptyText, extended, textLimit, withByte}
+use Rattle.big_endian.proofs.Stores.{stores-front}
+use Rattle.text.specs.Content.{Copied, HoldsText, emptyText, extended, textLimit, withByte}
 use Rattle.text.specs.declared.Text.{Text}
 
 -- Bytes behind a text
@@ -35,7 +35,7 @@ extended-full (byte ∷ list) text full = rw (le-ltb (text .len) textLimit full)
 
 -- What a text holds
 
-held-length : (text : Text) (list : List ℕ) → Holds text list → text .len ≡ length list
+held-length : (text : Text) (list : List ℕ) → HoldsText text list → text .len ≡ length list
 held-length text list holds = rw (← holds .held, length-take-le (text .len) (text .bytes) (omega arith))
 
 zeros : (n i : ℕ) → getD {A = ℕ} (replicate n 0) i 0 ≡ 0
@@ -43,10 +43,11 @@ zeros zero i = refl
 zeros (suc n) zero = refl
 zeros (suc n) (suc i) = zeros n i
 
-pub holds-nothing : Holds emptyText []
+pub holds-nothing : HoldsText emptyText []
 holds-nothing = record { size = length-replicate {A = ℕ} textLimit 0; within = omega arith; held = refl; rest = λ i h. zeros textLimit i }
 
-holds-pushed : (text : Text) (list : List ℕ) (byte : ℕ) → Holds text list → length list < textLimit → Holds (withByte byte text) (list ++ (byte ∷ []))
+holds-pushed : (text : Text) (list : List ℕ) (byte : ℕ) → HoldsText text list → length list < textLimit
+    → HoldsText (withByte byte text) (list ++ (byte ∷ []))
 holds-pushed text list byte holds room =
     let len : text .len < textLimit = omega (arith, held-length text list holds) in
     rw (pushed-stored byte text len)
@@ -57,8 +58,8 @@ holds-pushed text list byte holds room =
       rest = λ i h. getD-set-other (text .bytes) (text .len) i byte 0 (λ e. omega arith) ∙ holds .rest i (omega arith);
     })
 
-pub holds-extended : (text : Text) (list more : List ℕ) → Holds text list → length list + length more ≤ textLimit
-    → Holds (extended more text) (list ++ more)
+pub holds-extended : (text : Text) (list more : List ℕ) → HoldsText text list → length list + length more ≤ textLimit
+    → HoldsText (extended more text) (list ++ more)
 unfolding extended
 holds-extended text list [] holds room = rw (append-nil list) holds
 holds-extended text list (byte ∷ more) holds room =
@@ -67,7 +68,7 @@ holds-extended text list (byte ∷ more) holds room =
     (omega (arith, length-append list (byte ∷ []))))
 
 -- a text that was made from nothing holds what was put there
-pub holds-all : (list : List ℕ) → length list ≤ textLimit → Holds (extended list emptyText) list
+pub holds-all : (list : List ℕ) → length list ≤ textLimit → HoldsText (extended list emptyText) list
 holds-all list room = holds-extended emptyText [] list holds-nothing (omega arith)
 
 -- A text copied to a buffer

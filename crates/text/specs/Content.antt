@@ -44,7 +44,7 @@ extended [] text = text
 extended (byte ∷ list) text = extended list (withByte byte text)
 
 -- the text holds just that list, and zeros behind it, as a new text has
-pub record Holds (text : Text) (list : List ℕ) : Type 0 where
+pub record HoldsText (text : Text) (list : List ℕ) : Type 0 where
   pub size : length (text .bytes) ≡ textLimit
   pub within : text .len ≤ textLimit
   pub held : content text ≡ list

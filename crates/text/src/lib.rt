@@ -76,6 +76,7 @@ impl Text {
         self.word(&[byte])
     }
 
+    // §7.7
     // The text with a number behind it: decimal, without leading zeros.
     pub fn decimal(self, x: u64) -> Self
         ensures { λ r. ⌜ r ≡ extended (decimal x) self ⌝ }
@@ -86,6 +87,7 @@ impl Text {
         self.word(&bytes[start..])
     }
 
+    // §7.4
     // The text with the line "closed N" behind it.
     pub fn closed_line(self, count: u64) -> Self
         ensures { λ r. ⌜ r ≡ extended (closedLine count) self ⌝ }
@@ -93,6 +95,7 @@ impl Text {
         self.word(b"closed ").decimal(count).push(LINE_END)
     }
 
+    // §7.4
     // The text with a row's line behind it: the row's number and its verdict.
     pub fn row_line(self, row: usize, verdict: Verdict) -> Self
         ensures { λ r. ⌜ r ≡ extended (rowLine row verdict) self ⌝ }
@@ -105,6 +108,7 @@ impl Text {
         }
     }
 
+    // §7.5
     // The text with the line "refused N P" behind it.
     pub fn refused_line(self, number: u8, place: usize) -> Self
         ensures { λ r. ⌜ r ≡ extended (refusedText number place) self ⌝ }
@@ -126,7 +130,7 @@ impl Text {
         if buffer.len() < len {
             return 0;
         }
-        number::put(buffer, 0, &bytes[..len]);
+        big_endian::put(buffer, 0, &bytes[..len]);
         len
     }
 }

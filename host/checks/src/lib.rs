@@ -13,6 +13,6 @@ pub mod release;
 pub mod reports;
 pub mod rows;
 pub mod sources;
-#[cfg(table_host)]
-pub mod table_host;
+#[cfg(table_ffi)]
+pub mod table_ffi;
 pub mod words;

@@ -412,6 +412,22 @@ fn the_stack() {
     let ran = host.run(&files.paths.iter().chain(&drive).collect::<Vec<&PathBuf>>());
     println!("bytes of stack:\n{}", ran.printed);
     assert_eq!((ran.status, ran.printed.lines().count()), (Some(0), 14));
+    let sheet = text("docs/DATASHEET.md");
+    for line in ran.printed.lines() {
+        let words: Vec<&str> = line.split(' ').collect();
+        let (used, limit) = (words[0].parse::<u64>().expect("bytes"), words[2].parse::<u64>().expect("bytes"));
+        assert!(used <= most_in_sheet(&sheet, limit / 1024) + SLACK, "the data sheet has less for {line}");
+    }
+}
+
+/// How much more a call may use than the data sheet says: the words that its caller in C puts on the stack.
+const SLACK: u64 = 64;
+
+/// The most that the data sheet says of the calls with a limit of this many KiB on x86-64.
+fn most_in_sheet(sheet: &str, limit: u64) -> u64 {
+    let rows = sheet.lines().filter(|line| line.contains(&format!("_STACK` {limit} KiB |")));
+    let used = rows.map(|row| row.split('|').nth(3).expect("a column").trim().replace(',', ""));
+    used.map(|bytes| bytes.parse().expect("bytes")).max().expect("a row of the data sheet")
 }
 
 /// A report on a lent monitor, on a stack of 8,192 bytes.

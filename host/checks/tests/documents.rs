@@ -1,4 +1,4 @@
-//! The documents hold together: clauses that are cited are there, promises are cited, names that are linked exist.
+//! The documents hold together: clauses that are cited are there, names that are linked exist.
 
 use checks::contract::{clauses, text};
 use checks::documents::{cited, files, text_of};
@@ -26,10 +26,6 @@ fn all_files() -> Vec<PathBuf> {
     all
 }
 
-fn reading() -> String {
-    text_of(&root().join("docs/READING.md"))
-}
-
 #[test]
 fn each_clause_that_is_cited_is_there() {
     let clauses: HashSet<String> = clauses(&text()).into_iter().map(|clause| clause.number).collect();
@@ -42,21 +38,6 @@ fn each_clause_that_is_cited_is_there() {
     assert!(missing.is_empty(), "clauses that the contract does not have: {missing:?}");
 }
 
-/// Each clause that promises something is cited by the reading guide or by a definition.
-#[test]
-fn each_promise_is_cited() {
-    let specs = files("crates", &[".antt"])
-        .into_iter()
-        .filter(|file| file.components().any(|part| part.as_os_str() == "specs"));
-    let mut cited_there: HashSet<String> = cited(&reading()).into_iter().collect();
-    cited_there.extend(specs.flat_map(|file| cited(&text_of(&file))));
-    let promises: Vec<String> =
-        clauses(&text()).into_iter().filter(|clause| clause.promises).map(|c| c.number).collect();
-    assert!(promises.len() >= 80, "{} promises", promises.len());
-    let forgotten: Vec<&String> = promises.iter().filter(|number| !cited_there.contains(*number)).collect();
-    assert!(forgotten.is_empty(), "promises that nothing cites: {forgotten:?}");
-}
-
 /// What the program that makes the links says of the documents of a folder.
 fn said_of_links(program: &Path) -> (Option<i32>, String) {
     let output = Command::new("python3").arg(program).output().expect("python3 can be run");
@@ -67,23 +48,23 @@ fn said_of_links(program: &Path) -> (Option<i32>, String) {
 #[test]
 fn the_links_are_made_from_the_names() {
     assert_eq!(said_of_links(&root().join("release/links.py")), (Some(0), String::new()));
-    assert!(reading().lines().filter(|line| line.starts_with("[`")).count() >= 100);
+    let linked = text_of(&root().join("docs/ARCHITECTURE.md"));
+    assert!(linked.lines().filter(|line| line.starts_with("[`")).count() >= 50);
 }
 
 #[test]
 fn a_link_that_leads_elsewhere_is_named() {
-    let with = |readme: &str, reading: &str| {
+    let with = |readme: &str, linking: &str| {
         let files = [
             ("README.md", readme),
-            ("docs/READING.md", reading),
-            ("docs/ARCHITECTURE.md", "No names.\n\n"),
+            ("docs/ARCHITECTURE.md", linking),
             ("crates/a/specs/Things.antt", "pub Thing : Type 0\npub a-law : Thing\n"),
             ("crates/b/specs/Things.antt", "pub Thing : Type 0\npub Other : Type 0\n"),
         ];
         let (_folder, program) = Folder::around("release/links.py", &files);
         said_of_links(&program)
     };
-    let said = |reading: &str| with("`a-law` and `pkg-config`", reading);
+    let said = |linking: &str| with("`a-law` and `pkg-config`", linking);
     let other = "[`Other`]: ../crates/b/specs/Things.antt\n";
     assert_eq!(said(&format!("[`Other`].\n\n{other}")), (Some(0), String::new()));
     assert!(said("[`Other`].\n\n").1.contains("not up to date"));

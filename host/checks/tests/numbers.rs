@@ -6,7 +6,7 @@ use std::collections::{BTreeMap, BTreeSet};
 
 const CONSTRAINT: &str = "crates/constraint/src/lib.rt";
 const LIMITS: &str = "crates/constraint/specs/Limits.antt";
-const LENT: &str = "crates/delkuthi/src/host.rt";
+const LENT: &str = "crates/delkuthi/src/ffi.rt";
 const LENT_DEFINED: &str = "crates/delkuthi/specs/Lent.antt";
 const PROGRAM_DEFINED: &str = "crates/delkuthi/specs/Program.antt";
 
@@ -51,7 +51,7 @@ fn by_definitions() -> BTreeMap<String, u64> {
         ("OPEN", definition(LENT_DEFINED, "wordOf (some Verdict.Open)")),
         ("KEPT", definition(LENT_DEFINED, "wordOf (some Verdict.Kept)")),
         ("BROKEN", definition(LENT_DEFINED, "wordOf (some (Verdict.Broken n))")),
-        ("TAKEN", definition("crates/lent/specs/Steps.antt", "answerTo h Call.Close")),
+        ("TAKEN", definition("crates/in_place/specs/Steps.antt", "answerTo h Call.Close")),
         ("REPORT_LIMIT", definition("crates/text/proofs/Reports.antt", "reportLimit")),
         ("PAGE_LIMIT", page_limit()),
         ("UNSURE", stamps_word("Unsure")),
@@ -291,12 +291,12 @@ fn the_limits_on_the_stack_are_the_headers() {
 /// The words that the tests know by their places stand where the code has them.
 #[test]
 fn the_places_of_words_are_the_crates() {
-    let of_lent = |name| constant("crates/lent/src/lib.rt", name) as usize;
+    let of_lent = |name| constant("crates/in_place/src/lib.rt", name) as usize;
     let beside = |name| 128 * of_lent("NUMBERS") + of_lent(name);
-    assert_eq!([words::ROWS, words::SOONEST, words::ROOM], ["ROWS", "SOONEST", "ROOM"].map(beside));
-    assert_eq!(words::LAST_STEP, beside("MAY")..beside("CLOSED") + 1);
-    let of_row = |name| 128 + 64 + constant("crates/machine/src/words.rt", name) as usize;
-    assert_eq!(words::past(1), of_row("PAST")..of_row("STAMP") + 1);
+    assert_eq!([words::ROWS, words::SOONEST, words::ROOM], ["ROWS", "SOONEST", "FREE_SLOT_HINT"].map(beside));
+    assert_eq!(words::LAST_STEP, beside("UNDO_ALLOWED")..beside("UNDO_CLOSED") + 1);
+    let of_row = |name| 128 + 64 + constant("crates/row_type/src/row_words.rt", name) as usize;
+    assert_eq!(words::past(1), of_row("UNDO")..of_row("UNDO_STEP") + 1);
 }
 
 /// A row for the writer has as many bytes as the longest row, in the header, in the Rust crate and in the definitions.

@@ -418,11 +418,19 @@ fn the_manual_pages() {
     let unnamed: Vec<&&str> =
         calls.iter().filter(|call| call.starts_with("delkuthi_") && !library.contains(*call)).collect();
     assert!(!calls.is_empty() && unnamed.is_empty(), "{unnamed:?}");
-    for inline in ["delkuthi_make_table(", "delkuthi_make_table_2(", "delkuthi_edition(", "delkuthi_delay(", "delkuthi_refusal_text("] {
+    for inline in [
+        "delkuthi_make_table(",
+        "delkuthi_make_table_2(",
+        "delkuthi_edition(",
+        "delkuthi_delay(",
+        "delkuthi_refusal_text(",
+    ] {
         assert!(library.contains(inline), "{inline}");
     }
     let program = page("man1/delkuthi.1");
-    assert!([".BI \\-\\-edition", ".B \\-\\-version", ".B \\-\\-help", ".B 3"].iter().all(|text| program.contains(text)));
+    assert!(
+        [".BI \\-\\-edition", ".B \\-\\-version", ".B \\-\\-help", ".B 3"].iter().all(|text| program.contains(text))
+    );
     for text in [library, program] {
         assert!(text.contains(&format!("Delkuthi {}", version())) && !text.contains('@'), "{text}");
     }

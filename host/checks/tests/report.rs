@@ -12,7 +12,7 @@ use model::random::calls::calls;
 use model::random::recordings::{damaged_recording, recording, refused_recording};
 use model::random::seen::Seen;
 use model::random::tables::{any_table, damaged_table, table};
-use model::types::{Burst, Repeat, Sporadic, delay, order, strong_delay, synchronization};
+use model::types::{Burst, Repeat, Sporadic, delay, order, strong_delay, strong_synchronization};
 use model::{Constraint, LAST_COUNT, LAST_TIME, Step, recording_bytes, report_text, table_bytes};
 
 /// The library's report, in words.
@@ -188,7 +188,7 @@ fn rows_at_the_limit() {
 
 #[test]
 fn waiting_at_the_limit() {
-    let rows = [delay(0, LAST_TIME), strong_delay(0, LAST_TIME), synchronization(2, LAST_TIME)];
+    let rows = [delay(0, LAST_TIME), strong_delay(0, LAST_TIME), strong_synchronization(2, LAST_TIME)];
     let event = |time| Step::Event { kind: 0, time };
     for row in rows {
         let table = table_bytes(std::slice::from_ref(&row));
@@ -215,7 +215,7 @@ fn times_at_the_limit() {
             Constraint::Repeat(Repeat { event: 0, span: 1, lower: field, upper: field }),
             Constraint::Sporadic(Sporadic { event: 0, lower: field, upper: u64::MAX, jitter: field, minimum: field }),
             Constraint::Burst(Burst { event: 0, maximum: 64, length: field, minimum: field }),
-            synchronization(4, field),
+            strong_synchronization(4, field),
         ];
         for row in rows {
             for time in odd {
@@ -234,7 +234,7 @@ fn times_at_the_limit() {
 #[test]
 fn large_recordings() {
     let mut seen = Seen::default();
-    let rows = [delay(0, 30), order(), synchronization(2, 40)];
+    let rows = [delay(0, 30), order(), strong_synchronization(2, 40)];
     let pair = |time: u64| [Step::Event { kind: 0, time: 50 * time }, Step::Event { kind: 1, time: 50 * time + 20 }];
     let events: Vec<Step> = (1..=3_000).flat_map(pair).collect();
     let bytes = recording_bytes(&events);

@@ -4,7 +4,7 @@ use checks::contract::{clauses, text};
 use checks::documents::text_of;
 use checks::places::{Folder, root};
 use checks::release::make;
-use std::process::{Command, Output};
+use std::process::Command;
 
 /// The rows of the trace, cell by cell.
 fn trace() -> Vec<Vec<String>> {
@@ -25,6 +25,7 @@ fn each_promise_is_traced_to_a_test() {
         .filter(|clause| clause.promises)
         .map(|clause| format!("§{}", clause.number))
         .collect();
+    assert!(promises.len() >= 80, "{} promises", promises.len());
     assert_eq!(rows.iter().map(|row| row[0].clone()).collect::<Vec<String>>(), promises);
     for row in &rows {
         assert!(row.len() == 5 && row[1..4].iter().any(|cell| !cell.is_empty()) && !row[4].is_empty(), "{row:?}");
@@ -35,33 +36,49 @@ fn each_promise_is_traced_to_a_test() {
     }
 }
 
-/// The program over a contract, a reading guide and one test file.
-fn traced(contract: &str, reading: &str, test: &str) -> Output {
+/// The trace over a contract, declarations with tags, rows by hand and one test file: the table, and what is missing.
+fn traced(definitions: &str, by_hand: &str, test: &str) -> (String, String) {
+    let contract = "**2.1** One.\n\n**2.2** Two.\n\n*2.7* Three.\n\n**5.1** Four.\n\n*5.1.1* Five.\n\n```example\n```\n";
     let files = [
         ("VERSION", "1.2.3\n"),
         ("docs/CONTRACT.md", contract),
-        ("docs/READING.md", reading),
+        ("docs/READING.md", by_hand),
+        ("crates/a/specs/Things.antt", definitions),
+        ("crates/a/proofs/Things.antt", "-- §5.1.1: a corner\npub a-law\n    : Thing\n"),
+        ("crates/a/src/thing.rt", "impl Bench {\n    // §2.1\n    // Takes it.\n    #[no_mangle]\n    pub fn take() {}\n}\n"),
         ("host/checks/tests/small.rs", test),
     ];
     let (folder, program) = Folder::around("release/trace.py", &files);
-    Command::new("python3").arg(program).arg(folder.path().join("out")).output().expect("python3 can be run")
+    let file = folder.path().join("out");
+    let output = Command::new("python3").arg(program).arg(&file).output().expect("python3 can be run");
+    assert!(output.status.success());
+    (text_of(&file), String::from_utf8(output.stderr).expect("text"))
+}
+
+/// A tag is the clauses at the beginning of a line of the comment right above a declaration; a corner counts for its clause.
+#[test]
+fn the_trace_is_made_from_tags() {
+    let record = "-- §2.1 to §2.2: things\npub record Thing : Type 0 where\n  -- a field\n  -- §2.2\n  pub first : ℕ\n";
+    let definitions = format!("{record}\n-- §5.1\n\npub not-tagged : Thing\n");
+    let (table, missing) = traced(&definitions, "", "//! A test.\n//! Clauses: §2.1 to §2.2.\n");
+    assert_eq!(missing, "");
+    let rows: Vec<&str> = table.lines().filter(|line| line.starts_with("| §")).collect();
+    let expected = [
+        "| §2.1 | `Thing` (a) |  | `Bench::take` (a) | checks/small |",
+        "| §2.2 | `Thing`, `Thing.first` (a) |  |  | checks/small |",
+        "| §5.1 |  | `a-law` (a) |  | checks/contract |",
+    ];
+    assert_eq!(rows, expected);
 }
 
 #[test]
 fn a_promise_without_a_row_or_a_test_is_named() {
-    let contract = "**1.1** One.\n\n**1.2** Two.\n\n*1.3* Three.\n\n**1.4** Four.\n\n```example\n```\n";
-    let reading = "| §1.1, §1.2 | a | b | c |\n| §1.4 | a | b | c |\n";
-    assert_eq!(traced(contract, reading, "//! A test.\n//! Clauses: §1.1 to §1.2.\n").stderr, b"");
-    let said = |reading: &str, test: &str| {
-        let output = traced(contract, reading, test);
-        assert!(output.status.success());
-        String::from_utf8(output.stderr).expect("text")
-    };
-    assert!(said(reading, "//! Clauses: §1.1.\n").starts_with("§1.2 has no test"));
-    assert!(
-        said("| §1.1 | a | b | c |\n| §1.4 | a | b | c |\n", "//! Clauses: §1.1 to §1.2.\n")
-            .starts_with("§1.2 has no row")
-    );
+    let said = |definitions: &str, by_hand: &str, test: &str| traced(definitions, by_hand, test).1;
+    let (things, both) = ("-- §2.2: things\npub Thing : Type 0\n", "//! Clauses: §2.1 to §2.2.\n");
+    assert_eq!(said(things, "", both), "");
+    assert_eq!(said("", "| §2.2 | tested |  |  |\n", both), "");
+    assert!(said("", "", both).starts_with("§2.2 has no row"));
+    assert!(said(things, "", "//! Clauses: §2.1.\n").starts_with("§2.2 has no test"));
 }
 
 /// What the documents for a buyer call by a name of the header is there.

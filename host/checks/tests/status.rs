@@ -8,7 +8,7 @@ use delkuthi::{LAST_TIME, Monitor, NO_LIMIT, ROW_LIMIT};
 use model::random::Random;
 use model::random::calls::calls;
 use model::random::tables::{any_table, table};
-use model::types::{Delay, StrongDelay, synchronization};
+use model::types::{Delay, StrongDelay, strong_synchronization};
 use model::{Constraint, Step};
 
 /// All that is asked of each is the same.
@@ -161,9 +161,9 @@ fn crowding_table(random: &mut Random) -> Vec<Constraint> {
         Constraint::Delay(Delay { source: 0, target: 1, lower: 0, upper: 5_000 }),
         Constraint::Delay(Delay { source: 0, target: 2, lower: 60, upper: 4_950 }),
         Constraint::StrongDelay(StrongDelay { source: 0, target: 3, lower: 0, upper: 5_000 }),
-        synchronization(2, 5_000),
-        synchronization(3, 5_000),
-        synchronization(4, 5_000),
+        strong_synchronization(2, 5_000),
+        strong_synchronization(3, 5_000),
+        strong_synchronization(4, 5_000),
     ];
     let mut rows = table(random, 2);
     for _ in 0..1 + random.place(3) {

@@ -8,7 +8,7 @@ use checks::reports::report_in;
 use delkuthi::REPORT_LIMIT;
 use model::random::Random;
 use model::types::{
-    burst, delay, execution_time, order, reaction, repeat, repetition, sporadic, strong_delay, synchronization,
+    burst, delay, execution_time, order, reaction, repeat, repetition, sporadic, strong_delay, strong_synchronization,
 };
 use model::{
     Constraint, LAST_TIME, Monitor, RECORD_LIMIT, Refusal, Step, Stretch, first_breaking, recording_bytes,
@@ -44,7 +44,7 @@ fn random_row(random: &mut Random) -> Constraint {
         3 => sporadic(lower, upper, random.below(3), 0),
         4 => burst(1 + random.below(2) as u8, lower, 1),
         5 => order(),
-        6 => synchronization(2 + random.below(2) as u8, lower),
+        6 => strong_synchronization(2 + random.below(2) as u8, lower),
         7 => execution_time(lower, upper),
         8 => reaction(lower, upper),
         _ => repetition(1 + random.below(2) as u8, lower, upper, random.below(3)),

@@ -1,9 +1,9 @@
 //! The proved table reader and writer beside the model's, in each edition: by value, and the writer as the Rust crate offers it.
 //! Clauses: §4.1 to §4.10, §5.9.6, §8.1 to §8.7, §8.16, §8.18, §9.3, §9.7, §9.8, §11.5.
-#![cfg(table_host)]
+#![cfg(table_ffi)]
 
 use checks::rows::write;
-use checks::table_host::{read_up_to, rewrite_up_to};
+use checks::table_ffi::{read_up_to, rewrite_up_to};
 use model::TYPES;
 use model::random::Random;
 use model::random::seen::Seen;

@@ -8,7 +8,7 @@ use model::random::Random;
 use model::random::calls::calls;
 use model::random::seen::Seen;
 use model::random::tables::{any_table, table};
-use model::types::{Delay, Reaction, Repeat, StrongDelay, synchronization};
+use model::types::{Delay, Reaction, Repeat, StrongDelay, strong_synchronization};
 use model::{Answer, Constraint, LAST_COUNT, Step, Verdict};
 
 fn withdraw(monitor: &mut Monitor) -> Answer {
@@ -137,9 +137,9 @@ fn waiting_rows() -> Vec<Constraint> {
         Constraint::Delay(Delay { source: 0, target: 1, lower: 0, upper: 5_000 }),
         Constraint::Delay(Delay { source: 0, target: 1, lower: 60, upper: 5_000 }),
         Constraint::StrongDelay(StrongDelay { source: 0, target: 1, lower: 0, upper: 5_000 }),
-        synchronization(2, 5_000),
-        synchronization(3, 5_000),
-        synchronization(4, 5_000),
+        strong_synchronization(2, 5_000),
+        strong_synchronization(3, 5_000),
+        strong_synchronization(4, 5_000),
     ]
 }
 

@@ -23,27 +23,27 @@ const ASKED: usize = crate::ROW_LIMIT + 1;
 #[allow(missing_docs)]
 pub enum Row<'a> {
     // Made by release/row-types.py, to the end of the list.
-    /// After each source a target, `lower` to `upper` later.
+    /// After each source a target comes, `lower` to `upper` later.
     Delay { source: u8, target: u8, lower: u64, upper: u64 },
-    /// The same, and the targets belong to the sources one by one.
+    /// The same, and each source has its own target, in order.
     StrongDelay { source: u8, target: u8, lower: u64, upper: u64 },
-    /// Of `span` + 1 events in a row the last comes `lower` to `upper` after the first.
+    /// In `span` + 1 consecutive events the last comes `lower` to `upper` after the first.
     Repeat { event: u8, span: u8, lower: u64, upper: u64 },
     /// Each event is 0 to `jitter` after a hidden point; the points are `lower` to `upper` apart.
     Sporadic { event: u8, lower: u64, upper: u64, jitter: u64, minimum: u64 },
-    /// At most `maximum` events in each stretch shorter than `length`, at least `minimum` apart.
+    /// Any time shorter than `length` has at most `maximum` events, and events are at least `minimum` apart.
     Burst { event: u8, maximum: u8, length: u64, minimum: u64 },
-    /// The targets belong to the sources one by one, none before its source.
+    /// Each source has its own target, in order, and none comes before its source.
     Order { source: u8, target: u8 },
-    /// The first events of the kinds, 2 to 4 of them, are at most `tolerance` apart, and so are the second, and so on.
+    /// The i-th events of the kinds, 2 to 4 of them, are at most `tolerance` apart.
     StrongSynchronization { kinds: &'a [u8], tolerance: u64 },
-    /// From each `start` to its `stop`, less the stretches from `preempt` to `resume`, it runs for `lower` to `upper`.
+    /// From each `start` to its `stop` it runs for `lower` to `upper`, without the time from `preempt` to `resume`.
     ExecutionTime { start: u8, stop: u8, preempt: u8, resume: u8, lower: u64, upper: u64 },
     /// The first response of a colour comes `minimum` to `maximum` after each stimulus of that colour.
     Reaction { stimulus: u8, response: u8, minimum: u64, maximum: u64 },
     /// Each event is 0 to `jitter` after a hidden point; points `span` places apart, 1 to 8, are `lower` to `upper` apart.
     Repetition { event: u8, span: u8, lower: u64, upper: u64, jitter: u64 },
-    /// Each event of the kinds, 2 to 4 of them, lies in a stretch of `tolerance` in which every kind has an event.
+    /// Each event of the kinds, 2 to 4 of them, lies in a window of `tolerance` in which every kind has an event.
     Synchronization { kinds: &'a [u8], tolerance: u64 },
 }
 

@@ -3,7 +3,7 @@
 use crate::monitor::Verdict;
 use crate::steps::Step;
 use crate::types::Constraint;
-use crate::types::{delay, order, repeat, sporadic, strong_delay, synchronization};
+use crate::types::{delay, order, repeat, sporadic, strong_delay, strong_synchronization};
 
 /// The table of the file: Delay 0→1, 2 to 3.
 pub const TABLE: [u8; 22] = [1, 0, 0x13, 1, 0, 1, 0, 0, 0, 0, 0, 0, 0, 2, 0, 0, 0, 0, 0, 0, 0, 3];
@@ -55,7 +55,7 @@ pub fn examples() -> Vec<Example> {
         example(10, sporadic(10, 10, 5, 0), "0@2, 0@9", Broken(2)),
         example(11, order(), "1@5, 0@5, close", Kept),
         example(11, order(), "1@5, tick 6", Broken(2)),
-        example(12, synchronization(2, 2), "0@5, 0@6, 1@7, 1@8, close", Kept),
-        example(12, synchronization(2, 2), "0@5, 0@6, tick 8", Broken(3)),
+        example(12, strong_synchronization(2, 2), "0@5, 0@6, 1@7, 1@8, close", Kept),
+        example(12, strong_synchronization(2, 2), "0@5, 0@6, tick 8", Broken(3)),
     ]
 }

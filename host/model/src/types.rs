@@ -23,8 +23,8 @@ pub use repeat::{Repeat, repeat};
 pub use repetition::{Repetition, repetition};
 pub use sporadic::{Sporadic, sporadic};
 pub use strong_delay::{StrongDelay, strong_delay};
-pub use strong_synchronization::{StrongSynchronization, synchronization};
-pub use synchronization::{Synchronization, windows};
+pub use strong_synchronization::{StrongSynchronization, strong_synchronization};
+pub use synchronization::{Synchronization, synchronization};
 
 // End of what is made.
 

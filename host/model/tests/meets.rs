@@ -3,7 +3,7 @@
 
 mod common;
 
-use common::{burst, delay, order, recorded, repeat, repetition, sporadic, strong_delay, synchronization};
+use common::{burst, delay, order, recorded, repeat, repetition, sporadic, strong_delay, strong_synchronization};
 use model::hidden_points::Spacing;
 use model::random::Random;
 use model::random::tables::Scale;
@@ -71,7 +71,7 @@ fn delay_and_synchronization_in_other_words() {
         let plain = delay_word_by_word(lower, upper, &lists[0], &lists[1]);
         assert_eq!(meets(&delay(lower, upper), &events), plain, "{lower} to {upper} of {lists:?}");
         let plain_too = synchronization_by_spread(upper, &lists);
-        assert_eq!(meets(&synchronization(3, upper), &events), plain_too, "{upper} of {lists:?}");
+        assert_eq!(meets(&strong_synchronization(3, upper), &events), plain_too, "{upper} of {lists:?}");
         met[0] += u64::from(plain);
         met[1] += u64::from(plain_too);
     }
@@ -165,7 +165,7 @@ fn of(row: &Constraint, text: &str) -> bool {
 fn source_and_target_at_one_time() {
     for text in ["0@5, 1@5", "1@5, 0@5"] {
         assert!(of(&delay(0, 0), text) && of(&strong_delay(0, 0), text) && of(&order(), text));
-        assert!(of(&synchronization(2, 0), text));
+        assert!(of(&strong_synchronization(2, 0), text));
         assert!(!of(&delay(1, 9), text) && !of(&strong_delay(1, 9), text));
     }
 }
@@ -251,7 +251,7 @@ fn signals_that_stop() {
 
 #[test]
 fn synchronization_corners() {
-    let within = |tolerance, text| of(&synchronization(3, tolerance), text);
+    let within = |tolerance, text| of(&strong_synchronization(3, tolerance), text);
     assert!(within(0, "0@5, 2@5, 1@5") && !within(0, "0@5, 2@5, 1@6") && within(1, "0@5, 2@5, 1@6"));
     assert!(within(0, "") && !within(9, "0@5, 2@5"));
     // each within tolerance of a neighbour, but not of one another
@@ -267,5 +267,5 @@ fn no_number_is_too_large_for_the_definitions() {
     );
     assert!(of(&repeat(1, 0, NO_LIMIT - 1), text) && !of(&repeat(1, NO_LIMIT, NO_LIMIT), text));
     assert!(!of(&sporadic(NO_LIMIT, NO_LIMIT, NO_LIMIT, 0), text) && of(&sporadic(0, NO_LIMIT, NO_LIMIT, 0), text));
-    assert!(!of(&burst(1, NO_LIMIT, NO_LIMIT), text) && of(&synchronization(1, 0), text));
+    assert!(!of(&burst(1, NO_LIMIT, NO_LIMIT), text) && of(&strong_synchronization(1, 0), text));
 }

@@ -4,7 +4,8 @@
 mod common;
 
 use common::{
-    burst, delay, execution_time, fresh, order, repeat, sporadic, steps, strong_delay, synchronization, take, verdicts,
+    burst, delay, execution_time, fresh, order, repeat, sporadic, steps, strong_delay, strong_synchronization, take,
+    verdicts,
 };
 use model::random::Random;
 use model::random::calls::calls;
@@ -35,8 +36,8 @@ fn fresh_questions_in_order() {
     assert_eq!(number(&vec![order(); 33]), Err(3));
     assert_eq!(number(&[vec![order(); 32], vec![bad_kind.clone()]].concat()), Err(3));
     assert_eq!(number(&[vec![order(); 31], vec![bad_kind, order()]].concat()), Err(5));
-    assert_eq!(number(&[synchronization(1, LAST_TIME + 1)]), Err(4));
-    assert_eq!(number(&[synchronization(5, 0)]), Err(4));
+    assert_eq!(number(&[strong_synchronization(1, LAST_TIME + 1)]), Err(4));
+    assert_eq!(number(&[strong_synchronization(5, 0)]), Err(4));
     assert_eq!(number(&[bad_everything]), Err(5));
     assert_eq!(number(&[bad_times]), Err(6));
     assert_eq!(number(&[delay(3, 2)]), Err(7));
@@ -155,7 +156,7 @@ fn sources_without_an_upper_limit_wait_until_a_target_comes() {
 
 #[test]
 fn what_waits_in_each_type() {
-    let mut monitor = fresh(&[strong_delay(0, 1000), synchronization(3, 1000), delay(9, 1000)]);
+    let mut monitor = fresh(&[strong_delay(0, 1000), strong_synchronization(3, 1000), delay(9, 1000)]);
     (0..64).for_each(|time| assert_eq!(monitor.event(0, time), Ok(())));
     assert_eq!([0, 1, 2].map(|row| monitor.waiting(row)), [Ok(64), Ok(64), Ok(64)]);
     assert_eq!(monitor.event(0, 64), Err(12));
@@ -214,11 +215,11 @@ fn corners_of_waiting_rows() {
     plays(order(), "0@1, 0@2, tick 900, 1@900, 1@901, close", "kept");
     plays(order(), "0@1, close", "broken 2");
     plays(order(), "1@1, close", "broken 2");
-    plays(synchronization(2, 0), "0@5, 1@5, close", "kept");
-    plays(synchronization(2, 0), "0@5, tick 6", "broken 2");
-    plays(synchronization(3, 1), "0@5, 2@6", "open");
-    plays(synchronization(3, 1), "0@5, 2@6, 0@7", "broken 3");
-    plays(synchronization(2, 9), "0@5, close", "broken 2");
+    plays(strong_synchronization(2, 0), "0@5, 1@5, close", "kept");
+    plays(strong_synchronization(2, 0), "0@5, tick 6", "broken 2");
+    plays(strong_synchronization(3, 1), "0@5, 2@6", "open");
+    plays(strong_synchronization(3, 1), "0@5, 2@6, 0@7", "broken 3");
+    plays(strong_synchronization(2, 9), "0@5, close", "broken 2");
     plays(execution_time(2, 5), "0@0, 2@5", "broken 2");
     plays(execution_time(2, 5), "0@0, 2@4, tick 1000, 3@1000, tick 1001", "open");
     plays(execution_time(2, 5), "0@0, 2@4, tick 1000, 3@1000, tick 1001, tick 1002", "broken 6");

@@ -3,7 +3,7 @@
 
 mod common;
 
-use common::{burst, delay, execution_time, order, reaction, repeat, sporadic, strong_delay, synchronization};
+use common::{burst, delay, execution_time, order, reaction, repeat, sporadic, strong_delay, strong_synchronization};
 use model::continuation::is_continuation;
 use model::open::earliest_continuation;
 use model::random::Random;
@@ -146,10 +146,10 @@ fn every_short_history_beside_the_search() {
         vec![sporadic(0, NO_LIMIT, 0, 0), sporadic(2, NO_LIMIT, 1, 0), sporadic(1, 3, 2, 0)],
         vec![burst(1, 0, 0), burst(1, 2, 0), burst(2, 3, 0), burst(2, 3, 2), burst(1, 0, 3)],
         vec![reaction(0, 0), reaction(0, 1), reaction(1, 1), reaction(1, 2), reaction(2, 3)],
-        vec![order(), synchronization(2, 0), synchronization(2, 1), synchronization(2, 3)],
+        vec![order(), strong_synchronization(2, 0), strong_synchronization(2, 1), strong_synchronization(2, 3)],
     ];
     let compared: u64 = rows.iter().flatten().map(|row| compare_all(row, &History::default(), 4, 5)).sum();
-    let three = compare_all(&synchronization(3, 1), &History::default(), 2, 7);
+    let three = compare_all(&strong_synchronization(3, 1), &History::default(), 2, 7);
     let bounds = [(0, 0), (0, 1), (1, 1), (0, 2), (1, 2)];
     let executions = bounds.map(|(lower, upper)| compare_all(&execution_time(lower, upper), &History::default(), 2, 4));
     assert!(compared + three > 100_000, "{compared} and {three} histories");

@@ -3,7 +3,7 @@
 mod common;
 
 use common::{
-    burst, delay, execution_time, order, reaction, repeat, repetition, sporadic, strong_delay, synchronization,
+    burst, delay, execution_time, order, reaction, repeat, repetition, sporadic, strong_delay, strong_synchronization,
 };
 use model::random::Random;
 use model::random::seen::Seen;
@@ -35,9 +35,9 @@ fn every_type_in_bytes() {
         sporadic(5, 6, 7, 8),
         burst(9, 10, 11),
         order(),
-        synchronization(2, 1),
-        synchronization(3, 2),
-        synchronization(4, 3),
+        strong_synchronization(2, 1),
+        strong_synchronization(3, 2),
+        strong_synchronization(4, 3),
         execution_time(2, 5),
         reaction(4, 6),
         repetition(8, 5, 6, 7),
@@ -133,7 +133,7 @@ fn fields_in_order() {
         })),
         (5, 6)
     );
-    assert_eq!(number(synchronization(4, LAST_TIME + 1)), (6, 6));
+    assert_eq!(number(strong_synchronization(4, LAST_TIME + 1)), (6, 6));
     let execution = |start, stop, preempt, resume, lower, upper| {
         number(Constraint::ExecutionTime(ExecutionTime { start, stop, preempt, resume, lower, upper }))
     };
@@ -170,7 +170,7 @@ fn writer_questions_in_order() {
     let bad = Constraint::Order(Order { source: 64, target: 0 });
     assert_eq!(write_table(&[order(), bad.clone()], &mut []), Err(5));
     assert_eq!(write_table(&[vec![order(); 32], vec![bad]].concat(), &mut []), Err(3));
-    assert_eq!(write_table(&[synchronization(5, 0)], &mut []), Err(4));
+    assert_eq!(write_table(&[strong_synchronization(5, 0)], &mut []), Err(4));
     assert_eq!(write_table(&[delay(3, 2)], &mut []), Err(7));
     assert_eq!(write_table(&[order(), order(), order()], &mut buffer[..15]), Err(16));
     assert_eq!((write_table(&[], &mut []), buffer), (Err(16), [7; 16]));

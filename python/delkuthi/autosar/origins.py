@@ -17,7 +17,8 @@ from .parts import Node, Part
 
 #: What happens to a runnable, by how AUTOSAR's word for it ends.
 _ACTIONS = {"ACTIVATED": "activate", "STARTED": "start", "START-POINT": "start", "TERMINATED": "terminate"}
-#: The references of the events that a bus has.
+#: The references of the events of runnables, and of those that a bus has.
+_RUNNABLES = {"TD-EVENT-SWC-INTERNAL-BEHAVIOR": "RUNNABLE-REF", "TD-EVENT-BSW-INTERNAL-BEHAVIOR": "BSW-MODULE-ENTITY-REF"}
 _ON_A_BUS = {"TD-EVENT-FRAME": "FRAME-REF", "TD-EVENT-I-PDU": "I-PDU-REF", "TD-EVENT-I-SIGNAL": "I-SIGNAL-REF"}
 
 
@@ -46,12 +47,24 @@ class Origins:
         #: What canmatrix reads of these files, once it was asked, and what it has against the others.
         self._databases: list[Database] | None = None
         self._refusals: list[str] = []
+        #: The paths of the events that are what happens to a runnable, once they were asked for.
+        self._runnables: dict[TaskSource, str] | None = None
         #: Is a signal of the file itself used?
         self.signals = False
 
     def coloured(self, path: str) -> bool:
         """Have the sources of an event colours?"""
         return path in self._given and Origin(self._given[path].sources).coloured
+
+    def described(self, event: str | TaskSource) -> str | None:
+        """The path of the event of the file that is just what happens to a runnable."""
+        if self._runnables is None:
+            self._runnables = {}
+            for path in self._model.events:
+                sources = self.of(path).sources if self._model.events[path].node.name in _RUNNABLES else ()
+                if len(sources) == 1 and isinstance(sources[0], TaskSource) and path not in self._model.twice:
+                    self._runnables.setdefault(sources[0], path)
+        return None if isinstance(event, str) else self._runnables.get(event)
 
     def of(self, path: str) -> Origin:
         """The origin of an event."""
@@ -107,7 +120,7 @@ def _described(part: Part) -> str:
 
 def _of_runnable(part: Part) -> Origin | None:
     """The origin of what happens to a runnable, or to an entity of basic software."""
-    reference = {"TD-EVENT-SWC-INTERNAL-BEHAVIOR": "RUNNABLE-REF", "TD-EVENT-BSW-INTERNAL-BEHAVIOR": "BSW-MODULE-ENTITY-REF"}.get(part.node.name)
+    reference = _RUNNABLES.get(part.node.name)
     name = part.node.value(reference).rpartition("/")[2] if reference else ""
     word = part.node.value(f"{part.node.name}-TYPE")
     action = next((action for ends, action in _ACTIONS.items() if word.endswith(ends)), None)

@@ -68,9 +68,9 @@ class Unknown:
         self._lines.setdefault((parent, name), line)
 
     def told(self, file: str) -> list[str]:
-        """A line for each name and parent."""
+        """A line for each name and parent, in the order of the file."""
         return [f"{file}:{self._lines[key]}: {key[1]} in {key[0]} is not known here and was left out"
-                + (f" ({count} times)" if count > 1 else "") for key, count in self._found.items()]
+                + (f" ({count} times)" if count > 1 else "") for key, count in sorted(self._found.items(), key=lambda one: self._lines[one[0]])]
 
 
 class _Pass:

@@ -104,11 +104,15 @@ def take_over(file: str, events: str | None = None, guarantees: bool = False, da
 def _nothing(model: Model, found: Takeover) -> str:
     """Why there is no table."""
     if not found.entries:
-        more = f"; it has {model.guarantees} guarantees, which --guarantees takes" if model.guarantees else ""
+        more = f"; it has {_guarantees(model)}, which --guarantees takes" if model.guarantees else ""
         return f"it has no timing requirements{more}"
     reasons = "".join(f"\n{model.file}:{entry.line}: left out: {entry.name} ({entry.constraint}): {'; '.join(entry.notes)}"
                       for entry in found.entries)
     return f"no constraint of it can be taken{reasons}"
+
+
+def _guarantees(model: Model) -> str:
+    return f"{model.guarantees} guarantee{'' if model.guarantees == 1 else 's'}"
 
 
 class _Composer:
@@ -135,7 +139,7 @@ class _Composer:
                 found = [(part, LeftOut(refused[at]) if at in refused else one) for at, (part, one) in enumerate(found)]
         told = self._model.unknown.told(self._model.file)
         if self._model.guarantees:
-            told.append(f"{self._model.file}: {self._model.guarantees} guarantees were not read; --guarantees takes them")
+            told.append(f"{self._model.file}: {_guarantees(self._model)} not read; --guarantees takes them")
         return Takeover(self._model.file, "".join(line + "\n" for line in lines), [self._entry(*one) for one in found], told)
 
     def _taken(self, part: Part) -> Taken | LeftOut:
@@ -179,8 +183,9 @@ class _Composer:
 
     def _events(self, rows: list[RowOf]) -> list[str]:
         """The lines of the events that rows name, and a comment that counts the others."""
-        used = dict.fromkeys(event for row in rows for value in row.values.values() for event in _events_of(value))
-        self._name_executed([event for event in used if isinstance(event, TaskSource)])
+        named = dict.fromkeys(event for row in rows for value in row.values.values() for event in _events_of(value))
+        self._name_executed([event for event in named if isinstance(event, TaskSource)])
+        used = {self._names[event]: self._origins.described(event) or event for event in named}.values()
         lines, home = [], ""
         for event in used:
             origin = Origin((event,)) if isinstance(event, TaskSource) else self._origins.of(event)
@@ -194,10 +199,13 @@ class _Composer:
         return [*lines, *([f"# {others} more events, which no row names"] if others else [])]
 
     def _name_executed(self, executed: list[TaskSource]) -> None:
-        """Names for what happens to runnables, beside those of the file's events."""
+        """Names for what happens to runnables: those of the file's events where it describes them, else new ones."""
         taken_names = set(self._names.values())
         for source in executed:
-            if source not in self._names:
+            described = self._origins.described(source)
+            if described is not None:
+                self._names[source] = self._names[described]
+            elif source not in self._names:
                 name = event_name([source.name, source.action])
                 while name in taken_names:
                     name += "_"

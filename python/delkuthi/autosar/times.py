@@ -3,6 +3,7 @@ from __future__ import annotations
 
 import re
 
+from ..library import LAST_TIME
 from .parts import Node
 
 #: How many femtoseconds each code (CSE-CODE) of time has.
@@ -46,6 +47,8 @@ def nanoseconds(node: Node, what: str) -> int:
     time, part = divmod(factor * FEMTOSECONDS[code], _NANOSECOND)
     if part:
         raise LeftOut(f"{what} is {_exact(factor * FEMTOSECONDS[code])}, and no row has times finer than 1 ns")
+    if time > LAST_TIME:
+        raise LeftOut(f"{what} is more than {LAST_TIME} ns, the longest time of a row")
     return time
 
 

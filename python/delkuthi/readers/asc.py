@@ -15,6 +15,7 @@ _UNSTAMPED = ("date", "internal", "no", "//", "begin", "end")
 _FRAMES, _REQUEST = ("Rx", "Tx"), "TxRq"
 _IDENTIFIER = {16: re.compile("[0-9A-Fa-f]{1,8}[xX]?"), 10: re.compile("[0-9]{1,10}[xX]?")}
 _OCTET = {16: re.compile("[0-9A-Fa-f]{1,2}"), 10: re.compile("[0-9]{1,3}")}
+_DIRECTIONS, _BITS = {word.encode() for word in _FRAMES}, {b"0", b"1"}
 _EXAMPLE = "expected a line of ASC, such as 0.020500 1 1A0 Rx d 1 01"
 
 
@@ -95,7 +96,7 @@ class _Measurement:
             return self._flexible(words[2:])
         if len(words) > 2 and words[1].isdigit():
             return self._classic(words[1], words[2:])
-        if len(words) < 3:
+        if len(words) == 1 or words[1].isdigit():
             raise self._error(_EXAMPLE)
         self._reader.other_lines += 1
         return ()
@@ -158,15 +159,43 @@ class _Measurement:
         return self._reader.error(self._last, message)
 
 
-def _columns(lines: list[bytes]) -> tuple[list[bytes], list[bytes], list[bytes], list[bytes]]:
-    """Stamps, channels, identifiers and data of lines that are all data frames of one to eight bytes; :class:`NeedsSlowPath` if they are not."""
+_Columns = tuple[list[bytes], list[bytes], list[bytes], list[bytes]]
+
+
+def _columns(lines: list[bytes]) -> _Columns:
+    """Stamps, channels, identifiers and data of lines that are all data frames with data; :class:`NeedsSlowPath` if they are not."""
+    flexible = [at for at, line in enumerate(lines) if b"CANFD" in line]
+    if not flexible:
+        return _classic_columns(lines)
+    classic = sorted({*range(len(lines))} - {*flexible})
+    parts = [_flexible_columns([lines[at] for at in flexible])] + ([_classic_columns([lines[at] for at in classic])] if classic else [])
+    order = sorted(range(len(lines)), key=[*flexible, *classic].__getitem__)
+    stamps, buses, identifiers, data = ([cell for part in parts for cell in part[column]] for column in range(4))
+    return tuple([cells[at] for at in order] for cells in (stamps, buses, identifiers, data))  # type: ignore[return-value]
+
+
+def _classic_columns(lines: list[bytes]) -> _Columns:
+    """Of frames of one to eight bytes."""
     words = [line.split(None, 6) for line in lines]
     if set(map(len, words)) != {7}:
         raise NeedsSlowPath
     stamps, buses, identifiers, directions, marks, sizes, data = (list(column) for column in zip(*words))
-    if {*marks} != {b"d"} or not {*directions} <= {b"Rx", b"Tx"} or not b"".join(buses).isdigit():
+    if {*marks} != {b"d"} or not {*directions} <= _DIRECTIONS or not b"".join(buses).isdigit():
         raise NeedsSlowPath
-    return stamps, buses, identifiers, whole_data(sizes, data)
+    return stamps, buses, identifiers, whole_data(sizes, data, 8)
+
+
+def _flexible_columns(lines: list[bytes]) -> _Columns:
+    """Of frames of CAN FD, which have all a symbolic name or all none."""
+    words = [line.split(None, 9) for line in lines]
+    if any(len(cells) > 5 and cells[5] not in _BITS for cells in words):
+        words = [cells[:5] + cells[6:] for cells in (line.split(None, 10) for line in lines)]
+    if set(map(len, words)) != {10}:
+        raise NeedsSlowPath
+    stamps, marks, buses, directions, identifiers, switched, passive, _, sizes, data = (list(column) for column in zip(*words))
+    if {*marks} != {b"CANFD"} or not {*directions} <= _DIRECTIONS or not {*switched, *passive} <= _BITS or not b"".join(buses).isdigit():
+        raise NeedsSlowPath
+    return stamps, buses, identifiers, whole_data(sizes, data, 64)
 
 
 def _sum(first: str, second: str) -> str:

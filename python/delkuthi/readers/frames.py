@@ -103,10 +103,10 @@ def from_hex(digits: list[bytes]) -> list[bytes]:
     return [bytes.fromhex(one.decode("ascii")) for one in digits]
 
 
-def whole_data(sizes: Sequence[bytes], data: Sequence[bytes]) -> list[bytes]:
-    """The digits of data that stands in a line as bytes of two digits with a blank between them, one to eight bytes as the sizes say;
-    :class:`NeedsSlowPath` if one has not as many bytes, or more digits beside them."""
-    if not {*sizes} <= _SIZES.keys():
+def whole_data(sizes: Sequence[bytes], data: Sequence[bytes], most: int) -> list[bytes]:
+    """The digits of data that stands in a line as bytes of two digits with a blank between them, as many bytes as the sizes say, one up to the
+    most; :class:`NeedsSlowPath` if one has not as many bytes, or more digits beside them."""
+    if not {*sizes} <= _SIZES.keys() or max(map(int, {*sizes})) > most:
         raise NeedsSlowPath
     ends = [_SIZES[size] for size in sizes]
     if not {text[end : end + 1] for text, end in zip(data, ends)} <= {b" ", b"\n", b"\r", b""}:
@@ -120,7 +120,7 @@ def whole_data(sizes: Sequence[bytes], data: Sequence[bytes]) -> list[bytes]:
 
 
 #: The sizes of data that many lines are read together with, and how many characters such data has.
-_SIZES = {b"%d" % size: 3 * size - 1 for size in range(1, 9)}
+_SIZES = {b"%d" % size: 3 * size - 1 for size in range(1, 65)}
 
 
 def written_in_hex(pattern: str) -> Callable[[bytes], tuple[int, bool]]:

@@ -75,7 +75,7 @@ class _Trace:
             raise NeedsSlowPath
         if b"R" in b"".join(cells["D"]):
             raise NeedsSlowPath  # RTR, behind or in place of data
-        return cells["O"], cells.get("B", [b"1"] * len(lines)), cells["I"], whole_data(sizes, cells["D"])
+        return cells["O"], cells.get("B", [b"1"] * len(lines)), cells["I"], whole_data(sizes, cells["D"], 8)
 
     def _header(self, text: str, number: int) -> None:
         """A line of the header, which may say what columns there are."""

@@ -208,14 +208,14 @@ class Executions(RowMeasuring):
 TYPE = RowType(
     8, "ExecutionTime", "{start:kind} -> {stop:kind}, preempt {preempt:kind}, resume {resume:kind}, {lower:time} .. {upper:time}",
     says="from each start to its stop, without what lies from preempt to resume",
-    means="From each `start` to its `stop`, less the stretches from `preempt` to `resume`, it runs for `lower` to `upper`.",
+    means="From each `start` to its `stop` it runs for `lower` to `upper`, without the time from `preempt` to `resume`.",
     asks="""The row's events come in this order: a start, any number of pairs of a preempt and a resume, a stop, and then a
         start again. No two have the same time. The running time is stop minus start, less the stretches from preempt to
         resume, and it is lower to upper. The row breaks at an event out of this order, as soon as the running time up to
         the clock is more than upper, at a preempt after which no time is left to run, and at a close between a start and
         its stop.""",
-    manual="""the time from each start to its stop, without what lies from a preempt to its resume, is lower to upper. An event
-        that may not come next breaks the row too.""",
+    manual="""the time from each start to its stop, without the time from each preempt to its resume, lies
+        between lower and upper. An event out of sequence also breaks the row.""",
     measures="running time", each="each run",
     reason=reason, forget=forget, windows=windows, measuring=Executions, instance=("start", 0), pending=pending,
     beginning=Beginning(_began, _run),

@@ -131,9 +131,10 @@ TYPE = RowType(
         upper apart. The events are at least minimum apart. With lower = upper it is a periodic signal. Silence counts from
         the first event on: the row breaks once the clock is past (the latest place that the last point can have) + upper +
         jitter. Without an upper limit silence does not break the row. The close does not break it either.""",
-    manual="""each event is 0 to jitter after a point of its own, and neighbouring points are lower to upper apart; neighbouring
-        events are at least minimum apart. With lower = upper it is a periodic signal with jitter, whose clock may not wander.""",
-    measures="gap to the event before", each="each event but the first",
+    manual="""each event is 0 to jitter after its own point, and neighbouring points are lower to upper apart.
+        Neighbouring events are at least minimum apart. With lower = upper it is a periodic signal with jitter, whose
+        clock may not drift.""",
+    measures="gap to the previous event", each="each event but the first",
     reason=reason, forget=forget, windows=windows, measuring=Gaps, instance=("event", 1),
     example=("sporadic", "camera, 20 ms .. 20 ms, jitter 5 ms, minimum 12 ms",
              {"camera": "7 25 48 65 93"}),

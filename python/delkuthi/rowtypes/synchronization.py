@@ -163,16 +163,16 @@ class Widths(RowMeasuring):
 TYPE = RowType(
     11, "Synchronization", "{kinds:kinds}, tolerance {tolerance:time}",
     says="each event in a stretch of tolerance with an event of every kind",
-    means="Each event of the kinds, 2 to 4 of them, lies in a stretch of `tolerance` in which every kind has an event.",
+    means="Each event of the kinds, 2 to 4 of them, lies in a window of `tolerance` in which every kind has an event.",
     asks="""Each event of the kinds lies in a full window: a stretch from some time to tolerance later in which every one
         of the kinds has an event. Windows may overlap, one event may be in several, and a kind may have several events in
         one: unlike type 7 it does not count events. An event that lies in no full window breaks the row once the clock is
         past it + tolerance, and at the close.""",
-    manual="""each event lies in a stretch of tolerance in which every one of the kinds has an event. Unlike in a StrongSynchronization
-        nothing is counted: a kind may have several events in such a stretch, and one event may serve two of them. An event around
-        which a kind is missing breaks the row once tolerance is over.""",
-    measures="width of the shortest stretch with an event of every kind that the event lies in; the greatest is the least tolerance that "
-             "would do", each="each event",
+    manual="""each event lies in a window of length tolerance in which every kind has an event. Unlike a
+        StrongSynchronization it does not count events: a kind may have several events in a window, and one event may
+        lie in two windows. An event in no such window breaks the row once tolerance has passed.""",
+    measures="width of the shortest stretch that contains the event and an event of every kind; the greatest is the least tolerance "
+             "that would be enough", each="each event",
     reason=reason, forget=forget, windows=windows, measuring=Widths, instance=("kinds", 0), edition=2, pending=pending,
     beginning=Beginning(lone=_lone),
     example=("fusion", "radar lidar video, tolerance 5 ms",

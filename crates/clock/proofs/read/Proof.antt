@@ -1,7 +1,7 @@
 -- A record that is whole is asked its call; any other is refused by 14, and the clock is as it was.
 use Rattle.clock.proofs.{Laws.read-call, Laws.read-none, read.Statement.statement}
 use Rattle.constraint.proofs.Library.{ap, arith, now}
-use Rattle.queue.proofs.Shared.{free}
+use Rattle.ring.proofs.Shared.{free}
 use Rattle.recording.specs.declared.CallRead.{CallRead}
 use Rattle.clock.proofs.read.Tie as tie
 

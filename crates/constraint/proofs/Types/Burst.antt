@@ -11,7 +11,7 @@ lawfulBurst kind maximum len minimum =
       waits-same = λ a b same. refl;
     }
 
--- it can be met, and can be missed
+-- §2.2: it can be met, and can be missed
 pub burst-contingent : Contingent (Burst 0 1 5 0) (event 0 0 ∷ event 0 5 ∷ []) (event 0 0 ∷ event 0 4 ∷ [])
 unfolding Meets MeetsBurst SpansApart times
 burst-contingent = record {

@@ -11,7 +11,7 @@ lawfulDelay source target lower upper =
       waits-same = λ a b same. ap₂ (unanswered lower upper) (same 0 (omega arith)) (same 1 (omega arith));
     }
 
--- it can be met, and can be missed
+-- §2.2: it can be met, and can be missed
 pub delay-contingent : Contingent (Delay 0 1 2 3) (event 0 10 ∷ event 1 12 ∷ []) (event 0 10 ∷ event 1 14 ∷ [])
 unfolding Meets MeetsDelay times
 delay-contingent = record { can-be-met = λ i h. answered i h; can-be-missed = λ m. late (m 0 (omega arith)) }
@@ -25,7 +25,7 @@ delay-contingent = record { can-be-met = λ i h. answered i h; can-be-missed = �
     late (zero, h, (b, inr after)) = omega arith
     late (suc j, h, b) = omega arith
 
--- without an upper limit a target may come later than every number of eight bytes
+-- §2.2: without an upper limit a target may come later than every number of eight bytes
 pub unlimited-delay-contingent : Contingent (Delay 0 1 2 noLimit) (event 0 10 ∷ event 1 (2 ^ 65) ∷ []) (event 0 10 ∷ event 1 11 ∷ [])
 unfolding Meets MeetsDelay times
 unlimited-delay-contingent = record { can-be-met = λ i h. answered i h; can-be-missed = λ m. early (m 0 (omega arith)) }

@@ -11,7 +11,7 @@ lawfulExecutionTime start stop preempt resume lower upper =
       waits-same = λ a b same. refl;
     }
 
--- the stretch from preempt to resume is no running time
+-- §2.2: the stretch from preempt to resume is no running time
 pub execution-time-contingent
     : Contingent (ExecutionTime 0 1 2 3 2 5) (event 0 0 ∷ event 2 4 ∷ event 3 1000 ∷ event 1 1001 ∷ []) (event 0 0 ∷ event 1 1 ∷ [])
 unfolding Meets MeetsExecutionTime own

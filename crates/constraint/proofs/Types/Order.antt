@@ -10,7 +10,7 @@ lawfulOrder source target =
       waits-same = λ a b same. refl;
     }
 
--- it can be met, and can be missed
+-- §2.2: it can be met, and can be missed
 pub order-contingent : Contingent (Order 0 1) (event 1 5 ∷ event 0 5 ∷ []) (event 1 5 ∷ [])
 unfolding Meets MeetsOrder times
 order-contingent = record { can-be-met = (refl, λ i h. omega arith); can-be-missed = λ m. omega (arith, m .0) }

@@ -13,7 +13,7 @@ lawfulReaction stimulus response lower upper =
       waits-same = λ a b same. refl;
     }
 
--- a stimulus of colour 1 at 10 and the first response of that colour at 15; and one at 17
+-- §2.2, §5.9: a stimulus of colour 1 at 10 and the first response of that colour at 15; and one at 17
 pub reaction-contingent : Contingent (Reaction 48 49 4 6) (event 49 10 ∷ event 57 15 ∷ []) (event 49 10 ∷ event 57 17 ∷ [])
 unfolding Meets MeetsReaction times
 reaction-contingent = record {

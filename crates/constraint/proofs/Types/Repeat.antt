@@ -12,7 +12,7 @@ lawfulRepeat kind span lower upper =
       waits-same = λ a b same. refl;
     }
 
--- it can be met, and can be missed
+-- §2.2: it can be met, and can be missed
 pub repeat-contingent : Contingent (Repeat 0 1 4 4) (event 0 0 ∷ event 0 4 ∷ []) (event 0 0 ∷ event 0 3 ∷ [])
 unfolding Meets SpansApart MeetsRepeat times clockFrom
 repeat-contingent =
@@ -31,7 +31,7 @@ repeat-contingent =
     apart zero h = (omega arith, inr (omega arith))
     apart (suc i) h = absurd (omega arith)
 
--- silence alone, one step of the clock later, misses it
+-- §2.2: silence alone, one step of the clock later, misses it
 pub silent-repeat-contingent : Contingent (Repeat 0 1 4 4) (event 0 0 ∷ tick 4 ∷ []) (event 0 0 ∷ tick 5 ∷ [])
 unfolding Meets SpansApart MeetsRepeat times clockFrom
 silent-repeat-contingent =

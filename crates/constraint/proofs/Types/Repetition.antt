@@ -11,7 +11,7 @@ lawfulRepetition kind span lower upper jitter =
       waits-same = λ a b same. refl;
     }
 
--- the points must rise besides: each of the two chains taken singly has its points in both lists
+-- §2.2: the points must rise besides: each of the two chains taken singly has its points in both lists
 pub repetition-contingent : Contingent (Repetition 0 2 10 10 5) (event 0 5 ∷ event 0 16 ∷ event 0 17 ∷ event 0 29 ∷ [])
     (event 0 5 ∷ event 0 16 ∷ event 0 17 ∷ event 0 31 ∷ [])
 unfolding Meets MeetsRepetition times

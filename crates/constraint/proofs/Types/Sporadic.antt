@@ -13,7 +13,7 @@ lawfulSporadic kind lower upper jitter minimum =
       waits-same = λ a b same. refl;
     }
 
--- it can be met, and can be missed
+-- §2.2: it can be met, and can be missed
 pub sporadic-contingent : Contingent (Sporadic 0 5 5 2 0) (event 0 2 ∷ event 0 9 ∷ []) (event 0 2 ∷ event 0 10 ∷ [])
 unfolding Meets SpansApart MeetsSporadic times clockFrom
 sporadic-contingent =
@@ -58,7 +58,7 @@ sporadic-contingent =
     far x y (inl e) = absurd (omega arith)
     far x y (inr h) = h
 
--- and so with its point as late as it can be
+-- §2.2: and so with its point as late as it can be
 pub silent-sporadic-contingent : Contingent (Sporadic 0 5 5 2 0) (event 0 2 ∷ tick 9 ∷ []) (event 0 2 ∷ tick 10 ∷ [])
 unfolding Meets SpansApart MeetsSporadic times clockFrom
 silent-sporadic-contingent =

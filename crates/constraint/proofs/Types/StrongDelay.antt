@@ -11,7 +11,7 @@ lawfulStrongDelay source target lower upper =
       waits-same = λ a b same. ap₂ (λ (s t : List ℕ). length s - length t) (same 0 (omega arith)) (same 1 (omega arith));
     }
 
--- it can be met, and can be missed
+-- §2.2: it can be met, and can be missed
 pub strong-delay-contingent : Contingent (StrongDelay 0 1 1 3) (event 0 10 ∷ event 1 12 ∷ []) (event 1 10 ∷ [])
 unfolding Meets MeetsStrongDelay times
 strong-delay-contingent = record { can-be-met = (refl, λ i h. paired i h); can-be-missed = λ m. omega (arith, m .0) }

@@ -42,6 +42,7 @@ synchronized-alike : (ks : List ℕ) (tolerance t : ℕ) (steps : List Step) →
 unfolding MeetsStrongSynchronization
 synchronized-alike ks tolerance t steps alike j k h g = rw (alike j h, alike k g) (refl, λ i l. omega arith)
 
+-- §2.2
 pub synchronization2-contingent : Contingent (StrongSynchronization2 0 1 2) (event 0 5 ∷ event 1 5 ∷ []) (event 0 5 ∷ [])
 unfolding Meets MeetsStrongSynchronization times
 synchronization2-contingent =
@@ -56,6 +57,7 @@ synchronization2-contingent =
     alike (suc zero) h = refl
     alike (suc (suc j)) h = absurd (omega arith)
 
+-- §2.2
 pub synchronization3-contingent : Contingent (StrongSynchronization3 0 1 2 2) (event 0 5 ∷ event 1 5 ∷ event 2 5 ∷ []) (event 0 5 ∷ event 1 5 ∷ [])
 unfolding Meets MeetsStrongSynchronization times
 synchronization3-contingent =
@@ -70,6 +72,7 @@ synchronization3-contingent =
     alike (suc (suc zero)) h = refl
     alike (suc (suc (suc j))) h = absurd (omega arith)
 
+-- §2.2
 pub synchronization4-contingent : Contingent (StrongSynchronization4 0 1 2 3 2) (event 0 5 ∷ event 1 5 ∷ event 2 5 ∷ event 3 5 ∷ [])
     (event 0 5 ∷ event 1 5 ∷ event 2 5 ∷ [])
 unfolding Meets MeetsStrongSynchronization times

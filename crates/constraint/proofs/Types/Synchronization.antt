@@ -42,6 +42,7 @@ least-place (suc (suc n)) f some =
     (λ less. (suc n, omega arith, λ k l. by-cases (ℕ-discrete k (suc n)) (λ e. rw e (omega arith)) (λ e. omega (arith, least k (omega arith)))))
     (λ more. (m, omega arith, λ k l. by-cases (ℕ-discrete k (suc n)) (λ e. rw e (omega arith)) (λ e. least k (omega arith))))
 
+-- §5.11
 -- what meets a StrongSynchronization meets a Synchronization of the same kinds: the events of one place are in the window that the first begins
 pub strong-windows : (ks : List ℕ) (tolerance : ℕ) (steps : List Step) → MeetsStrongSynchronization ks tolerance steps
     → MeetsSynchronization ks tolerance steps
@@ -75,6 +76,7 @@ windows-lack ks tolerance j k s steps h g there none meets =
     let (r, (i, l, e), near) = full k g in
     omega (arith, ap length none)
 
+-- §5.11
 pub window2-contingent : Contingent (Synchronization2 0 1 2) (event 0 5 ∷ event 1 5 ∷ []) (event 0 5 ∷ [])
 unfolding Meets times
 window2-contingent =
@@ -88,6 +90,7 @@ window2-contingent =
     alike (suc zero) h = refl
     alike (suc (suc j)) h = absurd (omega arith)
 
+-- §5.11
 pub window3-contingent : Contingent (Synchronization3 0 1 2 2) (event 0 5 ∷ event 1 5 ∷ event 2 5 ∷ []) (event 0 5 ∷ event 1 5 ∷ [])
 unfolding Meets times
 window3-contingent =
@@ -102,6 +105,7 @@ window3-contingent =
     alike (suc (suc zero)) h = refl
     alike (suc (suc (suc j))) h = absurd (omega arith)
 
+-- §5.11
 pub window4-contingent : Contingent (Synchronization4 0 1 2 3 2) (event 0 5 ∷ event 1 5 ∷ event 2 5 ∷ event 3 5 ∷ [])
     (event 0 5 ∷ event 1 5 ∷ event 2 5 ∷ [])
 unfolding Meets times

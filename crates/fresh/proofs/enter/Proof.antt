@@ -1,6 +1,6 @@
 -- An entry at the place behind the others makes the entries one longer.
 use Rattle.fresh.proofs.Names.{Bool, List, ListsLie, [], _++_, _+_, _∙_, _∷_, ap, append-nil, arith, cond, length-append, needs, padded, set}
-use Rattle.fresh.proofs.Names.{subst, sym, withLists, wordsOf, ℕ}
+use Rattle.fresh.proofs.Names.{subst, sym, withLists, wordsOfLent, ℕ}
 use Rattle.fresh.proofs.{Lists.shaped-lists, Padding.padded-next, enter.Statement.statement}
 use Rattle.fresh.proofs.enter.Tie as tie
 
@@ -15,7 +15,7 @@ returns c =
           subst (λ (b : Bool). ListsLie h ends (entries ++ cond b (a .i ∷ []) []) (a .place + 1) (c .put-entry .last .0)) (sym is) (
             omega (arith, lies .0, length-append entries (a .i ∷ [])),
             c .put-entry .ensures h′ (lies .1) wide
-                ∙ ap (λ (l : List ℕ). wordsOf (withLists h (padded 64 ends) l))
+                ∙ ap (λ (l : List ℕ). wordsOfLent (withLists h (padded 64 ends) l))
                 (ap (λ (k : ℕ). set (padded 128 entries) k (a .i)) (lies .0) ∙ padded-next entries 128 (a .i)),
           ),
     )

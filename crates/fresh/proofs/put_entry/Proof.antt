@@ -1,5 +1,5 @@
 -- The entry is stored at its place, in the one half or the other; there is no place 128.
-use Rattle.fresh.proofs.Names.{List, [], _%_, _/_, _∙_, ap, arith, getD, needs, set, sym, withLists, wordsOf, ℕ}
+use Rattle.fresh.proofs.Names.{List, [], _%_, _/_, _∙_, ap, arith, getD, needs, set, sym, withLists, wordsOfLent, ℕ}
 use Rattle.fresh.proofs.{Lists.entry-written, Padding.set-past, put_entry.Statement.statement}
 use Rattle.fresh.proofs.put_entry.Tie as tie
 
@@ -12,7 +12,7 @@ returns c h e s =
 returns-2 : tie.Need-returns-2
 returns-2 c h e s =
     let a = c .before .args in
-    e ∙ ap (λ (entries : List ℕ). wordsOf (withLists h (h .ends) entries))
+    e ∙ ap (λ (entries : List ℕ). wordsOfLent (withLists h (h .ends) entries))
     (sym (set-past (a .place) (a .i) (h .entries) (omega (arith, c .if1 .left, s .entries-there))))
 
 pub put-entry-spec : {M : Type 1} → statement M

@@ -1,6 +1,6 @@
 -- Row after row: before the turn of number i the first i are stored, and the others are read from the place on that the turn has.
 use Rattle.fresh.proofs.Names.{Constraint, List, ReadsRows, RowsBehind, RowsPut, [], _-_, _∙_, _≡_, _≤_, after, ap, ap₂, arith, at, drop}
-use Rattle.fresh.proofs.Names.{length, noBefore, rowOf, subst, sym, table-of, ℕ}
+use Rattle.fresh.proofs.Names.{length, noRowUndo, rowOf, subst, sym, table-of, ℕ}
 use Rattle.fresh.proofs.Scanned.{put-next, put-none, scan-next}
 use Rattle.fresh.proofs.{Freshness.kept-is, Freshness.row-is, put_rows.Statement.statement}
 use Rattle.row.specs.Stored as Stored
@@ -21,8 +21,8 @@ loop-again c =
       λ rows reads long.
           let so-far = l .inv .1 rows reads long in
           let next = scan-next _ rows (l .i) (l .place) (d .row-at .result) (so-far .0) (d .row-at .ensures) in
-          let row = c .begin .ensures ∙ ap (λ (x : Constraint). Stored.wordsOf (rowOf x) noBefore) (next .0)
-          ∙ ap₂ Stored.wordsOf (sym (row-is rows (l .i))) (sym (kept-is rows (l .i))) in
+          let row = c .begin .ensures ∙ ap (λ (x : Constraint). Stored.wordsOfRow (rowOf x) noRowUndo) (next .0)
+          ∙ ap₂ Stored.wordsOfRow (sym (row-is rows (l .i))) (sym (kept-is rows (l .i))) in
           (next .1, put-next _ (after rows []) (l .i) (l .m) (c .begin .last .0) (omega arith) (so-far .1) row),
     )
 

@@ -5,10 +5,10 @@ use Rattle.constraint.specs.{Page.leftIn, Page.nameOf, Types.typeNames, Types.u
 use Rattle.page.proofs.name.Statement.{statement}
 use Rattle.page.proofs.name.Tie as tie
 
-named : (form : ℕ) → form < length typeNames → (other : List ℕ) → getD (map (leftIn 24) typeNames) form other ≡ leftIn 24 (nameOf form)
-named form known other = getD-within (map (leftIn 24) typeNames) form other _ known ∙ List·getD-map (leftIn 24) typeNames form unknownName
+named : (tag : ℕ) → tag < length typeNames → (other : List ℕ) → getD (map (leftIn 24) typeNames) tag other ≡ leftIn 24 (nameOf tag)
+named tag known other = getD-within (map (leftIn 24) typeNames) tag other _ known ∙ List·getD-map (leftIn 24) typeNames tag unknownName
 
 pub name-spec : {M : Type 1} → statement M
 name-spec =
-    tie.close (tie.spec (λ c. search needs) (λ c. search needs) (λ c. named (c .before .before .args .form) (c .before .if1 .taken) _)
-    (λ c. search needs) (λ c. rw (List·getD-eq-default typeNames unknownName {n = c .before .before .args .form} (c .before .if1 .left))))
+    tie.close (tie.spec (λ c. search needs) (λ c. search needs) (λ c. named (c .before .before .args .tag) (c .before .if1 .taken) _)
+    (λ c. search needs) (λ c. rw (List·getD-eq-default typeNames unknownName {n = c .before .before .args .tag} (c .before .if1 .left))))

@@ -17,7 +17,7 @@ returns c =
     let put4 = put5 .before .before .before .before .before .before in let put3 = put4 .before .before .before .before .before .before in
     let put2 = put3 .before .before .before .before .before .before in let put1 = put2 .before .before .before .before .before in
     let digits = put1 .before .before .before .before .before in let args = digits .before .before .args in let i = args .row in
-    let type = args .form in let v = args .verdict in
+    let type = args .tag in let v = args .verdict in
     let l = now (args .buffer) in
     let place = args .place in
     let small : i < 1000 = omega arith in

@@ -156,7 +156,7 @@ module _ (span lower upper jitter : ℕ) where
             new-event (length events) refl,
           )
 
-      -- an event without a place for its point breaks the row
+      -- §5.10: an event without a place for its point breaks the row
       pub next-breaks : ¬ Fitting low high → ¬ ((points : List ℕ) × HiddenPoints span lower upper jitter (events ++ (t ∷ [])) points)
       next-breaks none (points, hidden) =
           none (λ many. let full : span < length (events ++ (t ∷ [])) = omega (arith, length-now) in
@@ -319,5 +319,6 @@ module _ (span lower upper jitter : ℕ) where
           apart = λ i b. absurd (omega arith);
         }
 
+    -- §5.10
     pub keeps-says : Rising events → (points : List ℕ) × HiddenPoints span lower upper jitter events points
     keeps-says rising = by-cases (decLt span (length events)) many-points (λ few. (events, few-points rising (omega arith)))

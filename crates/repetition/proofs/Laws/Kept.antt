@@ -5,8 +5,8 @@ use Rattle.constraint.proofs.Library.{drop-drop, drop-nil, false, getD-drop, le
 use Rattle.constraint.proofs.Library.{refl, sym, true, ℕ}
 use Rattle.constraint.proofs.Lists.{Rising, at-left, at-next, rising-at, split}
 use Rattle.constraint.specs.{Limits.lastTime, Steps.at}
-use Rattle.machine.proofs.Oldest.{front-at}
-use Rattle.machine.specs.{Parts.front, Parts.plus, declared.Rule.Rule}
+use Rattle.row_type.proofs.Oldest.{front-at}
+use Rattle.row_type.specs.{Parts.front, Parts.plus, declared.Parameters.Parameters}
 use Rattle.repetition.proofs.Laws.Chains.{Keeps, Next, first, keeps-none, later}
 use Rattle.repetition.specs.Repetition.{firstHigh, highestPoint, lowestPoint, points}
 
@@ -51,18 +51,18 @@ woven-less (l ∷ ls) (h ∷ hs) false e = refl
 -- ---- What the row keeps
 
 -- what is asked of a row of a table, and used here
-pub record Asked (rule : Rule) : Type 0 where
-  pub positive : 1 ≤ rule .span
-  pub given : rule .upper ≤ lastTime
-  pub small-lower : rule .lower ≤ lastTime
+pub record Asked (parameters : Parameters) : Type 0 where
+  pub positive : 1 ≤ parameters .span
+  pub given : parameters .upper ≤ lastTime
+  pub small-lower : parameters .lower ≤ lastTime
 
-module _ (rule : Rule) where
+module _ (parameters : Parameters) where
   abbrev KeepsPlaces : List ℕ → List ℕ → List ℕ → Type 0
-  KeepsPlaces = Keeps (rule .span) (rule .lower) (rule .upper) (rule .jitter)
+  KeepsPlaces = Keeps (parameters .span) (parameters .lower) (parameters .upper) (parameters .jitter)
 
   -- how many of the points are no longer among the last span
   abbrev gone : List ℕ → ℕ
-  gone events = length events - rule .span
+  gone events = length events - parameters .span
 
   pub record KeepsLast (events kept : List ℕ) : Type 0 where
     pub lows : List ℕ
@@ -76,7 +76,7 @@ module _ (rule : Rule) where
       record {
         lows = [];
         highs = [];
-        keeps = keeps-none (rule .span) (rule .lower) (rule .upper) (rule .jitter);
+        keeps = keeps-none (parameters .span) (parameters .lower) (parameters .upper) (parameters .jitter);
         newest = sym (ap (λ (l : List ℕ). woven l (drop (gone []) [])) (drop-nil (gone [])));
       }
 
@@ -87,15 +87,15 @@ module _ (rule : Rule) where
         ∙ sym (length-drop (gone events) (row .highs))
 
     -- two numbers for each point, and at most span points
-    kept-length : length kept ≡ min (length events) (rule .span) + min (length events) (rule .span)
+    kept-length : length kept ≡ min (length events) (parameters .span) + min (length events) (parameters .span)
     kept-length =
         ap length (row .newest) ∙ woven-length (drop (gone events) (row .lows)) (drop (gone events) (row .highs)) as-many
         ∙ omega (arith, length-drop (gone events) (row .highs), row .keeps .highs-each)
 
-    pub kept-points : points kept ≡ min (length events) (rule .span)
+    pub kept-points : points kept ≡ min (length events) (parameters .span)
     kept-points = omega (arith, kept-length)
 
-    pub kept-few : length kept ≤ rule .span + rule .span
+    pub kept-few : length kept ≤ parameters .span + parameters .span
     kept-few = omega (arith, kept-length)
 
     -- the oldest low and high
@@ -111,32 +111,33 @@ module _ (rule : Rule) where
 
     lows-near : (i : ℕ) → i < length events → at (row .lows) i ≤ at events i
     lows-near i h =
-        by-cases (decLt (rule .span) (length events))
+        by-cases (decLt (parameters .span) (length events))
         (λ full. omega (arith, row .keeps .some full i h, row .keeps .near i h))
         (λ few. omega (arith, row .keeps .first-lows i (omega arith) h))
 
     -- ---- an event
 
-    module _ (asked : Asked rule) (t : ℕ) (small : t ≤ lastTime) (rising : Rising (events ++ (t ∷ []))) where
+    module _ (asked : Asked parameters) (t : ℕ) (small : t ≤ lastTime) (rising : Rising (events ++ (t ∷ []))) where
       abbrev pub IsNext : ℕ → ℕ → Type 0
       IsNext =
-          Next (rule .span) (rule .lower) (rule .upper) (rule .jitter) (asked .positive) (asked .given) events (row .lows) (row .highs)
+          Next (parameters .span) (parameters .lower) (parameters .upper) (parameters .jitter) (asked .positive) (asked .given) events (row .lows)
+          (row .highs)
           (row .keeps) t rising
 
-      few-events : ltb (points kept) (rule .span) ≡ true → length events < rule .span
-      few-events e = omega (arith, ltb-true (points kept) (rule .span) e, kept-points)
+      few-events : ltb (points kept) (parameters .span) ≡ true → length events < parameters .span
+      few-events e = omega (arith, ltb-true (points kept) (parameters .span) e, kept-points)
 
-      many-events : ltb (points kept) (rule .span) ≡ false → rule .span ≤ length events
-      many-events e = omega (arith, ltb-false (points kept) (rule .span) e, kept-points)
+      many-events : ltb (points kept) (parameters .span) ≡ false → parameters .span ≤ length events
+      many-events e = omega (arith, ltb-false (points kept) (parameters .span) e, kept-points)
 
-      sum-low : (m : ℕ) → m + rule .span ≡ length events → plus (at (row .lows) m) (rule .lower) ≡ at (row .lows) m + rule .lower
+      sum-low : (m : ℕ) → m + parameters .span ≡ length events → plus (at (row .lows) m) (parameters .lower) ≡ at (row .lows) m + parameters .lower
       sum-low m e =
           let before = rising-at (events ++ (t ∷ [])) rising m (length events) (omega arith) (omega (arith, length-append events (t ∷ []))) in
           let old = at-left events (t ∷ []) m (omega arith) in
           let new = at-next events t [] (length events) refl in
           omega (arith, lows-near m (omega arith), before, old, new)
 
-      first-high-few : length events < rule .span → firstHigh kept t ≡ at (events ++ (t ∷ [])) 0
+      first-high-few : length events < parameters .span → firstHigh kept t ≡ at (events ++ (t ∷ [])) 0
       first-high-few few =
           split (ltb (length kept) 2) (λ b. cond b t (at kept 1) ≡ at (events ++ (t ∷ [])) 0)
           (λ e. sym (at-next events t [] 0 (omega (arith, ltb-true (length kept) 2 e, kept-length))))
@@ -144,7 +145,7 @@ module _ (rule : Rule) where
           let place : at (row .highs) (gone events + 0) ≡ at (row .highs) 0 = ap (at (row .highs)) (omega arith) in
           omega (arith, oldest-high, place, row .keeps .first-highs 0 (omega arith) some, at-left events (t ∷ []) 0 some))
 
-      first-high-many : (m : ℕ) → m + rule .span ≡ length events → firstHigh kept t ≡ at (row .highs) m
+      first-high-many : (m : ℕ) → m + parameters .span ≡ length events → firstHigh kept t ≡ at (row .highs) m
       first-high-many m f =
           split (ltb (length kept) 2) (λ b. cond b t (at kept 1) ≡ at (row .highs) m)
           (λ e. absurd (omega (arith, ltb-true (length kept) 2 e, kept-length)))
@@ -152,33 +153,34 @@ module _ (rule : Rule) where
 
       -- the two numbers that an event at t puts in
       abbrev pub newLow : ℕ
-      newLow = lowestPoint rule (points kept) (front kept) t
+      newLow = lowestPoint parameters (points kept) (front kept) t
 
       abbrev pub newHigh : ℕ
-      newHigh = highestPoint rule (points kept) (firstHigh kept t) t
+      newHigh = highestPoint parameters (points kept) (firstHigh kept t) t
 
       -- no sum is so large that it stops
-      sum-high : newHigh ≡ min t (firstHigh kept t + (rule .upper - rule .span) + points kept)
+      sum-high : newHigh ≡ min t (firstHigh kept t + (parameters .upper - parameters .span) + points kept)
       sum-high = omega arith
 
       -- they are its places
       pub is-next : IsNext newLow newHigh
       is-next =
-          split (ltb (points kept) (rule .span))
-          (λ b. IsNext (cond b (t - rule .jitter) (max (t - rule .jitter) (plus (front kept) (rule .lower)))) newHigh)
+          split (ltb (points kept) (parameters .span))
+          (λ b. IsNext (cond b (t - parameters .jitter) (max (t - parameters .jitter) (plus (front kept) (parameters .lower)))) newHigh)
           (λ e. first (few-events e) refl
           (sum-high
           ∙ ap (λ x. min t x) (omega (arith, few-events e, kept-points, first-high-few (few-events e)))))
-          (λ e. let here : gone events + rule .span ≡ length events = omega (arith, many-events e) in
+          (λ e. let here : gone events + parameters .span ≡ length events = omega (arith, many-events e) in
           let low : front kept ≡ at (row .lows) (gone events) = oldest-low ∙ ap (at (row .lows)) (omega arith) in
           later (gone events) here
-          (ap (λ x. max (t - rule .jitter) (plus x (rule .lower))) low ∙ ap (λ x. max (t - rule .jitter) x) (sum-low (gone events) here))
+          (ap (λ x. max (t - parameters .jitter) (plus x (parameters .lower))) low
+          ∙ ap (λ x. max (t - parameters .jitter) x) (sum-low (gone events) here))
           (sum-high
           ∙ ap (λ x. min t x) (omega (arith, many-events e, kept-points, first-high-many (gone events) here))))
 
       -- what is kept then is of the last span again
       abbrev stay : Bool
-      stay = ltb (points kept) (rule .span)
+      stay = ltb (points kept) (parameters .span)
 
       still : gone events + cond stay 0 1 ≡ gone (events ++ (t ∷ []))
       still =

@@ -5,59 +5,63 @@ use Rattle.constraint.proofs.Library.{length-append, length-drop, lt-ltb, ltb, 
 use Rattle.constraint.proofs.Lists.{Rising, split}
 use Rattle.constraint.specs.{Accepted.InRange, Accepted.LowerFirst, Limits.lastTime, Limits.noLimit, Meets.Meets, Meets.MeetsRepetition}
 use Rattle.constraint.specs.{Waiting.waiting, declared.Constraint.the-variants.Repetition}
-use Rattle.machine.proofs.FitsRow.{FitsRow, Places, Unkept, calm-by, crowds-of, keeping-none, unkept-by}
-use Rattle.machine.proofs.Tests.{Tells, fails, holds, tells-and, tells-leb}
-use Rattle.machine.proofs.{Exact.Exact, Exact.Sound, OneKind.Turns, OneKind.exactOneKind}
-use Rattle.machine.specs.Parts.{breaking, continuesWith}
-use Rattle.machine.specs.{Rule.ruleOf, Words.noneKept, declared.Change.Change, declared.Marks.Marks, declared.Rule.Rule}
-use Rattle.points.proofs.Laws.Points.{points-first}
-use Rattle.queue.specs.declared.Edit.the-variants.{PushTwo}
+use Rattle.row_type.proofs.FitsRow.{FitsRow, Places, Unkept, calm-by, kind-overflows, keeping-none, unkept-by}
+use Rattle.row_type.proofs.Tests.{Tells, fails, holds, tells-and, tells-leb}
+use Rattle.row_type.proofs.{Exact.Exact, Exact.Sound, OneKind.ByTurn, OneKind.exactOneKind}
+use Rattle.row_type.specs.Parts.{breaking, continuesWith}
+use Rattle.row_type.specs.{Parameters.parametersOf, Words.noneSaved, declared.Change.Change, declared.Registers.Registers}
+use Rattle.row_type.specs.{declared.Parameters.Parameters}
+use Rattle.hidden_points.proofs.Laws.Points.{points-first}
+use Rattle.ring.specs.declared.Edit.the-variants.{PushTwo}
 use Rattle.repetition.proofs.Laws.Chains.{Fitting, keeps-more, keeps-says, next-breaks}
 use Rattle.repetition.proofs.Laws.Kept.{Asked, IsNext, KeepsLast, is-next, kept-few, kept-points, last-none, newHigh, newLow, newest-more}
-use Rattle.repetition.specs.Repetition.{decideRepetition, fillsRepetition, hasPlace, machineRepetition, placed, points, takenRepetition}
+use Rattle.repetition.specs.Repetition.{decideRepetition, overflowsRepetition, hasPlace, machineRepetition, placed, points, takenRepetition}
 
 -- the clock and the marks say nothing here
-abbrev SaysRepetition : Rule → List ℕ → ℕ → Type 0
-SaysRepetition rule events now = MeetsRepetition (rule .span) (rule .lower) (rule .upper) (rule .jitter) events
+abbrev SaysRepetition : Parameters → List ℕ → ℕ → Type 0
+SaysRepetition parameters events now = MeetsRepetition (parameters .span) (parameters .lower) (parameters .upper) (parameters .jitter) events
 
-abbrev KeepsRepetition : Rule → List ℕ → Marks → List ℕ → Type 0
-KeepsRepetition rule events marks kept = KeepsLast rule events kept
+abbrev KeepsRepetition : Parameters → List ℕ → Registers → List ℕ → Type 0
+KeepsRepetition parameters events registers kept = KeepsLast parameters events kept
 
-abbrev dueRepetition : Marks → List ℕ → ℕ
-dueRepetition marks kept = noLimit
+abbrev dueRepetition : Registers → List ℕ → ℕ
+dueRepetition registers kept = noLimit
 
 -- ---- Events
 
-module _ (rule : Rule) (asked : Asked rule) (events : List ℕ) (marks : Marks) (kept : List ℕ) (row : KeepsLast rule events kept) (t : ℕ)
+module _ (parameters : Parameters) (asked : Asked parameters) (events : List ℕ) (registers : Registers) (kept : List ℕ) (row : KeepsLast parameters
+    events kept) (t : ℕ)
     (rising : Rising (events ++ (t ∷ []))) (small : t ≤ lastTime) where
   abbrev low : ℕ
-  low = newLow rule events kept row asked t small rising
+  low = newLow parameters events kept row asked t small rising
 
   abbrev high : ℕ
-  high = newHigh rule events kept row asked t small rising
+  high = newHigh parameters events kept row asked t small rising
 
-  next : IsNext rule events kept row asked t small rising low high
-  next = is-next rule events kept row asked t small rising
+  next : IsNext parameters events kept row asked t small rising low high
+  next = is-next parameters events kept row asked t small rising
 
   abbrev Fits : Type 0
   Fits =
-      Fitting (rule .span) (rule .lower) (rule .upper) (rule .jitter) (asked .positive) (asked .given) events (row .lows) (row .highs) (row .keeps)
+      Fitting (parameters .span) (parameters .lower) (parameters .upper) (parameters .jitter) (asked .positive) (asked .given) events (row .lows)
+      (row .highs) (row .keeps)
       t rising low high
 
   abbrev TurnsRepetition : Change → Type 0
-  TurnsRepetition = Turns (SaysRepetition rule) (KeepsRepetition rule) dueRepetition events kept t
+  TurnsRepetition = ByTurn (SaysRepetition parameters) (KeepsRepetition parameters) dueRepetition events kept t
 
   -- the row goes on: as many numbers leave as are not of the last span any more
-  goes-on : Fits → (dropped : ℕ) → cond (ltb (points kept) (rule .span)) 0 2 ≡ dropped
-      → TurnsRepetition (continuesWith (PushTwo dropped low high) marks noLimit true)
+  goes-on : Fits → (dropped : ℕ) → cond (ltb (points kept) (parameters .span)) 0 2 ≡ dropped
+      → TurnsRepetition (continuesWith (PushTwo dropped low high) registers noLimit true)
   goes-on fits dropped is =
       record {
         live = record {
           lows = row .lows ++ (low ∷ []);
           highs = row .highs ++ (high ∷ []);
-          keeps = keeps-more (rule .span) (rule .lower) (rule .upper) (rule .jitter) (asked .positive) (asked .given) events (row .lows) (row .highs)
+          keeps = keeps-more (parameters .span) (parameters .lower) (parameters .upper) (parameters .jitter) (asked .positive) (asked .given) events
+              (row .lows) (row .highs)
               (row .keeps) t rising low high next fits;
-          newest = newest-more rule events kept row asked t small rising low high dropped is;
+          newest = newest-more parameters events kept row asked t small rising low high dropped is;
         };
         due-is = refl;
         kept-is = refl;
@@ -67,33 +71,35 @@ module _ (rule : Rule) (asked : Asked rule) (events : List ℕ) (marks : Marks) 
   breaks : ¬ Fits → TurnsRepetition breaking
   unfolding MeetsRepetition
   breaks none =
-      next-breaks (rule .span) (rule .lower) (rule .upper) (rule .jitter) (asked .positive) (asked .given) events (row .lows) (row .highs)
+      next-breaks (parameters .span) (parameters .lower) (parameters .upper) (parameters .jitter) (asked .positive) (asked .given) events (row .lows)
+      (row .highs)
       (row .keeps) t rising low high next none
 
   -- an event after the first span
-  later-event : ltb (points kept) (rule .span) ≡ false
-      → TurnsRepetition (cond (hasPlace rule low high) (continuesWith (PushTwo 2 low high) marks noLimit true) breaking)
+  later-event : ltb (points kept) (parameters .span) ≡ false
+      → TurnsRepetition (cond (hasPlace parameters low high) (continuesWith (PushTwo 2 low high) registers noLimit true) breaking)
   later-event full = turn has-place
     where
-      many : rule .span ≤ length events
-      many = omega (arith, ltb-false (points kept) (rule .span) full, kept-points rule events kept row)
+      many : parameters .span ≤ length events
+      many = omega (arith, ltb-false (points kept) (parameters .span) full, kept-points parameters events kept row)
 
-      has-place : Tells ((rule .span ≤ rule .upper) × (low ≤ high)) (hasPlace rule low high)
-      has-place = tells-and (tells-leb (rule .span) (rule .upper)) (tells-leb low high)
+      has-place : Tells ((parameters .span ≤ parameters .upper) × (low ≤ high)) (hasPlace parameters low high)
+      has-place = tells-and (tells-leb (parameters .span) (parameters .upper)) (tells-leb low high)
 
-      turn : {test : Bool} → Tells ((rule .span ≤ rule .upper) × (low ≤ high)) test
-          → TurnsRepetition (cond test (continuesWith (PushTwo 2 low high) marks noLimit true) breaking)
+      turn : {test : Bool} → Tells ((parameters .span ≤ parameters .upper) × (low ≤ high)) test
+          → TurnsRepetition (cond test (continuesWith (PushTwo 2 low high) registers noLimit true) breaking)
       turn (holds both) = goes-on (λ m. both) 2 (ap (λ b. cond b 0 2) full)
       turn (fails none) = breaks (λ fits. none (fits many))
 
-  repetition-event : (kind : ℕ) → TurnsRepetition (decideRepetition rule marks kept kind t)
+  repetition-event : (kind : ℕ) → TurnsRepetition (decideRepetition parameters registers kept kind t)
   unfolding decideRepetition placed
   repetition-event kind =
-      split (ltb (points kept) (rule .span))
-      (λ b. TurnsRepetition (cond b (continuesWith (PushTwo 0 low high) marks noLimit true)
-      (cond (hasPlace rule low high) (continuesWith (PushTwo 2 low high) marks noLimit true) breaking)))
+      split (ltb (points kept) (parameters .span))
+      (λ b. TurnsRepetition (cond b (continuesWith (PushTwo 0 low high) registers noLimit true)
+      (cond (hasPlace parameters low high) (continuesWith (PushTwo 2 low high) registers noLimit true) breaking)))
       (λ few. goes-on
-      (λ many. absurd (omega (arith, ltb-true (points kept) (rule .span) few, kept-points rule events kept row))) 0 (ap (λ b. cond b 0 2) few))
+      (λ many. absurd (omega (arith, ltb-true (points kept) (parameters .span) few, kept-points parameters events kept row))) 0
+      (ap (λ b. cond b 0 2) few))
       later-event
 
 -- ---- Open
@@ -104,25 +110,28 @@ unfolding MeetsRepetition
 repetition-first span lower upper jitter xs ys (points, hidden) = (take (length xs) points, points-first span lower upper jitter xs ys points hidden)
 
 -- at every clock
-repetition-says : (rule : Rule) → 1 ≤ rule .span → rule .lower ≤ rule .upper → (events kept : List ℕ) (now : ℕ) → Rising events → now ≤ lastTime
-    → KeepsLast rule events kept → SaysRepetition rule events now ↔ (now ≤ noLimit)
+repetition-says : (parameters : Parameters) → 1 ≤ parameters .span → parameters .lower ≤ parameters .upper
+    → (events kept : List ℕ) (now : ℕ) → Rising events → now ≤ lastTime
+    → KeepsLast parameters events kept → SaysRepetition parameters events now ↔ (now ≤ noLimit)
 unfolding MeetsRepetition
-repetition-says rule positive possible events kept now rising small row = (
+repetition-says parameters positive possible events kept now rising small row = (
   λ m. omega arith,
-  λ soon. keeps-says (rule .span) (rule .lower) (rule .upper) (rule .jitter) positive possible events (row .lows) (row .highs) (row .keeps) rising,
+  λ soon. keeps-says (parameters .span) (parameters .lower) (parameters .upper) (parameters .jitter) positive possible events (row .lows) (row .highs)
+      (row .keeps) rising,
 )
 
 -- ---- Exact
 
+-- §5.10
 pub exactRepetition : (kind span lower upper jitter : ℕ) → Sound (Repetition kind span lower upper jitter)
-    → Exact (Repetition kind span lower upper jitter) (decideRepetition (ruleOf (Repetition kind span lower upper jitter)))
+    → Exact (Repetition kind span lower upper jitter) (decideRepetition (parametersOf (Repetition kind span lower upper jitter)))
 unfolding Meets waiting InRange LowerFirst
 exactRepetition kind span lower upper jitter sound =
-    exactOneKind (Repetition kind span lower upper jitter) (decideRepetition rule)
+    exactOneKind (Repetition kind span lower upper jitter) (decideRepetition parameters)
     (record {
       kind = kind;
-      Says = SaysRepetition rule;
-      Keeps = KeepsRepetition rule;
+      Says = SaysRepetition parameters;
+      Keeps = KeepsRepetition parameters;
       due = dueRepetition;
       one-kind = refl;
       no-words = refl;
@@ -130,38 +139,39 @@ exactRepetition kind span lower upper jitter sound =
       none-waits = refl;
       waits-none = λ steps. refl;
       says-first = λ xs ys now later h after m. repetition-first span lower upper jitter xs ys m;
-      keeps-none = last-none rule;
+      keeps-none = last-none parameters;
       due-none = refl;
-      keeps-says = λ now rising small row. repetition-says rule (sound .in-range .0) (sound .lower-first) _ _ now rising small row;
-      keeps-few = λ row. omega (arith, kept-few rule _ _ row, sound .in-range .1);
-      keeps-event = λ t rising small row soon. repetition-event rule asked _ _ _ row t rising small kind;
+      keeps-says = λ now rising small row. repetition-says parameters (sound .in-range .0) (sound .lower-first) _ _ now rising small row;
+      keeps-few = λ row. omega (arith, kept-few parameters _ _ row, sound .in-range .1);
+      keeps-event = λ t rising small row soon. repetition-event parameters asked _ _ _ row t rising small kind;
     })
   where
-    rule : Rule
-    rule = ruleOf (Repetition kind span lower upper jitter)
+    parameters : Parameters
+    parameters = parametersOf (Repetition kind span lower upper jitter)
 
-    asked : Asked rule
+    asked : Asked parameters
     asked = record { positive = sound .in-range .0; given = sound .in-range .2 .1 .0; small-lower = sound .in-range .2 .0 }
 
 -- ---- In a row
 
 -- no mark changes, whatever the places of the new point
-unkept-placed : (rule : Rule) (m : Marks) (n low high : ℕ) → Unkept noneKept m → Unkept noneKept (placed rule m n low high .marks)
+unkept-placed : (parameters : Parameters) (m : Registers) (n low high : ℕ) → Unkept noneSaved m
+    → Unkept noneSaved (placed parameters m n low high .registers)
 unfolding placed
-unkept-placed rule m n low high e =
-    unkept-by noneKept (ltb n (rule .span)) (continuesWith (PushTwo 0 low high) m noLimit true)
-    (cond (hasPlace rule low high) (continuesWith (PushTwo 2 low high) m noLimit true) breaking) e
-    (unkept-by noneKept (hasPlace rule low high) (continuesWith (PushTwo 2 low high) m noLimit true) breaking e refl)
+unkept-placed parameters m n low high e =
+    unkept-by noneSaved (ltb n (parameters .span)) (continuesWith (PushTwo 0 low high) m noLimit true)
+    (cond (hasPlace parameters low high) (continuesWith (PushTwo 2 low high) m noLimit true) breaking) e
+    (unkept-by noneSaved (hasPlace parameters low high) (continuesWith (PushTwo 2 low high) m noLimit true) breaking e refl)
 
-unkept-repetition : (rule : Rule) (m : Marks) (times : List ℕ) (kind t : ℕ) → Unkept noneKept m
-    → Unkept noneKept (decideRepetition rule m times kind t .marks)
+unkept-repetition : (parameters : Parameters) (m : Registers) (times : List ℕ) (kind t : ℕ) → Unkept noneSaved m
+    → Unkept noneSaved (decideRepetition parameters m times kind t .registers)
 unfolding decideRepetition
-unkept-repetition rule m times kind t e = unkept-placed rule m (points times) _ _ e
+unkept-repetition parameters m times kind t e = unkept-placed parameters m (points times) _ _ e
 
-crowding-repetition : (rule : Rule) (marks : Marks) (times : List ℕ) (kind t : ℕ) → 63 ≤ length times → length times ≤ 64
-    → fillsRepetition rule marks (length times) kind t ≡ crowds-of (decideRepetition rule marks times kind t) times
-unfolding fillsRepetition decideRepetition placed
-crowding-repetition rule marks times kind t many few = by-span _ _
+crowding-repetition : (parameters : Parameters) (registers : Registers) (times : List ℕ) (kind t : ℕ) → 63 ≤ length times → length times ≤ 64
+    → overflowsRepetition parameters registers (length times) kind t ≡ kind-overflows (decideRepetition parameters registers times kind t) times
+unfolding overflowsRepetition decideRepetition placed
+crowding-repetition parameters registers times kind t many few = by-span _ _
   where
     two : (low high : ℕ) → ltb 64 (length (drop 0 times ++ (low ∷ high ∷ []))) ≡ true
     two low high = rw (length-append (drop 0 times) (low ∷ high ∷ []), length-drop 0 times) (lt-ltb 64 (length times - 0 + 2) (omega (arith, many)))
@@ -170,22 +180,24 @@ crowding-repetition rule marks times kind t many few = by-span _ _
     turned low high =
         rw (length-append (drop 2 times) (low ∷ high ∷ []), length-drop 2 times) (le-ltb 64 (length times - 2 + 2) (omega (arith, few, many)))
 
-    by-span : (low high : ℕ) → ltb (points times) (rule .span)
-        ≡ crowds-of (cond (ltb (points times) (rule .span)) (continuesWith (PushTwo 0 low high) marks noLimit true)
-        (cond (hasPlace rule low high) (continuesWith (PushTwo 2 low high) marks noLimit true) breaking)) times
+    by-span : (low high : ℕ) → ltb (points times) (parameters .span)
+        ≡ kind-overflows (cond (ltb (points times) (parameters .span)) (continuesWith (PushTwo 0 low high) registers noLimit true)
+        (cond (hasPlace parameters low high) (continuesWith (PushTwo 2 low high) registers noLimit true) breaking)) times
     by-span low high =
-        split (ltb (points times) (rule .span))
-        (λ b. b ≡ crowds-of (cond b (continuesWith (PushTwo 0 low high) marks noLimit true)
-        (cond (hasPlace rule low high) (continuesWith (PushTwo 2 low high) marks noLimit true) breaking)) times)
+        split (ltb (points times) (parameters .span))
+        (λ b. b ≡ kind-overflows (cond b (continuesWith (PushTwo 0 low high) registers noLimit true)
+        (cond (hasPlace parameters low high) (continuesWith (PushTwo 2 low high) registers noLimit true) breaking)) times)
         (λ _. sym (two low high))
-        (λ _. sym (calm-by times (hasPlace rule low high) (continuesWith (PushTwo 2 low high) marks noLimit true) breaking (turned low high) refl))
+        (λ _. sym (calm-by times (hasPlace parameters low high) (continuesWith (PushTwo 2 low high) registers noLimit true) breaking (turned low high)
+        refl))
 
-room-repetition : (rule : Rule) (marks : Marks) (n s t : ℕ) → 63 ≤ n → takenRepetition (rule .span) n < 64 → fillsRepetition rule marks n s t ≡ false
-unfolding fillsRepetition
-room-repetition rule marks n s t many =
-    split (ltb 31 (rule .span)) (λ b. cond b (cond (ltb n 63) n 64) 0 < 64 → ltb (n / 2) (rule .span) ≡ false)
+room-repetition : (parameters : Parameters) (registers : Registers) (n s t : ℕ) → 63 ≤ n → takenRepetition (parameters .span) n < 64
+    → overflowsRepetition parameters registers n s t ≡ false
+unfolding overflowsRepetition
+room-repetition parameters registers n s t many =
+    split (ltb 31 (parameters .span)) (λ b. cond b (cond (ltb n 63) n 64) 0 < 64 → ltb (n / 2) (parameters .span) ≡ false)
     (λ _ l. absurd (full (subst (λ (k : ℕ). k < 64) (ap (λ (b : Bool). cond b n 64) (le-ltb n 63 many)) l)))
-    (λ e _. le-ltb (n / 2) (rule .span) (omega (arith, many, ltb-false 31 (rule .span) e)))
+    (λ e _. le-ltb (n / 2) (parameters .span) (omega (arith, many, ltb-false 31 (parameters .span) e)))
   where
     full : 64 < 64 → ⊥
     full l = omega (arith, l)

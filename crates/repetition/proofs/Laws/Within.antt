@@ -110,7 +110,7 @@ module _ (span lower upper : ℕ) where
         earliers zero (suc j) e b = earlier-one j (omega arith) (omega arith)
         earliers (suc i) (suc j) e b = rest .earlier i j (omega arith) (omega arith)
 
-  -- intervals that fit together have points
+  -- §5.10: intervals that fit together have points
   pub points-within : 1 ≤ span → lower ≤ upper → (lows highs : List ℕ) → Intervals lows highs → (points : List ℕ) × Within lows highs points
   points-within positive possible [] [] all = (
     [],

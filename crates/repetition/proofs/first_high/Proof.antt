@@ -1,6 +1,6 @@
 -- The high of the oldest point is the second of the numbers, where there are two.
 use Rattle.constraint.proofs.Library.{_∙_, le-ltb, lt-ltb}
-use Rattle.queue.proofs.{Laws.ring-length, Laws.ring-read, Shared.free}
+use Rattle.ring.proofs.{Laws.ring-length, Laws.ring-read, Shared.free}
 use Rattle.repetition.proofs.first_high.Statement.{statement}
 use Rattle.repetition.proofs.first_high.Tie as tie
 

@@ -1,7 +1,7 @@
 -- The loop reads record after record and keeps what each is, as long as there is room.
 use Rattle.constraint.proofs.{Judged.failed, Judged.passed, Library._-_, Library.arith, Library.length, Library.now}
 use Rattle.constraint.specs.Recording.{version-refused}
-use Rattle.queue.proofs.Shared.{free}
+use Rattle.ring.proofs.Shared.{free}
 use Rattle.stretch.proofs.Gathering.{GatheredTo, gather-end, gather-more, gather-refused, gather-start}
 use Rattle.stretch.proofs.gather.Statement.{statement}
 use Rattle.stretch.proofs.gather.Tie as tie
@@ -50,7 +50,7 @@ loop-again c =
     gather-more (now (args .bytes)) (at-loop .loop .streams) (at-loop .loop .times) (at-loop .loop .clock) (at-loop .loop .count)
     (at-loop .loop .place) (at-loop .loop .inv) (at-read .before .loop-test .taken) (at-read .read .result) (at-read .read .ensures)
     (omega (arith, c .before .before .before .before .before .if2 .left))
-    _ _ _ (rw (← c .before .before .before .before .occurrence .ensures) (c .before .keep .ensures))
+    _ _ _ (rw (← c .before .before .before .before .step-input .ensures) (c .before .append-event .ensures))
 
 returns-3 : tie.Need-returns-3 Inv-loop μ-loop
 returns-3 c =

@@ -1,6 +1,6 @@
 -- A tick where the stream is none, else an event.
 use Rattle.constraint.proofs.Library.{eq-eqb, ne-eqb}
-use Rattle.queue.proofs.Shared.{free}
+use Rattle.ring.proofs.Shared.{free}
 use Rattle.stretch.proofs.seen.Statement.{statement}
 use Rattle.stretch.proofs.seen.Tie as tie
 

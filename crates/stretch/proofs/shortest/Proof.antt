@@ -1,7 +1,7 @@
 -- Each answer is that of the first "no": the table's, the recording's, 22, and then the row's.
 use Rattle.constraint.proofs.Library.{arith, needs, now, refl}
 use Rattle.constraint.specs.{Steps.at, Stretches.answers, Stretches.no-recording, Stretches.no-table, Table.ReadsTableUpTo, Table.table-refused}
-use Rattle.queue.proofs.Shared.{free}
+use Rattle.ring.proofs.Shared.{free}
 use Rattle.stretch.proofs.{Answers.run-of, Answers.too-many, shortest.Statement.statement}
 use Rattle.table.proofs.AcceptedRows.{read-accepted}
 use Rattle.table.specs.Scan.{Counted, RowIs}

@@ -6,7 +6,7 @@ use Rattle.table.proofs.write.Tie as tie
 
 taken : (c : tie.After-enum-told)
     → Judged (rowsQuestions (c .before .before .before .before .args .edition) 0 (rowsOf (c .before .before .before .before .args .table)) []) Taken
-taken c = rw (c .enum-told .given .1) at (c .before .before .judge .ensures)
+taken c = rw (c .enum-told .given .1) at (c .before .before .validate .ensures)
 
 few : (c : tie.After-enum-told) → c .before .before .before .before .args .table .count ≤ rowLimit
 few c =
@@ -16,7 +16,7 @@ few c =
 returns : tie.Need-returns
 returns c =
     let at-judge = c .before .before .before in let a = at-judge .before .before .args in
-    written-refused (a .edition) (rowsOf (a .table)) (now (a .buffer)) _ (rw (c .before .number .given .1) at (at-judge .judge .ensures))
+    written-refused (a .edition) (rowsOf (a .table)) (now (a .buffer)) _ (rw (c .before .number .given .1) at (at-judge .validate .ensures))
 
 returns-2 : tie.Need-returns-2
 unfolding tableBytesIn

@@ -73,6 +73,6 @@ impl RowType for StrongSynchronization {
 }
 
 /// For tests: kinds 0 to n − 1.
-pub fn synchronization(n: u8, tolerance: u64) -> Constraint {
+pub fn strong_synchronization(n: u8, tolerance: u64) -> Constraint {
     StrongSynchronization { kinds: (0..n).collect(), tolerance }.into()
 }

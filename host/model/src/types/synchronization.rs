@@ -79,17 +79,17 @@ impl RowType for Synchronization {
 }
 
 /// For tests: kinds 0 to n − 1.
-pub fn windows(n: u8, tolerance: u64) -> Constraint {
+pub fn synchronization(n: u8, tolerance: u64) -> Constraint {
     Synchronization { kinds: (0..n).collect(), tolerance }.into()
 }
 
 #[cfg(test)]
 mod tests {
-    use super::{Synchronization, windows};
+    use super::{Synchronization, synchronization};
     use crate::notation::steps;
     use crate::search::open_within;
     use crate::steps::Step;
-    use crate::types::{RowType, synchronization};
+    use crate::types::{RowType, strong_synchronization};
     use crate::{Constraint, Events, History, Monitor, Verdict, open};
 
     /// What the row reads after a list.
@@ -103,7 +103,7 @@ mod tests {
     #[test]
     fn examples() {
         use Verdict::{Broken, Kept, Open};
-        let two = windows(2, 2);
+        let two = synchronization(2, 2);
         let of_two = [
             ("0@5, 1@7, close", Kept),
             ("0@5, 0@6, 1@7, close", Kept),
@@ -116,18 +116,18 @@ mod tests {
             ("tick 9, close", Kept),
         ];
         of_two.iter().for_each(|(list, end)| assert_eq!(reads(&two, list), *end, "{list}"));
-        assert_eq!(reads(&synchronization(2, 2), "0@5, 0@6, 1@7, close"), Broken(4));
+        assert_eq!(reads(&strong_synchronization(2, 2), "0@5, 0@6, 1@7, close"), Broken(4));
         let of_none = [("1@5, 0@5, close", Kept), ("0@5, tick 6", Broken(2)), ("0@5, 1@5, 0@6, 1@6, close", Kept)];
-        of_none.iter().for_each(|(list, end)| assert_eq!(reads(&windows(2, 0), list), *end, "{list}"));
+        of_none.iter().for_each(|(list, end)| assert_eq!(reads(&synchronization(2, 0), list), *end, "{list}"));
         let of_three = [
             ("0@5, 1@6, 2@7, 0@8, close", Kept),
             ("0@5, 1@6, 2@7, 0@9, close", Broken(5)),
             ("0@5, 1@6, 2@7, 0@9, 1@9, close", Kept),
         ];
-        of_three.iter().for_each(|(list, end)| assert_eq!(reads(&windows(3, 2), list), *end, "{list}"));
+        of_three.iter().for_each(|(list, end)| assert_eq!(reads(&synchronization(3, 2), list), *end, "{list}"));
         let many: Vec<String> = (1..=200).map(|time| format!("0@{time}")).collect();
         for (end, verdict) in [("1@201, close", Kept), ("tick 1001", Open), ("tick 1002", Broken(201))] {
-            assert_eq!(reads(&windows(2, 1000), &format!("{}, {end}", many.join(", "))), verdict, "{end}");
+            assert_eq!(reads(&synchronization(2, 1000), &format!("{}, {end}", many.join(", "))), verdict, "{end}");
         }
     }
 
@@ -160,7 +160,7 @@ mod tests {
         let mut lists = 0;
         for (n, last) in [(2, 3), (3, 1)] {
             for tolerance in 0..=2 {
-                let Constraint::Synchronization(row) = windows(n, tolerance) else { unreachable!() };
+                let Constraint::Synchronization(row) = synchronization(n, tolerance) else { unreachable!() };
                 lists += every_list(&row, n, &History::default(), last);
             }
         }

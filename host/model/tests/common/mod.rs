@@ -3,7 +3,7 @@
 
 pub use model::notation::steps;
 pub use model::types::{
-    burst, delay, execution_time, order, reaction, repeat, repetition, sporadic, strong_delay, synchronization,
+    burst, delay, execution_time, order, reaction, repeat, repetition, sporadic, strong_delay, strong_synchronization,
 };
 use model::{Constraint, History, Monitor};
 

@@ -26,7 +26,7 @@ returns-2 c =
     let added = c .before in let freed = added .before in let seen = freed .before in let asked = seen .before .before in
     let args = asked .before .before .before .args in
     takes-taken (args .t1) (args .call) (asked .refusal .result) (number-is asked) (seen .before .if1 .left) _
-    (simp (c .closed .ensures, added .plus .ensures, freed .free .ensures, seen .occurrence .ensures, asked .before .before .place .ensures))
+    (simp (c .closed .ensures, added .plus .ensures, freed .free .ensures, seen .step-input .ensures, asked .before .before .place .ensures))
 
 pub take-spec : {M : Type 1} → statement M
 take-spec =

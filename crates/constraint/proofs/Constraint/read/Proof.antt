@@ -12,7 +12,7 @@ returns-11 c =
     let other = c .before .match .rest in
     let a = c .before .before .args in
     c .strong-synchronization-read .ensures
-    ∙ sym (read-group (a .form) (a .t2) (a .t3) (other .0 .0 .0 .0 .0 .0 .0 .0 .0 .1) (other .0 .0 .0 .0 .0 .0 .0 .0 .1)
+    ∙ sym (read-group (a .tag) (a .t2) (a .t3) (other .0 .0 .0 .0 .0 .0 .0 .0 .0 .1) (other .0 .0 .0 .0 .0 .0 .0 .0 .1)
     (other .0 .0 .0 .0 .0 .0 .0 .1) (other .0 .0 .0 .0 .0 .0 .1) (other .0 .0 .0 .0 .0 .1) (other .0 .0 .0 .0 .1) (other .0 .0 .0 .1) (other .0 .0 .1)
     (other .0 .1) (other .1))
 

@@ -1,6 +1,6 @@
 -- What is written is the page of the monitor's summary.
 use Rattle.delkuthi.proofs.Names.{needs, now}
-use Rattle.delkuthi.proofs.{Lying.rows-there, Printing.page-kept, printed.delkuthi_page.Statement.statement}
+use Rattle.delkuthi.proofs.{WordsRead.rows-there, Printing.page-kept, printed.delkuthi_page.Statement.statement}
 use Rattle.delkuthi.proofs.printed.delkuthi_page.Tie as tie
 
 returns : tie.Need-returns

@@ -1,5 +1,6 @@
 -- What holds of the monitor before a record holds of the monitor after it one record further, and behind the last comes the close.
-use Rattle.delkuthi.proofs.Names.{Accepted, CallRead, Constraint, Holds, List, [], _-_, after, ap, arith, failed, length, needs, now, passed}
+use Rattle.delkuthi.proofs.Names.{Accepted, CallRead, Constraint, HoldsMonitor, List, [], _-_, after, ap, arith, failed, length, needs, now}
+use Rattle.delkuthi.proofs.Names.{passed}
 use Rattle.delkuthi.proofs.Names.{takes-of}
 use Rattle.delkuthi.proofs.Progress.{TakenUpTo, up-to-end, up-to-more, up-to-none, up-to-refused, up-to-start, version-unknown}
 use Rattle.delkuthi.proofs.records.take_recording.Statement.{statement}
@@ -7,7 +8,7 @@ use Rattle.delkuthi.proofs.records.take_recording.Tie as tie
 
 abbrev Inv-loop : tie.InvT-loop
 Inv-loop m₀ bytes place₀ m place =
-    (rows : List Constraint) → Accepted rows → Holds m₀ (after rows []) → TakenUpTo rows bytes m₀ place m
+    (rows : List Constraint) → Accepted rows → HoldsMonitor m₀ (after rows []) → TakenUpTo rows bytes m₀ place m
 
 abbrev μ-loop : tie.MeasureT-loop
 μ-loop m₀ bytes place₀ m place = length bytes - place

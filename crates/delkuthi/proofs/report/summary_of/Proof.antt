@@ -1,13 +1,13 @@
 -- Row after row: before the turn of number i the types and steps are those of the first i rows of the monitor that lies there.
-use Rattle.delkuthi.proofs.Names.{Holds, Monitor, _-_, _<_, _≡_, _≤_, arith, map, needs, now, refl}
-use Rattle.delkuthi.proofs.Lying.{broken-read, closed-read, count-read, form-read, len-read, rows-there}
+use Rattle.delkuthi.proofs.Names.{HoldsMonitor, Monitor, _-_, _<_, _≡_, _≤_, arith, map, needs, now, refl}
+use Rattle.delkuthi.proofs.WordsRead.{broken-read, closed-read, count-read, tag-read, len-read, rows-there}
 use Rattle.delkuthi.proofs.{Summaries.front, Summaries.front-all, Summaries.front-next, report.summary_of.Statement.statement}
 use Rattle.delkuthi.proofs.report.summary_of.Tie as tie
 
 abbrev Inv-loop : tie.InvT-loop
 Inv-loop m types₀ steps₀ i₀ types steps i =
-    (i ≤ 32) × ((n : Monitor) → Holds m n
-    → (types ≡ front i (map (λ r. r .rule .form) (n .rows))) × (steps ≡ front i (map (λ r. r .now .broken) (n .rows))))
+    (i ≤ 32) × ((n : Monitor) → HoldsMonitor m n
+    → (types ≡ front i (map (λ r. r .parameters .tag) (n .rows))) × (steps ≡ front i (map (λ r. r .now .broken) (n .rows))))
 
 abbrev μ-loop : tie.MeasureT-loop
 μ-loop m types₀ steps₀ i₀ types steps i = 32 - i
@@ -22,7 +22,7 @@ loop-again c =
       λ n holds.
           let so-far = at-loop .loop .inv .1 n holds in
           let whole = rows-there m n holds in (
-            rw (so-far .0, form-read m n holds i small) (front-next (λ r. r .rule .form) (n .rows) whole i small),
+            rw (so-far .0, tag-read m n holds i small) (front-next (λ r. r .parameters .tag) (n .rows) whole i small),
             rw (so-far .1, broken-read m n holds i small) (front-next (λ r. r .now .broken) (n .rows) whole i small),
           ),
     )
@@ -37,7 +37,7 @@ returns c n holds =
     rw (
       last .0,
       last .1,
-      front-all (λ r. r .rule .form) (n .rows) whole,
+      front-all (λ r. r .parameters .tag) (n .rows) whole,
       front-all (λ r. r .now .broken) (n .rows) whole,
       len-read m n holds _ (at-held .held .ensures .1),
       count-read m n holds,

@@ -5,7 +5,7 @@ use Rattle.monitor.proofs.Monitor.fresh_in.Tie as tie
 
 -- the answer is "taken"
 taken : (c : tie.After-enum-told) → AcceptedIn (c .before .before .before .args .edition) (rowsOf (c .before .before .before .args .table))
-taken c = rw (c .enum-told .given .1) at (c .before .before .judge .ensures)
+taken c = rw (c .enum-told .given .1) at (c .before .before .validate .ensures)
 
 over-requires-2 : tie.Need-over-requires-2
 over-requires-2 c κs =
@@ -17,7 +17,7 @@ unfolding after play
 returns c =
     let at-number = c .before .before in
     record {
-      judged = rw (at-number .number .given .1) at (at-number .before .before .judge .ensures);
+      judged = rw (at-number .number .given .1) at (at-number .before .before .validate .ensures);
       made = λ e. never (cc);
       refused = λ n e. c .over .ensures;
     }

@@ -19,7 +19,7 @@ module _ (c : tie.After-step) where
   asked = c .before .before .before .before
 
   crowds-is : crowds (start asked .args .t1) (start asked .args .call) ≡ c .step .result .crowded
-  crowds-is = rw (c .before .plus .ensures, c .before .before .occurrence .ensures) at (sym (c .step .ensures .crowded-is))
+  crowds-is = rw (c .before .plus .ensures, c .before .before .step-input .ensures) at (sym (c .step .ensures .crowded-is))
 
 returns : tie.Need-returns
 returns c =
@@ -64,7 +64,7 @@ returns-3 c =
       c .before .before .before .free .ensures,
       stepped .step .ensures .stepped calm,
       stepped .before .plus .ensures,
-      stepped .before .before .occurrence .ensures,
+      stepped .before .before .step-input .ensures,
       asked stepped .before .before .place .ensures,
     ))
 

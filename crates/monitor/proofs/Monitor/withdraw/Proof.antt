@@ -26,7 +26,7 @@ unfolding withdrawOf withdrawn
 returns-2 c =
     let backed = c .before .before in let placed = backed .before in let m = placed .before .before .before .before .args .self in
     step-kept m withdraws
-    (simp (c .taken .ensures, c .before .no-undo .ensures, backed .back .ensures, placed .place-in .ensures)
+    (simp (c .taken .ensures, c .before .no-undo .ensures, backed .undo-rows .ensures, placed .place-in .ensures)
     (sym (cond-true (ltb 0 (m .undo .may)) (takes (withdrawn m)) (refuses 21 m)
     (lt-ltb 0 (m .undo .may) (omega (arith, placed .before .if1 .left))))))
 

@@ -6,7 +6,7 @@ use Rattle.row.proofs.stored.begin.Tie as tie
 returns : tie.Need-returns
 returns c =
     let n = c .before in
-    rw (c .laid .ensures, n .none .ensures, n .before .begin .ensures)
+    rw (c .encode-row .ensures, n .none .ensures, n .before .begin .ensures)
 
 pub begin-spec : {M : Type 1} → statement M
 begin-spec = tie.close (tie.spec (λ c κs. search needs) (λ c κs. search needs) (λ c κs. search needs) returns)

@@ -1,20 +1,21 @@
 -- A row that is not broken takes what its type makes of the event; a broken one stays.
-use Rattle.row.proofs.Names.{[], _∙_, ap, appliedKeeps, changeBy, eq-eqb, eventAt, getD, ne-eqb, needs, numberWords, pastOf, rowWords, sym}
-use Rattle.row.proofs.Names.{wordsOf}
-use Rattle.row.proofs.{Laid.changed-words, stored.event.Statement.statement}
+use Rattle.row.proofs.Names.{[], _∙_, ap, appliedKeeps, changeBy, eq-eqb, eventAt, getD, ne-eqb, needs, numberWords, undoRecordOf, rowWords}
+use Rattle.row.proofs.Names.{sym}
+use Rattle.row.proofs.Names.{wordsOfRow}
+use Rattle.row.proofs.{EncodedRow.changed-words, stored.event.Statement.statement}
 use Rattle.row.proofs.stored.event.Tie as tie
 
 returns : tie.Need-returns
-unfolding wordsOf rowWords numberWords appliedKeeps
+unfolding wordsOfRow rowWords numberWords appliedKeeps
 returns c r b e =
     let i = c .before .before in let a = i .before .before .args in
     let is-open = sym (ap (λ m. getD (getD m 1 []) 19 0) e) ∙ i .if1 .taken in
     rw (eq-eqb _ _ is-open)
-    (c .change .ensures (r .rule) (r .times) (r .now) (pastOf b) e
+    (c .apply-by-type .ensures (r .parameters) (r .times) (r .now) (undoRecordOf b) e
     ∙ changed-words r b (changeBy r (eventAt (a .stream) (a .t))) (a .number) is-open)
 
 returns-2 : tie.Need-returns-2
-unfolding wordsOf rowWords numberWords
+unfolding wordsOfRow rowWords numberWords
 returns-2 c r b e = rw (ne-eqb _ _ (λ z. c .if1 .left (ap (λ m. getD (getD m 1 []) 19 0) e ∙ z))) e
 
 pub event-spec : {M : Type 1} → statement M

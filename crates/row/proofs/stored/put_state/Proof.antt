@@ -5,7 +5,7 @@ use Rattle.row.proofs.stored.put_state.Tie as tie
 
 returns : tie.Need-returns
 unfolding numberWords
-returns c rule old past e = rw e refl
+returns c parameters old past e = rw e refl
 
 pub put-state-spec : {M : Type 1} → statement M
 put-state-spec =

@@ -5,10 +5,10 @@ use Rattle.row.proofs.stored.restore.Tie as tie
 
 returns : tie.Need-returns
 unfolding numberWords
-returns c rule state past e =
+returns c parameters state past e =
     let n = c .before in let s = n .before .before in let p = s .before .before in
-    let stored = s .put-state .ensures rule state past e in
-    rw (c .put-before .ensures rule (p .past-state .result) past stored, n .none .ensures, p .past-state .ensures rule state past e)
+    let stored = s .put-state .ensures parameters state past e in
+    rw (c .put-undo .ensures parameters (p .undo-state .result) past stored, n .none .ensures, p .undo-state .ensures parameters state past e)
 
 pub restore-spec : {M : Type 1} → statement M
 restore-spec = tie.close (tie.spec (λ c κs. search needs) (λ c κs. search needs) (λ c κs. search needs) (λ c κs. search needs) returns)

@@ -6,4 +6,4 @@ use Rattle.row.proofs.stored.state_at.Tie as tie
 pub state-at-spec : {M : Type 1} → statement M
 state-at-spec =
     tie.close (tie.spec (λ c κs. search needs) (λ c. search needs) (λ c. search needs) (λ c. search needs) (λ c. search needs) (λ c. search needs)
-    (λ c. rw (c .before .before .before .before .before .marks-at .ensures) refl))
+    (λ c. rw (c .before .before .before .before .before .registers-at .ensures) refl))

@@ -4,12 +4,12 @@ use Rattle.table.proofs.body.type_known.Statement.{statement}
 use Rattle.table.proofs.body.type_known.Tie as tie
 
 -- a type from 1 to the edition's last one
-known : (c : tie.Else2) → (1 ≤ c .before .before .before .args .form)
-    × (c .before .before .before .args .form ≤ lastType (c .before .before .before .args .edition))
+known : (c : tie.Else2) → (1 ≤ c .before .before .before .args .tag)
+    × (c .before .before .before .args .tag ≤ lastType (c .before .before .before .args .edition))
 known c = (omega (arith, c .before .before .if1 .left), omega (arith, c .before .last-type .ensures, c .if2 .left))
 
 -- the type has an n
-has : (c : tie.Then3) → takesCount (c .before .before .before .before .before .args .form) ≡ true
+has : (c : tie.Then3) → takesCount (c .before .before .before .before .before .args .tag) ≡ true
 has c = sym (c .before .takes-count .ensures) ∙ c .if3 .taken
 
 returns-5 : tie.Need-returns-5

@@ -23,12 +23,12 @@ returns-2 : tie.Need-returns-2
 returns-2 c =
     let at-judge = c .before .before in
     λ taken. never-taken _ (judged-once _ _ Taken
-    (rw (at-judge .before .row-at .ensures, c .enum-told .given .1) at (at-judge .judge .ensures)) (taken .1))
+    (rw (at-judge .before .row-at .ensures, c .enum-told .given .1) at (at-judge .validate .ensures)) (taken .1))
 
 returns-3 : tie.Need-returns-3
 returns-3 c =
     let at-judge = c .before .before in let at-row = at-judge .before in
-    (known (at-row .before), rw (at-row .row-at .ensures, c .enum-told2 .given .1) at (at-judge .judge .ensures))
+    (known (at-row .before), rw (at-row .row-at .ensures, c .enum-told2 .given .1) at (at-judge .validate .ensures))
 
 pub row-taken-spec : {M : Type 1} → statement M
 row-taken-spec =

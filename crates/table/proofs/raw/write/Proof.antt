@@ -13,7 +13,7 @@ each c i h = omega (arith, c .shared-slice-known .given i)
 -- the rows are taken
 taken : (c : tie.After-enum-told) → let a = c .before .before .before .before .before .before .args in
     Judged (rowsQuestions (a .edition) 0 (rawRows (now (a .rows)) 0 (c .before .before .before .known-rows .result)) []) Taken
-taken c = rw (c .enum-told .given .1) at (c .before .before .judge-rows .ensures)
+taken c = rw (c .enum-told .given .1) at (c .before .before .validate-rows .ensures)
 
 returns : tie.Need-returns
 returns c =
@@ -21,7 +21,7 @@ returns c =
     let a = at-number .before .before .before .before .before .before .args in
     known-refused (a .edition) (now (a .rows)) (now (a .buffer)) (known .result) _ (each (at-number .before .before .before .before .before))
     (known .ensures)
-    (rw (at-number .number .given .1) at (at-number .before .before .judge-rows .ensures))
+    (rw (at-number .number .given .1) at (at-number .before .before .validate-rows .ensures))
 
 returns-2 : tie.Need-returns-2
 returns-2 c =

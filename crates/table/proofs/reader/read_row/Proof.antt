@@ -40,7 +40,7 @@ judged c =
     subst⁻¹ (RowAt (a .edition) (now (a .bytes)) (a .place)) (same c) (row (c .before .before .before .before .before .before .before .before))
 
 -- what the row's own questions answer is the answer
-answer : (c : tie.After-judge) (a : Answer) → c .judge .result ≡ a
+answer : (c : tie.After-validate) (a : Answer) → c .validate .result ≡ a
     → Judged (placeQuestions (c .before .before .before .before .before .before .before .before .before .before .args .edition)
     (now (c .before .before .before .before .before .before .before .before .before .before .args .bytes))
     (c .before .before .before .before .before .before .before .before .before .before .args .before)
@@ -48,7 +48,7 @@ answer : (c : tie.After-judge) (a : Answer) → c .judge .result ≡ a
 answer c a e =
     let at-shape = c .before .before .before in let start = at-shape .before .before .before .before .before .before .before .args in
     place-row (start .edition) (now (start .bytes)) (start .before) (start .place) _ a (whole (at-shape .before .before .before .before))
-    (omega arith) (passed (at-shape .shape-fits .result) (shape at-shape) (c .before .before .if3 .left)) (rw e at (c .judge .ensures))
+    (omega arith) (passed (at-shape .shape-fits .result) (shape at-shape) (c .before .before .if3 .left)) (rw e at (c .validate .ensures))
 
 returns : tie.Need-returns
 returns c =

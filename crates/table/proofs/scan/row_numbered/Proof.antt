@@ -5,7 +5,7 @@ use Rattle.table.proofs.scan.row_numbered.Tie as tie
 
 returns : tie.Need-returns
 returns c =
-    let scan = c .before .judge in let a = c .before .before .before .args in
+    let scan = c .before .validate in let a = c .before .before .before .args in
     record {
       scans = scan .ensures;
       found = λ rows reads.
@@ -15,7 +15,7 @@ returns c =
 
 returns-2 : tie.Need-returns-2
 returns-2 c =
-    let scan = c .before .before .judge in let a = c .before .before .before .before .args in
+    let scan = c .before .before .validate in let a = c .before .before .before .before .args in
     record {
       scans = scan .ensures;
       found = λ rows reads.

@@ -1,7 +1,7 @@
 -- The type byte, the other bytes and the times are stored one behind the other, as many as the length says.
 use Rattle.table.proofs.Names.{_+_, _-_, _∙_, _≡_, _≤_, ap, arith, bytesIn, fieldsOf, free, length, length-take-le, needs, now, regular, sym}
 use Rattle.table.proofs.Names.{take, timesIn, ℕ}
-use Rattle.table.proofs.Standing.{body-length, body-start, body-times}
+use Rattle.table.proofs.BodyUnique.{body-length, body-start, body-times}
 use Rattle.table.proofs.{Stores.body-stores, Stores.numbers-there, writer.put_body.Statement.statement}
 use Rattle.table.proofs.writer.put_body.Tie as tie
 

@@ -1,7 +1,7 @@
 -- The loop adds row after row: the size so far and the bytes of the rows left are the whole.
 use Rattle.table.proofs.Names.{[], _*_, _+_, _-_, _∙_, _≡_, _≤_, arith, drop, drop-of-length-le, length, length-map, rows-length, rowsBytes}
 use Rattle.table.proofs.Names.{rowsOf, sym}
-use Rattle.table.proofs.{Standing.body-short, Stores.rows-size, writer.size_of.Statement.statement}
+use Rattle.table.proofs.{BodyUnique.body-short, Stores.rows-size, writer.size_of.Statement.statement}
 use Rattle.table.proofs.writer.size_of.Tie as tie
 
 abbrev Inv-loop : tie.InvT-loop

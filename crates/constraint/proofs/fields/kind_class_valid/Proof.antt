@@ -1,0 +1,23 @@
+-- A plain kind is compared with the first coloured one, and so is a coloured kind; a byte of another role is of no sort.
+use Rattle.constraint.proofs.Names.{firstColoured, leb, ltb}
+use Rattle.constraint.proofs.{FieldByField.other-sorts, Judged.same-test, Judged.test-le, Judged.test-lt}
+use Rattle.constraint.proofs.{fields.kind_class_valid.Statement.statement}
+use Rattle.constraint.proofs.fields.kind_class_valid.Tie as tie
+
+returns : tie.Need-returns
+returns c =
+    let x = c .before .args .value in
+    rw (c .if1 .taken) (same-test (λ h. (h, tt)) (λ h. h .0) (ltb x firstColoured) (test-lt x firstColoured))
+
+returns-2 : tie.Need-returns-2
+returns-2 c =
+    let x = c .before .before .args .value in
+    rw (c .if2 .taken) (same-test (λ h. (h, tt)) (λ h. h .0) (leb firstColoured x) (test-le firstColoured x))
+
+returns-3 : tie.Need-returns-3
+returns-3 c =
+    let a = c .before .before .args in
+    other-sorts (a .role) (a .value) (c .before .if1 .left) (c .if2 .left)
+
+pub kind-class-valid-spec : {M : Type 1} → statement M
+kind-class-valid-spec = tie.close (tie.spec returns returns-2 returns-3)

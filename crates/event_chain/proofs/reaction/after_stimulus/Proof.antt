@@ -1,0 +1,53 @@
+-- The tests are those of `afterStimulus`, in its order.
+use Rattle.event_chain.proofs.reaction.after_stimulus.Statement.{statement}
+use Rattle.constraint.proofs.Library.{eq-eqb, le-ltb, lt-ltb, ne-eqb, needs}
+use Rattle.event_chain.proofs.reaction.after_stimulus.Tie as tie
+
+returns : tie.Need-returns
+returns c =
+    let b = c .before .before .before in
+    rw (
+      c .goes-on .ensures,
+      c .before .plus3 .ensures,
+      c .before .before .plus2 .ensures,
+      b .before .before .plus .ensures,
+      eq-eqb _ _ (b .before .if1 .taken),
+      eq-eqb _ _ (b .if2 .taken),
+    )
+
+returns-2 : tie.Need-returns-2
+returns-2 c =
+    let b = c .before .before in
+    rw (
+      c .goes-on2 .ensures,
+      ← b .before .before .plus .ensures,
+      eq-eqb _ _ (b .before .if1 .taken),
+      ne-eqb _ _ (b .if2 .left),
+      lt-ltb _ _ (c .before .if3 .taken),
+    )
+
+returns-3 : tie.Need-returns-3
+returns-3 c =
+    let b = c .before .before in
+    rw (
+      c .breaks .ensures,
+      ← b .before .before .plus .ensures,
+      eq-eqb _ _ (b .before .if1 .taken),
+      ne-eqb _ _ (b .if2 .left),
+      le-ltb _ _ (c .before .if3 .left),
+    )
+
+returns-4 : tie.Need-returns-4
+returns-4 c =
+    let b = c .before .before in
+    rw (c .goes-on3 .ensures, ← b .before .plus .ensures, ne-eqb _ _ (b .if1 .left), lt-ltb _ _ (c .before .if4 .taken))
+
+returns-5 : tie.Need-returns-5
+returns-5 c =
+    let b = c .before .before in
+    rw (c .breaks2 .ensures, ← b .before .plus .ensures, ne-eqb _ _ (b .if1 .left), le-ltb _ _ (c .before .if4 .left))
+
+pub after-stimulus-spec : {M : Type 1} → statement M
+after-stimulus-spec =
+    tie.close (tie.spec (λ c κs. search needs) (λ c κs. search needs) (λ c κs. search needs) (λ c κs. search needs) returns (λ c κs. search needs)
+    returns-2 (λ c κs. search needs) returns-3 (λ c κs. search needs) returns-4 (λ c κs. search needs) returns-5)

@@ -1,0 +1,164 @@
+// Reaction: two words for each colour. Both 0: nothing yet; a second word above 0: the first response has to come from the first word on and
+// before the second; else it came at one less than the first word.
+use constraint::NO_LIMIT;
+use ring::SIZE;
+use ring::time_at;
+use row_type::parts;
+use row_type::row_words;
+ghost use mathlib.Core.Path.{_≡_};
+ghost use mathlib.Core.Bool.{true, false};
+ghost use Prim.Native.Nat.{_<_};
+ghost use lib.ListN.{getD};
+ghost use Rattle.ring.specs.Ring.{ring};
+ghost use Rattle.row_type.specs.Words.{noneSaved, Makes, Applies};
+ghost use Rattle.event_chain.specs.Reaction.{latest, highBut, dueBut, afterStimulus, afterResponse, paired, decideReaction};
+
+// How many colours there are.
+const COLOURS: usize = 8;
+
+// What an event makes of the words of its colour: it breaks the row, or the words are new.
+pub struct Pair {
+    pub breaks: bool,
+    pub low: u64,
+    pub high: u64,
+}
+
+// The pair of words of a colour that goes on.
+fn goes_on(low: u64, high: u64) -> Pair
+    ensures { λ r. ⌜ r ≡ record { breaks = false; low = low; high = high } ⌝ }
+{
+    Pair {
+        breaks: false,
+        low,
+        high,
+    }
+}
+
+// The pair of words of a colour that breaks the row.
+fn breaks() -> Pair
+    ensures { λ r. ⌜ r ≡ record { breaks = true; low = 0; high = 0 } ⌝ }
+{
+    Pair {
+        breaks: true,
+        low: 0,
+        high: 0,
+    }
+}
+
+// What a stimulus at t makes of the words of its colour.
+fn after_stimulus(minimum: u64, maximum: u64, low: u64, high: u64, t: u64) -> Pair
+    ensures { λ r. ⌜ r ≡ afterStimulus minimum maximum low high t ⌝ }
+{
+    let from = parts::plus(t, minimum);
+    if high == 0 {
+        if low == 0 {
+            return goes_on(from, parts::plus(parts::plus(t, maximum), 1));
+        }
+        if from < low {
+            return goes_on(low, 0);
+        }
+        return breaks();
+    }
+    if from < high {
+        return goes_on(from, high);
+    }
+    breaks()
+}
+
+// What a response at t makes of the words of its colour.
+fn after_response(low: u64, high: u64, t: u64) -> Pair
+    ensures { λ r. ⌜ r ≡ afterResponse low high t ⌝ }
+{
+    if high == 0 {
+        if low == 0 {
+            return goes_on(parts::plus(t, 1), 0);
+        }
+        return goes_on(low, 0);
+    }
+    if t < low {
+        return breaks();
+    }
+    goes_on(parts::plus(t, 1), 0)
+}
+
+// A word of the row; 0 where it has none there.
+fn word(times: &[u64; SIZE], head: usize, len: usize, i: usize) -> u64
+    ensures { λ r. ⌜ r ≡ getD (ring (now (times .entry)) head len) i 0 ⌝ }
+{
+    if i < len {
+        return time_at(times, head, i);
+    }
+    0
+}
+
+// The last moment for a colour's first response, by its second word.
+fn latest(high: u64) -> u64
+    ensures { λ r. ⌜ r ≡ latest high ⌝ }
+{
+    if high == 0 { NO_LIMIT } else { high - 1 }
+}
+
+// The second word of the n-th colour, that of one colour being new.
+fn high_of(times: &[u64; SIZE], head: usize, len: usize, n: usize, colour: usize, high: u64) -> u64
+    requires { ⌜ n < 8 ⌝ }
+    ensures { λ r. ⌜ r ≡ highBut colour high (ring (now (times .entry)) head len) n ⌝ }
+{
+    if n == colour {
+        return high;
+    }
+    word(times, head, len, 2 * n + 1)
+}
+
+// The due time: the first last moment of all colours, the second word of one colour being new.
+fn due_but(times: &[u64; SIZE], head: usize, len: usize, colour: usize, high: u64) -> u64
+    ensures { λ r. ⌜ r ≡ dueBut 8 colour high (ring (now (times .entry)) head len) ⌝ }
+{
+    let mut due = NO_LIMIT;
+    let mut n = 0;
+    while n < COLOURS {
+        due = parts::smaller(due, latest(high_of(times, head, len, n, colour, high)));
+        n += 1;
+    }
+    due
+}
+
+// §5.9, §5.9.1 to §5.9.5
+// What an event of one of the row's streams makes of it, where it lies.
+pub fn apply(row: &mut [[u64; SIZE]; 2], stream: u64, t: u64, number: u64)
+    ensures { λ _. ⌜ Applies noneSaved decideReaction (now (row .entry)) stream t number (now (row .exit)) ⌝ }
+{
+    let colour = (stream % 8) as usize;
+    let head = row[1][row_words::HEAD] as usize;
+    let len = row[1][row_words::LEN] as usize;
+    let low = word(&row[0], head, len, 2 * colour);
+    let high = word(&row[0], head, len, 2 * colour + 1);
+    if parts::kind_of(stream) == row[1][row_words::FIRST] {
+        let pair = after_stimulus(
+            row[1][row_words::LOWER],
+            row[1][row_words::UPPER],
+            low,
+            high,
+            t,
+        );
+        store(row, colour, pair, number);
+        return;
+    }
+    store(row, colour, after_response(low, high, t), number);
+}
+
+// The words of a colour are new.
+fn store(row: &mut [[u64; SIZE]; 2], colour: usize, pair: Pair, number: u64)
+    requires { ⌜ colour < 8 ⌝ }
+    ensures { λ _. ⌜ Makes noneSaved (now (row .entry)) (λ parameters registers words. paired registers words colour pair) number
+        (now (row .exit)) ⌝ }
+{
+    if pair.breaks {
+        row_words::break_at(row, number);
+        return;
+    }
+    let head = row[1][row_words::HEAD] as usize;
+    let len = row[1][row_words::LEN] as usize;
+    let due = due_but(&row[0], head, len, colour, pair.high);
+    row_words::put_two(row, 2 * colour, pair.low, pair.high, number);
+    row_words::settle(&mut row[1], due, row_words::one_if(due == NO_LIMIT));
+}

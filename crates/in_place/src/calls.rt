@@ -1,0 +1,251 @@
+// The calls on a lent monitor: 0 where one is taken, else the number of its refusal.
+use crate::CLOCK;
+use crate::COUNT;
+use crate::FREE_SLOT_HINT;
+use crate::NUMBERS;
+use crate::SOONEST;
+use crate::UNDO_ALLOWED;
+use crate::UNDO_NEXT;
+use crate::UNDO_STREAM;
+use crate::Words;
+use crate::held;
+use crate::numbers::first_refusal;
+use crate::numbers::free_at;
+use crate::numbers::mark_closed;
+use crate::numbers::put_free;
+use crate::numbers::put_free_slot_hint;
+use crate::numbers::put_soonest;
+use crate::numbers::record_event;
+use crate::numbers::record_tick;
+use crate::numbers::restore_counters;
+use crate::rows;
+use constraint::FIRST_COLOURED;
+use constraint::LAST_COLOUR;
+use constraint::LAST_KIND;
+use monitor::Monitor;
+use questions::NO_EVENT;
+use questions::NO_STREAM;
+use questions::place_in;
+use questions::time_refusal;
+use ring::minus;
+use row::StepInput;
+use row_type::parts::smaller;
+ghost use Prim.Native.Nat.{_<_};
+ghost use mathlib.Core.Path.{_≡_};
+ghost use Rattle.constraint.specs.declared.Call.{Call};
+ghost use Rattle.constraint.specs.Run.{asks, withdraws};
+ghost use Rattle.row.specs.Machine.{tickAt};
+ghost use Rattle.in_place.specs.Layout.{Lent, wordsOfLent, Shaped};
+ghost use Rattle.constraint.specs.Streams.{stream};
+ghost use Rattle.in_place.specs.Steps.{Updates, Computes, ColourKnown, freeSlotFound, rowsExpired, deadlinesChecked, AsksOverflow, OnStream};
+ghost use Rattle.in_place.specs.Steps.{refusalIn, Stores};
+
+// How many wait in a row at most, as a word.
+const WAITING_LIMIT: u64 = Monitor::WAITING_LIMIT as u64;
+
+// The rows to which the clock goes, where one may be overdue: they see nothing else of the step yet.
+fn expire_rows(m: &mut Words, time: u64)
+    ensures { λ _. ⌜ Updates (now (m .entry)) (λ h. rowsExpired h (tickAt time)) (now (m .exit)) ⌝ }
+{
+    let rows = held(m);
+    let soonest = rows::soonest(m, rows);
+    if soonest < time {
+        let o = StepInput {
+            kind: NO_EVENT,
+            stream: NO_STREAM,
+            time,
+            closes: false,
+        };
+        let number = m[NUMBERS][0][COUNT];
+        rows::apply_clock_all(m, rows, o, number);
+        put_soonest(m, 0);
+        return;
+    }
+    put_soonest(m, soonest);
+}
+
+// The same, if the soonest due time says so.
+fn check_deadlines(m: &mut Words, time: u64)
+    ensures { λ _. ⌜ Updates (now (m .entry)) (λ h. deadlinesChecked h (tickAt time)) (now (m .exit)) ⌝ }
+{
+    if m[NUMBERS][0][SOONEST] < time {
+        expire_rows(m, time);
+    }
+}
+
+// 1 where a place is found free in every row: looked for at every 32nd step.
+fn free_slot_found(m: &Words) -> u64
+    ensures { λ r. ⌜ ((h : Lent) → now (m .entry) ≡ wordsOfLent h → Shaped h → r ≡ freeSlotFound h) ⌝ }
+{
+    if m[NUMBERS][0][COUNT] % 32 == 0 {
+        return smaller(1, minus(WAITING_LIMIT, rows::max_slots_used(m, held(m))));
+    }
+    0
+}
+
+// Whether an event crowds a row of its kind: the rows are asked only where no room is marked, and where none is crowded the mark is set anew.
+fn event_would_overflow(m: &mut Words, kind: usize, stream: usize, time: u64) -> bool
+    requires { ⌜ kind < 64 ⌝ }
+    ensures { λ r. ⌜ AsksOverflow (now (m .entry)) kind stream time r (now (m .exit)) ⌝ }
+{
+    if 0 < m[NUMBERS][0][FREE_SLOT_HINT] {
+        return false;
+    }
+    if rows::kind_overflows(m, kind, stream as u64, time) {
+        return true;
+    }
+    put_free_slot_hint(m, free_slot_found(m));
+    false
+}
+
+// An event of a stream that is answered with no number but 12.
+fn event_on(m: &mut Words, kind: usize, stream: usize, time: u64) -> u8
+    requires { ⌜ (kind < 64) × (stream < 176) ⌝ }
+    ensures { λ r. ⌜ OnStream (now (m .entry)) kind stream time r (now (m .exit)) ⌝ }
+{
+    if event_would_overflow(m, kind, stream, time) {
+        return 12;
+    }
+    record_event(m, stream, time);
+    check_deadlines(m, time);
+    rows::dispatch_event(m, kind, stream as u64, time);
+    0
+}
+
+// All questions but 12 of an event of a plain kind: the number of the first "no", or 0.
+pub fn event_refusal(m: &Words, kind: u8, time: u64) -> u8
+    ensures { λ r. ⌜ ((r ≡ 0 → kind < 48) × ((h : Lent) → now (m .entry) ≡ wordsOfLent h → Shaped h → r ≡ refusalIn h (Call.Event kind time))) ⌝ }
+{
+    let first = first_refusal(m);
+    if 0 < first {
+        return first;
+    }
+    if LAST_KIND < kind {
+        return 9;
+    }
+    if FIRST_COLOURED <= kind {
+        return 19;
+    }
+    time_refusal(time, m[NUMBERS][0][CLOCK], free_at(m, kind as usize))
+}
+
+// An event of a plain kind.
+pub fn event(m: &mut Words, kind: u8, time: u64) -> u8
+    ensures { λ r. ⌜ Stores (now (m .entry)) (asks (Call.Event kind time)) r (now (m .exit)) ⌝ }
+{
+    let refusal = event_refusal(m, kind, time);
+    if 0 < refusal {
+        return refusal;
+    }
+    event_on(m, kind as usize, kind as usize, time)
+}
+
+// The stream of a coloured kind's events of a colour.
+fn stream_of(kind: u8, colour: u8) -> usize
+    requires { ⌜ ColourKnown kind colour ⌝ }
+    ensures { λ r. ⌜ ((r ≡ stream kind colour) × (r < 176)) ⌝ }
+{
+    48 + 8 * (kind as usize - 48) + colour as usize
+}
+
+// All questions but 12 of an event of a coloured kind.
+fn coloured_refusal(m: &Words, kind: u8, colour: u8, time: u64) -> u8
+    ensures { λ r. ⌜ ((r ≡ 0 → ColourKnown kind colour) × Computes (now (m .entry)) (λ h. refusalIn h (Call.ColouredEvent kind colour time)) r) ⌝ }
+{
+    let first = first_refusal(m);
+    if 0 < first {
+        return first;
+    }
+    if LAST_KIND < kind {
+        return 9;
+    }
+    if kind < FIRST_COLOURED {
+        return 19;
+    }
+    if LAST_COLOUR < colour {
+        return 19;
+    }
+    let stream = stream_of(kind, colour);
+    time_refusal(time, m[NUMBERS][0][CLOCK], free_at(m, stream))
+}
+
+// An event of a coloured kind.
+pub fn coloured_event(m: &mut Words, kind: u8, colour: u8, time: u64) -> u8
+    ensures { λ r. ⌜ Stores (now (m .entry)) (asks (Call.ColouredEvent kind colour time)) r (now (m .exit)) ⌝ }
+{
+    let refusal = coloured_refusal(m, kind, colour, time);
+    if 0 < refusal {
+        return refusal;
+    }
+    let stream = stream_of(kind, colour);
+    event_on(m, kind as usize, stream, time)
+}
+
+// All questions of a tick.
+fn tick_refusal(m: &Words, time: u64) -> u8
+    ensures { λ r. ⌜ ((h : Lent) → now (m .entry) ≡ wordsOfLent h → Shaped h → r ≡ refusalIn h (Call.Tick time)) ⌝ }
+{
+    let first = first_refusal(m);
+    if 0 < first {
+        return first;
+    }
+    if Monitor::LAST_TIME < time {
+        return 10;
+    }
+    if time <= m[NUMBERS][0][CLOCK] {
+        return 11;
+    }
+    0
+}
+
+// A tick to a time.
+pub fn tick(m: &mut Words, time: u64) -> u8
+    ensures { λ r. ⌜ Stores (now (m .entry)) (asks (Call.Tick time)) r (now (m .exit)) ⌝ }
+{
+    let refusal = tick_refusal(m, time);
+    if 0 < refusal {
+        return refusal;
+    }
+    record_tick(m, time);
+    check_deadlines(m, time);
+    0
+}
+
+// The close.
+pub fn close(m: &mut Words) -> u8
+    ensures { λ r. ⌜ Stores (now (m .entry)) (asks Call.Close) r (now (m .exit)) ⌝ }
+{
+    let refusal = first_refusal(m);
+    if 0 < refusal {
+        return refusal;
+    }
+    let clock = m[NUMBERS][0][CLOCK];
+    record_tick(m, clock);
+    mark_closed(m);
+    let number = m[NUMBERS][0][COUNT];
+    let o = StepInput {
+        kind: NO_EVENT,
+        stream: NO_STREAM,
+        time: clock,
+        closes: true,
+    };
+    rows::apply_clock_all(m, held(m), o, number);
+    put_soonest(m, 0);
+    0
+}
+
+// The last step is withdrawn: 0, or 21 where nothing may be withdrawn.
+pub fn withdraw(m: &mut Words) -> u8
+    ensures { λ r. ⌜ Stores (now (m .entry)) withdraws r (now (m .exit)) ⌝ }
+{
+    if m[NUMBERS][0][UNDO_ALLOWED] == 0 {
+        return 21;
+    }
+    let number = m[NUMBERS][0][COUNT];
+    rows::undo_rows(m, held(m), number);
+    let place = place_in(m[NUMBERS][0][UNDO_STREAM] as usize);
+    let free = m[NUMBERS][0][UNDO_NEXT];
+    put_free(m, place, free);
+    restore_counters(&mut m[NUMBERS]);
+    0
+}

@@ -1,5 +1,0 @@
--- What every row type is made of, as functions on numbers and lists.
-pub mod Rule
-pub mod Parts
-pub mod Words
-pub mod Machine

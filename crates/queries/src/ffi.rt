@@ -1,0 +1,158 @@
+// What a host asks of a monitor, read off its words where they lie.
+use crate::deadline_by;
+use crate::waiting_by;
+use constraint::NO_LIMIT;
+use in_place::CLOCK;
+use in_place::COUNT;
+use in_place::NUMBERS;
+use in_place::Words;
+use in_place::calls::event_refusal;
+use in_place::closed;
+use in_place::held;
+use questions::event_of;
+use row::StepInput;
+use row::stored::step_overflows;
+use row_type::parts::smaller;
+use row_type::row_words::BROKEN;
+use row_type::row_words::DUE;
+use row_type::row_words::LEN;
+use row_type::row_words::TYPE_TAG;
+ghost use Prim.Native.Nat.{_<_, _≤_};
+ghost use mathlib.Core.Path.{_≡_};
+ghost use lib.Dec.{ltb};
+ghost use Rattle.constraint.specs.declared.Call.{Call};
+ghost use Rattle.row.specs.StepParts.{crowdedBy};
+ghost use Rattle.row.specs.Machine.{mark};
+ghost use Rattle.monitor.specs.declared.Monitor.{Monitor};
+ghost use Rattle.in_place.specs.Layout.{rowAt};
+ghost use Rattle.in_place.specs.Contract.{HoldsMonitor, ReadOff};
+ghost use Rattle.queries.specs.Numbers.{deadlineBy, firstMarked};
+ghost use Rattle.queries.specs.Contract.{AsksClock, AsksSteps, AsksClosed, AsksBrokenRows, AsksWaiting};
+ghost use Rattle.queries.specs.Contract.{AsksRowDeadline, AsksDeadline, AsksCrowdedRow};
+
+// §15.1
+// The clock.
+#[no_mangle]
+pub extern "C" fn delkuthi_clock(m: &Words) -> u64
+    ensures { λ r. ⌜ ReadOff (now (m .entry)) AsksClock r ⌝ }
+{
+    m[NUMBERS][0][CLOCK]
+}
+
+// §15.2
+// How many steps were taken, the close included.
+#[no_mangle]
+pub extern "C" fn delkuthi_steps(m: &Words) -> u64
+    ensures { λ r. ⌜ ReadOff (now (m .entry)) AsksSteps r ⌝ }
+{
+    m[NUMBERS][0][COUNT]
+}
+
+// §15.3, §15.13
+// 1 once the recording is closed, else 0: one of the two whatever was lent.
+#[no_mangle]
+pub extern "C" fn delkuthi_closed(m: &Words) -> u8
+    ensures { λ r. ⌜ ((r ≤ 1) × ReadOff (now (m .entry)) AsksClosed r) ⌝ }
+{
+    if 0 < closed(m) { 1 } else { 0 }
+}
+
+// The deadline of a row that is there.
+fn deadline_at(m: &Words, i: usize) -> u64
+    requires { ⌜ i < 32 ⌝ }
+    ensures { λ r. ⌜ ((n : Monitor) → HoldsMonitor (now (m .entry)) n → r ≡ deadlineBy (n .closed) (rowAt n i .now .broken) (rowAt n i .now .due)) ⌝ }
+{
+    deadline_by(closed(m), m[i][1][BROKEN], m[i][1][DUE])
+}
+
+// §15.8
+// The deadline of a row: the largest number where it has none.
+#[no_mangle]
+pub extern "C" fn delkuthi_row_deadline(m: &Words, row: u64) -> u64
+    ensures { λ r. ⌜ ReadOff (now (m .entry)) (λ monitor. AsksRowDeadline monitor row) r ⌝ }
+{
+    if held(m) as u64 <= row {
+        return NO_LIMIT;
+    }
+    deadline_at(m, row as usize)
+}
+
+// §15.9
+// The least of the rows' deadlines.
+#[no_mangle]
+pub extern "C" fn delkuthi_deadline(m: &Words) -> u64
+    ensures { λ r. ⌜ ReadOff (now (m .entry)) AsksDeadline r ⌝ }
+{
+    let rows = held(m);
+    let mut least = NO_LIMIT;
+    let mut i = 0;
+    while i < rows {
+        least = smaller(least, deadline_at(m, i));
+        i += 1;
+    }
+    least
+}
+
+// §15.5
+// How many wait in a row that reads open.
+#[no_mangle]
+pub extern "C" fn delkuthi_row_waiting(m: &Words, row: u64) -> u64
+    ensures { λ r. ⌜ ReadOff (now (m .entry)) (λ monitor. AsksWaiting monitor row) r ⌝ }
+{
+    if held(m) as u64 <= row {
+        return 0;
+    }
+    let i = row as usize;
+    waiting_by(closed(m), m[i][1][BROKEN], m[i][1][TYPE_TAG], m[i][1][LEN])
+}
+
+// 1 where a row is broken.
+fn broken_at(m: &Words, i: usize) -> u32
+    requires { ⌜ i < 32 ⌝ }
+    ensures { λ r. ⌜ ((r ≤ 1) × ((n : Monitor) → HoldsMonitor (now (m .entry)) n → r ≡ mark (ltb 0 (rowAt n i .now .broken)))) ⌝ }
+{
+    if 0 < m[i][1][BROKEN] { 1 } else { 0 }
+}
+
+// §15.4
+// A bit for each row: 1 where it is broken.
+#[no_mangle]
+pub extern "C" fn delkuthi_broken_rows(m: &Words) -> u32
+    ensures { λ r. ⌜ ReadOff (now (m .entry)) AsksBrokenRows r ⌝ }
+{
+    let mut mask: u32 = 0;
+    let mut i = held(m);
+    while 0 < i {
+        i -= 1;
+        mask = mask * 2 + broken_at(m, i);
+    }
+    mask
+}
+
+// The first of so many rows that what occurs crowds; 32 where it crowds none.
+fn first_crowded(m: &Words, rows: usize, o: StepInput) -> u8
+    requires { ⌜ rows ≤ 32 ⌝ }
+    ensures { λ r. ⌜ ((r ≤ 32) × ((n : Monitor) → HoldsMonitor (now (m .entry)) n
+        → r ≡ firstMarked rows (λ w. crowdedBy (w .parameters) (w .now) o) 0 (n .rows))) ⌝ }
+{
+    let mut i = 0;
+    while i < rows {
+        if step_overflows(&m[i], o) {
+            return i as u8;
+        }
+        i += 1;
+    }
+    32
+}
+
+// §15.11
+// The first row that an event of a plain kind would crowd; 32 where it would not be refused with 12. At most 32 whatever was lent.
+#[no_mangle]
+pub extern "C" fn delkuthi_crowded_row(m: &Words, kind: u8, time: u64) -> u8
+    ensures { λ r. ⌜ ((r ≤ 32) × ReadOff (now (m .entry)) (λ monitor. AsksCrowdedRow monitor (Call.Event kind time)) r) ⌝ }
+{
+    if 0 < event_refusal(m, kind, time) {
+        return 32;
+    }
+    first_crowded(m, held(m), event_of(kind as u64, time))
+}

@@ -1,0 +1,57 @@
+// Repeat and Burst: the times are those of the last span events, or of all while they are fewer; last is one more than
+// the last event's time. A Repeat has minimum 0, a Burst no upper.
+use ring::SIZE;
+use row_type::parts;
+use row_type::row_words;
+ghost use mathlib.Core.Path.{_≡_};
+ghost use Rattle.row_type.specs.Words.{askedOf, lastSaved, Applies};
+ghost use Rattle.repeat_burst.specs.Repeat.{overflowsRepeat, takenRepeat, decideRepeat};
+
+// §5.3, §5.5
+// What an event makes of the row, where it lies.
+pub fn apply(row: &mut [[u64; SIZE]; 2], stream: u64, t: u64, number: u64)
+    ensures { λ _. ⌜ Applies lastSaved decideRepeat (now (row .entry)) stream t number (now (row .exit)) ⌝ }
+{
+    if !parts::far_enough(row[1][row_words::MINIMUM], row[1][row_words::LAST], t) {
+        row_words::break_at(row, number);
+        return;
+    }
+    let head = row[1][row_words::HEAD] as usize;
+    let len = row[1][row_words::LEN] as usize;
+    let mut dropped = 0;
+    if row[1][row_words::SPAN] <= len as u64 {
+        if !parts::reaches(
+            parts::front(&row[0], head, len),
+            row[1][row_words::LOWER],
+            t,
+        ) {
+            row_words::break_at(row, number);
+            return;
+        }
+        dropped = 1;
+    }
+    row_words::save_undo_last(row);
+    row_words::one_more_waits(row, dropped, t, number);
+    row[1][row_words::LAST] = parts::plus(t, 1);
+    row[1][row_words::KEPT] = 1;
+}
+
+// Whether an event lets one more be kept, where there is no room.
+pub fn overflows(w: &[u64; SIZE], stream: u64, t: u64) -> bool
+    ensures { λ r. ⌜ r ≡ askedOf overflowsRepeat (now (w .entry)) stream t ⌝ }
+{
+    if w[row_words::SPAN] <= w[row_words::LEN] {
+        return false;
+    }
+    if w[row_words::LEN] < SIZE as u64 {
+        return false;
+    }
+    parts::far_enough(w[row_words::MINIMUM], w[row_words::LAST], t)
+}
+
+// How many places are taken where so many times are kept: none where the span is not longer than there are places.
+pub fn slots_used(span: u64, len: u64) -> u64
+    ensures { λ r. ⌜ r ≡ takenRepeat span len ⌝ }
+{
+    if (SIZE as u64) < span { len } else { 0 }
+}

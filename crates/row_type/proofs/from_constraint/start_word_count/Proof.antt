@@ -1,0 +1,13 @@
+-- The tests are those of `startWordCount`, in its order. Made by release/row-types.py.
+use borrow.Author.Tests.{eq-eqb, ne-eqb}
+use Rattle.row_type.proofs.from_constraint.start_word_count.Statement.{statement}
+use Rattle.row_type.proofs.from_constraint.start_word_count.Tie as tie
+
+returns : tie.Need-returns
+returns c = rw (eq-eqb _ _ (c .if1 .taken))
+
+returns-2 : tie.Need-returns-2
+returns-2 c = rw (ne-eqb _ _ (c .if1 .left))
+
+pub start-word-count-spec : {M : Type 1} → statement M
+start-word-count-spec = tie.close (tie.spec returns returns-2)

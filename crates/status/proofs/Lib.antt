@@ -1,9 +1,0 @@
--- Why the numbers are what the definitions say.
-mod Names
-pub mod Rows
-pub mod There
-pub mod Crowded
-pub mod Theorem
-pub mod Places
-pub mod Coloured
-pub mod Zeros

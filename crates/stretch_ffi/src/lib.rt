@@ -1,0 +1,38 @@
+// The shortest stretch that breaks a row, for a host in C: the answer as one number. It is compiled by itself, so that the steps of a lent
+// monitor, which use the same functions of a row, are compiled as if there were no other caller.
+use constraint::StretchAnswer;
+use delkuthi::stamped::place_number;
+ghost use Rattle.stretch_ffi.specs.Stretches.{NumbersStretchUpTo, NumbersStretch};
+
+// The answer for a table of an edition up to the newest.
+fn stretch_number(newest: u8, table: &[u8], recording: &[u8], row: u64) -> u64
+    ensures { λ r. ⌜ NumbersStretchUpTo newest (now (table .entry)) (now (recording .entry)) row r ⌝ }
+{
+    let answer = stretch::shortest(newest, table, recording, row);
+    match answer {
+        StretchAnswer::Found { first, size, tried } => {
+            first as u64 * 256 + size as u64 * 65536 + tried as u64 * 4294967296
+        }
+        StretchAnswer::Refused { number, place } => place_number(place) + number as u64,
+    }
+}
+
+// §14.6
+// The shortest stretch of a recording that breaks a row of a table: its first record's number in bits 8 to 15, its length from bit 16, and
+// from bit 32 how many stretches were tried, with it; on a refusal 256 times its place and its number. For n records it takes at most
+// n(n + 1)/2 steps of the row.
+#[no_mangle]
+pub extern "C" fn delkuthi_shortest_stretch(table: &[u8], recording: &[u8], row: u64) -> u64
+    ensures { λ r. ⌜ NumbersStretch (now (table .entry)) (now (recording .entry)) row r ⌝ }
+{
+    stretch_number(1, table, recording, row)
+}
+
+// §16.3
+// The same for a table of either edition.
+#[no_mangle]
+pub extern "C" fn delkuthi_shortest_stretch_2(table: &[u8], recording: &[u8], row: u64) -> u64
+    ensures { λ r. ⌜ NumbersStretchUpTo 2 (now (table .entry)) (now (recording .entry)) row r ⌝ }
+{
+    stretch_number(2, table, recording, row)
+}

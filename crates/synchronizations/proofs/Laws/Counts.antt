@@ -1,0 +1,172 @@
+-- The marks of a row as one number for each kind, a count in a StrongSynchronization: the kinds are different, so the machine's four places are
+-- those of the list of kinds, and a place without a kind never matters.
+use Rattle.constraint.proofs.Library.{Bool, List, [], _&&_, _++_, _+_, _-_, _<_, _||_, _∙_, _∷_, _≡_, _≤_, _⊎_, and-eq-true-iff, ap, arith, by-cases}
+use Rattle.constraint.proofs.Library.{decLt, eq-eqb, eqb, eqb-false, false, false≢true, getD-replicate, inl, inr, length, length-append}
+use Rattle.constraint.proofs.Library.{length-replicate, ltb, ltb-false, ltb-true, ne-eqb, refl, replicate, subst, suc, sym, true, zero, ℕ, ⊎-elim}
+use Rattle.constraint.proofs.Lists.{at-left, at-right, split}
+use Rattle.constraint.proofs.{Streams.streams}
+use Rattle.constraint.specs.{Accepted.KindsFit, Accepted.kinds, Limits.lastKind, Limits.noLimit, Meets.Meets, Steps.Step, Steps.at}
+use Rattle.constraint.specs.{Waiting.waiting, declared.Constraint.Constraint}
+use Rattle.synchronizations.specs.StrongSynchronization.{complete, countOf, counted, has, oneMore, withoutOldest}
+use Rattle.row_type.proofs.{Exact.Sound, SeveralKinds.kinds-apart, SeveralKinds.kinds-small}
+use Rattle.row_type.specs.{Parts.noRegisters, Parameters.noKind, Parameters.parametersOf, Parameters.startWords, Parameters.waitsIn}
+use Rattle.row_type.specs.{declared.Registers.Registers, declared.Parameters.Parameters}
+
+-- the four kinds of a rule, some of which may be absent, and the count of each
+abbrev pub fourKinds : Parameters → List ℕ
+fourKinds parameters = parameters .first ∷ parameters .second ∷ parameters .third ∷ parameters .fourth ∷ []
+
+abbrev pub fourCounts : Registers → List ℕ
+fourCounts registers = registers .first ∷ registers .second ∷ registers .third ∷ registers .fourth ∷ []
+
+-- the rule is of these kinds, which are two or more and different, and of no others
+pub record Names (parameters : Parameters) (ks : List ℕ) : Type 0 where
+  pub fit : KindsFit ks
+  pub several : 2 ≤ length ks
+  pub absent : ℕ
+  pub padded : fourKinds parameters ≡ ks ++ replicate absent noKind
+
+-- a row of a list of kinds: by these and its tolerance go what it asks and how many wait; and whether the times that it keeps are those that wait
+pub record OfKinds (Asks : List ℕ → ℕ → List Step → Type 0) (held : List ℕ → List Step → ℕ) (timed : Bool) (c : Constraint) : Type 1 where
+  pub names : Names (parametersOf c) (kinds c)
+  pub streams-are : streams c ≡ kinds c
+  pub no-words : startWords (parametersOf c) ≡ []
+  pub meets : (steps : List Step) → Meets c steps ≡ Asks (kinds c) (parametersOf c .upper) steps
+  pub waits-in : waitsIn (parametersOf c .tag) ≡ timed
+  pub waits : (steps : List Step) → waiting c steps ≡ held (kinds c) steps
+
+pub of-kinds : {Asks : List ℕ → ℕ → List Step → Type 0} {held : List ℕ → List Step → ℕ} {timed : Bool} (c : Constraint) → Sound c → (absent : ℕ)
+    → 2 ≤ length (kinds c) → fourKinds (parametersOf c) ≡ kinds c ++ replicate absent noKind → streams c ≡ kinds c → startWords (parametersOf c) ≡ []
+    → ((steps : List Step) → Meets c steps ≡ Asks (kinds c) (parametersOf c .upper) steps) → waitsIn (parametersOf c .tag) ≡ timed
+    → ((steps : List Step) → waiting c steps ≡ held (kinds c) steps) → OfKinds Asks held timed c
+of-kinds c sound absent several padded streams-are no-words meets waits-in waits =
+    record {
+      names = record { fit = sound .kinds-fit; several = several; absent = absent; padded = padded };
+      streams-are = streams-are;
+      no-words = no-words;
+      meets = meets;
+      waits-in = waits-in;
+      waits = waits;
+    }
+
+-- what holds of four places holds of each
+pub four-each : (P : ℕ → Type 0) → P 0 → P 1 → P 2 → P 3 → (i : ℕ) → i < 4 → P i
+four-each P a b c d zero h = a
+four-each P a b c d (suc zero) h = b
+four-each P a b c d (suc (suc zero)) h = c
+four-each P a b c d (suc (suc (suc zero))) h = d
+four-each P a b c d (suc (suc (suc (suc i)))) h = absurd (omega arith)
+
+and-false : (a b : Bool) → a && b ≡ false → (a ≡ false) ⊎ (b ≡ false)
+and-false true b e = inr e
+and-false false b e = inl refl
+
+-- four tests in a row
+module _ (f : ℕ → Bool) where
+  pub four-true : f 0 && (f 1 && (f 2 && f 3)) ≡ true → (i : ℕ) → i < 4 → f i ≡ true
+  four-true e =
+      let (a, r) = and-eq-true-iff (f 0) (f 1 && (f 2 && f 3)) .0 e in
+      let (b, s) = and-eq-true-iff (f 1) (f 2 && f 3) .0 r in
+      let (c, d) = and-eq-true-iff (f 2) (f 3) .0 s in
+      four-each (λ i. f i ≡ true) a b c d
+
+  pub four-false : f 0 && (f 1 && (f 2 && f 3)) ≡ false → (i : ℕ) × (i < 4) × (f i ≡ false)
+  four-false e =
+      ⊎-elim (λ a. (0, omega arith, a))
+      (λ r. ⊎-elim (λ b. (1, omega arith, b))
+      (λ s. ⊎-elim (λ c. (2, omega arith, c)) (λ d. (3, omega arith, d)) (and-false (f 2) (f 3) s))
+      (and-false (f 1) (f 2 && f 3) r))
+      (and-false (f 0) (f 1 && (f 2 && f 3)) e)
+
+has-true : (k count : ℕ) → k ≤ lastKind → has k count ≡ true → 0 < count
+has-true k count small e = ltb-true 0 count (rw (ne-eqb k noKind (λ same. omega arith)) at e)
+
+has-false : (k count : ℕ) → has k count ≡ false → (¬ (k ≡ noKind)) × (count ≡ 0)
+has-false k count =
+    split (eqb k noKind) (λ x. (x || ltb 0 count) ≡ false → (¬ (k ≡ noKind)) × (count ≡ 0))
+    (λ e f. absurd (false≢true (sym f)))
+    (λ e f. (eqb-false k noKind e, omega (arith, ltb-false 0 count f)))
+
+-- the four places
+module _ (parameters : Parameters) (registers : Registers) where
+  abbrev hasAt : ℕ → Bool
+  hasAt i = has (at (fourKinds parameters) i) (at (fourCounts registers) i)
+
+  count-more : (k i : ℕ) → i < 4 → at (fourCounts (counted parameters registers k)) i ≡ oneMore k (at (fourKinds parameters) i)
+      (at (fourCounts registers) i)
+  count-more k =
+      four-each (λ i. at (fourCounts (counted parameters registers k)) i ≡ oneMore k (at (fourKinds parameters) i) (at (fourCounts registers) i)) refl
+      refl refl refl
+
+  -- the count of a kind is at the first place that has the kind
+  count-at : (i : ℕ) → i < 4 → ((j : ℕ) → j < i → ¬ (at (fourKinds parameters) i ≡ at (fourKinds parameters) j))
+      → countOf parameters registers (at (fourKinds parameters) i) ≡ at (fourCounts registers) i
+  count-at =
+      four-each (λ i. ((j : ℕ) → j < i → ¬ (at (fourKinds parameters) i ≡ at (fourKinds parameters) j))
+      → countOf parameters registers (at (fourKinds parameters) i) ≡ at (fourCounts registers) i)
+      (λ apart. rw (eq-eqb (parameters .first) (parameters .first) refl))
+      (λ apart. rw (ne-eqb (parameters .second) (parameters .first) (apart 0 (omega arith)), eq-eqb (parameters .second) (parameters .second) refl))
+      (λ apart. rw (
+        ne-eqb (parameters .third) (parameters .first) (apart 0 (omega arith)),
+        ne-eqb (parameters .third) (parameters .second) (apart 1 (omega arith)),
+        eq-eqb (parameters .third) (parameters .third) refl,
+      ))
+      (λ apart. rw (
+        ne-eqb (parameters .fourth) (parameters .first) (apart 0 (omega arith)),
+        ne-eqb (parameters .fourth) (parameters .second) (apart 1 (omega arith)),
+        ne-eqb (parameters .fourth) (parameters .third) (apart 2 (omega arith)),
+      ))
+
+-- the places of the list of kinds
+module _ {parameters : Parameters} {ks : List ℕ} (names : Names parameters ks) where
+  abbrev padding : List ℕ
+  padding = replicate (names .absent) noKind
+
+  pub names-four : length ks + names .absent ≡ 4
+  names-four = omega (arith, ap length (names .padded), length-append ks padding, length-replicate (names .absent) noKind)
+
+  pub count-none : (j : ℕ) → j < length ks → at (fourCounts noRegisters) j ≡ 0
+  count-none j h = four-each (λ i. at (fourCounts noRegisters) i ≡ 0) refl refl refl refl j (omega (arith, names-four))
+
+  pub kind-present : (j : ℕ) → j < length ks → at (fourKinds parameters) j ≡ at ks j
+  kind-present j h = ap (λ (l : List ℕ). at l j) (names .padded) ∙ at-left ks padding j h
+
+  pub kind-absent : (j : ℕ) → length ks ≤ j → j < 4 → at (fourKinds parameters) j ≡ noKind
+  kind-absent j h l =
+      let place : length ks + (j - length ks) ≡ j = omega arith in
+      ap (λ (l : List ℕ). at l j) (names .padded)
+      ∙ subst (λ (i : ℕ). at (ks ++ padding) i ≡ noKind) place
+      (at-right ks padding (j - length ks) ∙ getD-replicate (names .absent) (j - length ks) noKind 0 (omega (arith, names-four)))
+
+  module _ (registers : Registers) where
+    pub count-is : (k : ℕ) → k < length ks → countOf parameters registers (at ks k) ≡ at (fourCounts registers) k
+    count-is k h =
+        rw (← kind-present k h) (count-at parameters registers k (omega (arith, names-four))
+        (λ j l. rw (kind-present k h, kind-present j (omega arith)) (kinds-apart ks (names .fit) k j h (omega arith) (λ e. omega arith))))
+
+    pub count-own : (k : ℕ) → k < length ks → at (fourCounts registers) k < noLimit
+        → at (fourCounts (counted parameters registers (at ks k))) k ≡ suc (at (fourCounts registers) k)
+    count-own k h small =
+        count-more parameters registers (at ks k) k (omega (arith, names-four)) ∙ rw (kind-present k h, eq-eqb (at ks k) (at ks k) refl) (omega arith)
+
+    pub count-other : (k j : ℕ) → k < length ks → j < length ks → ¬ (j ≡ k)
+        → at (fourCounts (counted parameters registers (at ks k))) j ≡ at (fourCounts registers) j
+    count-other k j h l apart =
+        count-more parameters registers (at ks k) j (omega (arith, names-four))
+        ∙ rw (kind-present j l, ne-eqb (at ks k) (at ks j) (kinds-apart ks (names .fit) k j h l (λ e. apart (sym e))))
+
+    pub count-left : (j : ℕ) → j < length ks → at (fourCounts (withoutOldest registers)) j ≡ at (fourCounts registers) j - 1
+    count-left j h =
+        four-each (λ i. at (fourCounts (withoutOldest registers)) i ≡ at (fourCounts registers) i - 1) refl refl refl refl j
+        (omega (arith, names-four))
+
+    pub complete-has : complete parameters registers ≡ true → (j : ℕ) → j < length ks → 0 < at (fourCounts registers) j
+    complete-has e j h =
+        has-true (at ks j) (at (fourCounts registers) j) (kinds-small ks (names .fit) j h)
+        (rw (kind-present j h) at (four-true (hasAt parameters registers) e j (omega (arith, names-four))))
+
+    pub incomplete-lacks : complete parameters registers ≡ false → (j : ℕ) × (j < length ks) × (at (fourCounts registers) j ≡ 0)
+    incomplete-lacks e =
+        let (j, h, lacks) = four-false (hasAt parameters registers) e in
+        let (known, none) = has-false (at (fourKinds parameters) j) (at (fourCounts registers) j) lacks in
+        (j, by-cases (decLt j (length ks)) (λ l. l) (λ l. absurd (known (kind-absent j (omega arith) h))), none)

@@ -19,7 +19,9 @@ from . import library as lib
 from .annotations import STYLES, annotated
 from .autosar import is_arxml
 from .check import Outcome, check
+from .completion import add_completion
 from .database import DatabaseError
+from .editor_grammar import textmate
 from .evidence import evidence_of
 from .fleet_commands import add_fleet
 from .html_page import as_html
@@ -219,8 +221,8 @@ def _trace(path: str, table: Table, how: Policy, outcomes: Sequence[Outcome]) ->
 
 
 def _table(given: argparse.Namespace) -> int:
-    if given.grammar:
-        out(grammar())
+    if given.grammar or given.textmate:
+        out(textmate() if given.textmate else grammar())
         return KEPT
     if given.table is None:
         raise LogError("delkuthi table", "", "expected a table, or --grammar")
@@ -356,6 +358,7 @@ def _add_table(commands: Any) -> None:
     one.add_argument("--json", action="store_true", help="of an ARXML file the text and what became of each constraint, as JSON")
     add_timing(one)
     one.add_argument("--grammar", action="store_true", help="how a text table is written")
+    one.add_argument("--textmate", action="store_true", help="the same for editors, as a TextMate grammar in JSON")
     one.set_defaults(run=_table)
 
 
@@ -388,6 +391,7 @@ def _parser() -> argparse.ArgumentParser:
     commands = parser.add_subparsers(dest="command", metavar="COMMAND")
     for add in (_add_check, _add_watch, _add_table, _add_on_logs, add_fleet, add_propose):
         add(commands)
+    add_completion(commands, parser.format_help)
     return parser
 
 

@@ -247,6 +247,7 @@ def found_events(log: str, unit: str | None, how: Policy) -> tuple[list[str], se
     for identifier, extended in sorted(reader.mapping().met) if reader.reads_frames else ():
         digits = f"{identifier:0{8 if extended else 3}X}"
         lines.append(f"event {_named(f'id_{digits}', taken)} from can 0x{digits}")
+    lines += [f"event {_named(f'port_{port}', taken)} from udp {port}" for port in (sorted(reader.mapping().ports) if reader.reads_frames else ())]
     for what, name in sorted(reader.targets):
         lines.append(f"event {_named(f'{name}_start', taken)} from {what} {quoted(name)} start")
     for name in sorted(reader.others):

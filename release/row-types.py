@@ -251,7 +251,7 @@ def model_list():
 PARTS = (
     ("docs/CONTRACT.md", "order of §4.5.\n\n", "**4.8** ", contract),
     ("python/README.md", "    form:\n", "    A kind is an event's name", grammar),
-    ("python/README.md", "type in full, with its corners.\n\n", "## What a verdict says\n", asked),
+    ("python/README.md", "type in full, with its corner cases.\n\n", "## What a verdict says\n", asked),
     ("python/README.md", "| type | what it measures | an instance |\n|---|---|---|\n", "\n`outside`", measured),
     ("include/delkuthi.h", " * THE TABLE\n *\n", " * A host need not count", header_table),
     ("include/delkuthi.h", " * each type, from clause 5.1 on.\n *\n", " *\n *\n * A BENCH LOOP", header_asks),

@@ -11,6 +11,7 @@ import pytest
 
 from delkuthi import Table
 from delkuthi.check import check
+from delkuthi.fleet_commands import logs_of
 from delkuthi.logs import Log, LogError, Policy
 
 
@@ -300,6 +301,14 @@ def test_ctf_with_lost_events(tmp_path):
     assert len(read(trace, CTF)) == 7
     outcome = check(Table.from_text(CTF + "Delay pedal_pressed -> light, 0 ms .. 4 ms\n"), str(trace))
     assert outcome.warnings == [f"{trace}: the recorder lost 3 events: a row may read otherwise with them"]
+
+
+def test_traces_in_a_folder_of_logs(tmp_path):
+    """A folder with a file metadata is one log, and the files in it are none."""
+    (tmp_path / "a/kernel").mkdir(parents=True)
+    for name in ("a/kernel/metadata", "a/kernel/stream.log", "a/b.csv", "a/c.txt"):
+        (tmp_path / name).write_text("")
+    assert logs_of(str(tmp_path)) == [f"{tmp_path}/a/b.csv", f"{tmp_path}/a/kernel"] and logs_of(f"{tmp_path}/a/kernel") == [f"{tmp_path}/a/kernel"]
 
 
 def test_ctf_that_is_none(tmp_path):

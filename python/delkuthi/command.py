@@ -16,10 +16,12 @@ from pathlib import Path
 from typing import IO, Any, Iterator, Sequence
 
 from . import library as lib
+from .annotations import STYLES, annotated
 from .autosar import is_arxml
 from .check import Outcome, check
 from .database import DatabaseError
 from .evidence import evidence_of
+from .fleet_commands import add_fleet
 from .html_page import as_html
 from .library import LibraryMissing, Refused
 from .logs import Log, LogError, Policy
@@ -29,7 +31,8 @@ from .log_commands import join_logs, late_stamps, record, shrink
 from .output import COLUMNS, as_json, as_junit, as_text, overall, wrapped
 from .plot import PlotMissing, write_plot
 from .provenance import provenance
-from .options import add_databases, add_edges, add_options, add_timing, policy, read_table, refuse_windows, timing_table
+from .results import result_of, write_results
+from .options import add_databases, add_edges, add_options, add_timing, columns, policy, positive, read_table, refuse_windows, timing_table
 from .readers.standard_input import NAME, kept
 from .table import Table, is_bytes
 from .text import TextError, grammar
@@ -127,7 +130,7 @@ def _check_into(given: argparse.Namespace, table: Table, how: Policy, folder: st
 
 def _measured(given: argparse.Namespace) -> bool:
     """Does an output want what rows measure?"""
-    return bool(given.measure or given.json or given.junit or given.html)
+    return bool(given.measure or given.json or given.junit or given.html or given.keep)
 
 
 def _write_outputs(given: argparse.Namespace, table: Table, how: Policy, outcomes: Sequence[Outcome]) -> None:
@@ -142,6 +145,8 @@ def _write_outputs(given: argparse.Namespace, table: Table, how: Policy, outcome
         made = provenance(table, given.table, [outcome.files for outcome in outcomes], given.words,
                           [*given.note, *(given.takeover.notes() if given.takeover else ())])
         write(given.html, as_html(table, given.table, [evidence_of(table, how, outcome) for outcome in outcomes], made))
+    if given.keep:
+        write_results(given.keep, [result_of(table, outcome, given.note) for outcome in outcomes])
     if given.plot:
         _plot(given.plot, table, how, outcomes)
     if given.trace:
@@ -169,6 +174,8 @@ def _tell(given: argparse.Namespace, table: Table, outcome: Outcome) -> None:
     """The messages and a last line, for a person; with ``--json`` only what goes to standard error."""
     for line in [outcome.error] if outcome.error is not None else outcome.warnings:
         complain(line)
+    if given.annotations and not given.json:
+        out(annotated(outcome, given.annotations))
     if outcome.error is None and not given.json:
         out(as_text(outcome, given.page, given.quiet, given.width))
         rows = [(table.row_name(row.number), row.measured) for row in outcome.rows if row.measured is not None]
@@ -256,20 +263,6 @@ def _program() -> int:
     return REFUSED if text.startswith("refused") else BROKEN if "broken" in text else KEPT
 
 
-def _positive(text: str) -> int:
-    """A number of jobs, or of bits a second."""
-    if not (text.isascii() and text.isdecimal() and len(text) < 10 and int(text) > 0):
-        raise argparse.ArgumentTypeError(f"expected a whole number from 1 on, found {text}")
-    return int(text)
-
-
-def _width(text: str) -> int:
-    """A number of columns, or 0."""
-    if text != "0" and not (text.isascii() and text.isdecimal() and len(text) < 6 and int(text) >= 40):
-        raise argparse.ArgumentTypeError(f"expected 0, or a number of columns from 40 on, found {text}")
-    return int(text)
-
-
 def _violations_file(text: str) -> str:
     """A file whose name says how violations are written."""
     try:
@@ -312,7 +305,8 @@ def _add_check(commands: Any) -> None:
     one = commands.add_parser("check", help="check logs against a table", epilog=_EXAMPLES, formatter_class=_PLAIN)
     one.add_argument("table", metavar="TABLE", help="a text table, table.bin, or an ARXML file with AUTOSAR timing requirements")
     one.add_argument("log", metavar="LOG", nargs="+",
-                     help=".csv, .tsv, .xlsx, .log (candump), .asc, .trc, .btf, .bin; with python-can .blf ..; - is the standard input")
+                     help=".csv, .tsv, .xlsx, .log (candump), .asc, .blf, .trc, .btf, .pcap, .pcapng, .tessla, .bin; a CTF folder, .mf4, what "
+                          "python-can reads; - is the standard input")
     one.add_argument("--exercised", action="store_true", help="a row that the log never exercises is a failure: status 1")
     one.add_argument("--measure", action="store_true", help="what each row measures beside what it asks, and the margin to its limit")
     one.add_argument("--as-one", action="store_true", help="the logs are one drive, one behind the other")
@@ -321,13 +315,16 @@ def _add_check(commands: Any) -> None:
     one.add_argument("--json", action="store_true", help="all of it as JSON on standard output")
     one.add_argument("--junit", metavar="FILE", help="a JUnit file for all logs")
     one.add_argument("--page", action="store_true", help="the library's printed page instead of the messages")
+    one.add_argument("--keep", metavar="FILE", help="the results as JSON, a line for each log, for delkuthi merge and compare")
+    one.add_argument("--annotations", choices=STYLES, help="lines that a build server shows beside the log")
     one.add_argument("--html", metavar="FILE", help="a page with pictures that needs no network")
-    one.add_argument("--note", metavar="NAME=TEXT", type=_note, action="append", default=[], help="say this on the page, such as build=1234")
+    one.add_argument("--note", metavar="NAME=TEXT", type=_note, action="append", default=[],
+                     help="say this on the page and with the results, such as build=1234")
     one.add_argument("--plot", metavar="FILE", help="a picture: SVG, or PNG by matplotlib")
     one.add_argument("--trace", metavar="FILE", help="a trace for Perfetto or chrome://tracing; .json.gz is packed")
-    one.add_argument("--jobs", metavar="N", type=_positive, default=1, help="check so many logs at a time")
+    one.add_argument("--jobs", metavar="N", type=positive, default=1, help="check N logs at a time")
     one.add_argument("--quiet", action="store_true", help="messages only, no last line")
-    one.add_argument("--width", metavar="COLUMNS", type=_width, default=COLUMNS,
+    one.add_argument("--width", metavar="COLUMNS", type=columns, default=COLUMNS,
                      help=f"text has so many columns ({COLUMNS}); with 0 each message is one line")
     add_edges(one)
     add_options(one)
@@ -343,7 +340,7 @@ def _add_watch(commands: Any) -> None:
                      help="tick so often while nothing comes, where the library has no deadlines (0.01)")
     one.add_argument("--lag", type=_seconds, metavar="S", default=0.05, help="ticks stay so far behind the clock (0.05)")
     one.add_argument("--record", metavar="FILE", help="keep the recording")
-    one.add_argument("--bitrate", type=_positive, metavar="N", help="of the bus, where the interface sets it")
+    one.add_argument("--bitrate", type=positive, metavar="N", help="of the bus, where the interface sets it")
     add_databases(one)
     one.set_defaults(run=_watch)
 
@@ -388,7 +385,7 @@ def _parser() -> argparse.ArgumentParser:
     parser.add_argument("--version", action="store_true", help="the versions of this package and of the library")
     parser.set_defaults(takeover=None)
     commands = parser.add_subparsers(dest="command", metavar="COMMAND")
-    for add in (_add_check, _add_watch, _add_table, _add_on_logs):
+    for add in (_add_check, _add_watch, _add_table, _add_on_logs, add_fleet):
         add(commands)
     return parser
 

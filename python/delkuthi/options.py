@@ -78,6 +78,20 @@ def add_timing(parser: argparse.ArgumentParser) -> None:
     group.add_argument("--guarantees", action="store_true", help="take its timing guarantees too")
 
 
+def positive(text: str) -> int:
+    """A number of jobs, of logs, or of bits a second."""
+    if not (text.isascii() and text.isdecimal() and len(text) < 10 and int(text) > 0):
+        raise argparse.ArgumentTypeError(f"expected a whole number from 1 on, found {text}")
+    return int(text)
+
+
+def columns(text: str) -> int:
+    """A number of columns of text, or 0."""
+    if text != "0" and not (text.isascii() and text.isdecimal() and len(text) < 6 and int(text) >= 40):
+        raise argparse.ArgumentTypeError(f"expected 0, or a number of columns from 40 on, found {text}")
+    return int(text)
+
+
 def _encoding(text: str) -> str:
     """The name of an encoding that Python knows."""
     try:

@@ -116,7 +116,8 @@ ROWS = [
      ['"x" Synchronization a c, tolerance 1 ms'], "InputSynchronization, which the library does not have yet: only the stimuli"),
     ("SYNCHRONIZATION-TIMING-CONSTRAINT", [element("EVENT-OCCURRENCE-KIND", SINGLE), chains("ab", "cb"), STIMULI, time("TOLERANCE", MS)],
      ['"x" Synchronization a c, tolerance 1 ms'], "InputSynchronization"),
-    ("SYNCHRONIZATION-TIMING-CONSTRAINT", [chains("ab", "cb"), RESPONSES, time("TOLERANCE", MS)], [], "the chains do not have one stimulus in common"),
+    ("SYNCHRONIZATION-TIMING-CONSTRAINT", [chains("ab", "cb"), RESPONSES, time("TOLERANCE", MS)], [],
+     "the chains do not have one stimulus in common"),
     ("SYNCHRONIZATION-TIMING-CONSTRAINT", [chains("ab", "cb"), time("TOLERANCE", MS)], [], "its SYNCHRONIZATION-CONSTRAINT-TYPE is missing"),
     ("SYNCHRONIZATION-TIMING-CONSTRAINT", [time("TOLERANCE", MS)], [], "it needs either SCOPE-EVENT-REFS or SCOPE-REFS"),
     ("SYNCHRONIZATION-TIMING-CONSTRAINT", [events("a", "b")], [], "it has no TOLERANCE, which such a row needs"),
@@ -135,7 +136,8 @@ ROWS = [
      "its EXECUTION-ORDER-CONSTRAINT-TYPE is HIERARCHICAL-EOC"),
     ("EXECUTION-ORDER-CONSTRAINT", [element("IGNORE-ORDER-ALLOWED", "true"), executed("Run", "Walk")], [], "it allows that the order is ignored"),
     ("EXECUTION-ORDER-CONSTRAINT", [executed("Run")], [], "it has 1 ORDERED-ELEMENTS"),
-    ("EXECUTION-ORDER-CONSTRAINT", [element("ORDERED-ELEMENTS", named("EOC-GROUP", "g"), named("EOC-GROUP", "h"))], [], "EOC-GROUP among its ORDERED"),
+    ("EXECUTION-ORDER-CONSTRAINT", [element("ORDERED-ELEMENTS", named("EOC-GROUP", "g"), named("EOC-GROUP", "h"))], [],
+     "EOC-GROUP among its ORDERED"),
     ("EXECUTION-TIME-CONSTRAINT", [RUN, NET, time("MINIMUM", MS), time("MAXIMUM", 2 * MS)], ['"x" ExecutionTime runnable "Run", 1 ms .. 2 ms'], None),
     ("EXECUTION-TIME-CONSTRAINT", [RUN, NET], [], "it has no MAXIMUM, which such a row needs"),
     ("EXECUTION-TIME-CONSTRAINT", [RUN, GROSS, time("MAXIMUM", 2 * MS)], ['"x" Delay Run_start -> Run_terminate, 0 .. 2 ms'], None),
@@ -162,7 +164,8 @@ ROWS = [
     ("PERIODIC-EVENT-TRIGGERING", [event(), coded("PERIOD", 3, "1.5")], [], "the CSE-CODE-FACTOR of PERIOD is 1.5, which is no whole number"),
     ("PERIODIC-EVENT-TRIGGERING", [event(), coded("PERIOD", 3, -1)], [], "PERIOD is below 0: its CSE-CODE-FACTOR is -1"),
     ("PERIODIC-EVENT-TRIGGERING", [event(), element("PERIOD", element("CSE-CODE-FACTOR", "5"))], [], "PERIOD has no CSE-CODE"),
-    ("PERIODIC-EVENT-TRIGGERING", [event(), coded("PERIOD", 10, 10**20)], [], "PERIOD is more than 1152921504606846975 ns, the longest time of a row"),
+    ("PERIODIC-EVENT-TRIGGERING", [event(), coded("PERIOD", 10, 10**20)], [],
+     "PERIOD is more than 1152921504606846975 ns, the longest time of a row"),
 ]
 
 
@@ -253,7 +256,8 @@ def test_events_without_a_source(tmp_path):
     assert (line, above) == ("event a", "# no source in the file: /P/T/a (TD-EVENT-COMPLEX)")
     conditional = runnable_event("a", "Ra", "STARTED").replace("</TD-EVENT-SWC-INTERNAL-BEHAVIOR>",
                                                                "<OCCURRENCE-EXPRESSION/></TD-EVENT-SWC-INTERNAL-BEHAVIOR>")
-    assert source(tmp_path, conditional) == ("event a", "# /P/T/a (TD-EVENT-SWC-INTERNAL-BEHAVIOR) has an OCCURRENCE-EXPRESSION, which no source can say")
+    assert source(tmp_path, conditional) == (
+        "event a", "# /P/T/a (TD-EVENT-SWC-INTERNAL-BEHAVIOR) has an OCCURRENCE-EXPRESSION, which no source can say")
     (tmp_path / "events.txt").write_text('event a from column "brake" rises above 5 from csv "Pedal"\n')
     line, above = source(tmp_path, named("TD-EVENT-COMPLEX", "a"), events=str(tmp_path / "events.txt"))
     assert line == 'event a from column brake rises above 5 from csv "Pedal"' and above == f"# from {tmp_path}/events.txt"
@@ -350,7 +354,8 @@ def test_unknown_elements_are_named_and_counted(tmp_path, command):
     status, _, error = command("table", "timing.arxml")
     assert status == 0
     said = [line.partition(": ")[2] for line in error.splitlines()]
-    assert said == ["TIMING-CLOCKS in SWC-TIMING is not known here and was left out", "TD-HEADER in TIMING-DESCRIPTIONS is not known here and was left out",
+    assert said == ["TIMING-CLOCKS in SWC-TIMING is not known here and was left out",
+                    "TD-HEADER in TIMING-DESCRIPTIONS is not known here and was left out",
                     "NEW-CONSTRAINT in TIMING-REQUIREMENTS is not known here and was left out (2 times)",
                     "PHASE in PERIODIC-EVENT-TRIGGERING is not known here and was left out (2 times)",
                     "TIMING-REQUIREMENTS in NEW-TIMING is not known here and was left out", "constraints: 1 taken, 2 weaker, 0 left out"]
@@ -377,7 +382,8 @@ NONE = [
     (WHOLE.replace("<AUTOSAR", '<!DOCTYPE AUTOSAR SYSTEM "file:///etc/passwd"><AUTOSAR', 1).encode(), "a document type (DTD) is refused"),
     (WHOLE.replace(">good<", ">&secret;<").encode(), "not whole XML: undefined entity"),
     (WHOLE.replace(">good<", f">{'x' * 5000}<").encode(), "a text of more than 4,000 characters"),
-    (b"<AUTOSAR>" + b"<A>" * 2000, "elements nested more than 1,000 deep"), (b"<html></html>", "expected an AUTOSAR file, whose first element is AUTOSAR, found html"),
+    (b"<AUTOSAR>" + b"<A>" * 2000, "elements nested more than 1,000 deep"),
+    (b"<html></html>", "expected an AUTOSAR file, whose first element is AUTOSAR, found html"),
     (WHOLE.replace("UTF-8", "UTF-16").encode("utf-16"), None), (WHOLE.encode().replace(b"UTF-8", b"ebcdic-xy"), "not whole XML: "),
     (WHOLE.encode().replace(b"good", b"g\xffd"), "not whole XML: not well-formed"),
     (b"<AUTOSAR/>", "it has no timing requirements"), (WHOLE.replace("/P/T/a", "/P/T/z").encode(), "no constraint of it can be taken"),

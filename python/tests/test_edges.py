@@ -101,6 +101,7 @@ def test_asc_lines_that_are_no_frames(tmp_path):
     ("0.1 1 1A0 Rx", "expected a line of ASC"),
     ("0.1 1 1A0 Rz d 1 01", "expected a line of ASC"),
     ("0.1", "expected a line of ASC"),
+    ("0.1 1", "expected a line of ASC"),
     ("0,1 1 1A0 Rx d 1 01", "expected a line of ASC"),
     ("x0.1 1 1A0 Rx d 1 01", "expected a line of ASC"),
     ("0.1 1 EngineData Rx d 1 01", "expected the number of an identifier, found EngineData; a log with the symbolic names of frames"),

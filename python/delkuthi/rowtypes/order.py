@@ -2,7 +2,7 @@
 from __future__ import annotations
 
 from collections import Counter
-from typing import TYPE_CHECKING, Callable, Iterator, Mapping
+from typing import TYPE_CHECKING, Callable, Iterator
 
 from ..beginnings import Beginning
 from ..fields import RowType
@@ -56,8 +56,9 @@ class Lags(Pairs):
     def margin(self, value: int, lower: int) -> int | None:
         return value
 
-    def take_all(self, times: Mapping[int, list[int]], place: Callable[[int, int], int]) -> bool:
-        return False
+    def add_all(self, values: list[int], ends: list[int], place: Callable[[int], int]) -> bool:
+        self.measure.add_with(values, values, ends, place)
+        return True
 
 
 TYPE = RowType(

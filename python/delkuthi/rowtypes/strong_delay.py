@@ -112,13 +112,17 @@ class Pairs(RowMeasuring):
         if given is None or self.early is not None:
             return False
         values = list(map(sub, targets, given))
-        if values and not self.measure.add_all(values, self.lower or 0, self.upper, targets, lambda at: place(target, at)):
+        if values and not self.add_all(values, targets, lambda at: place(target, at)):
             return False
         if targets and self.waiting:
             self.waiting.pop()
         if len(given) > len(targets) and sources:
             self.waiting.append(sources[-1], place(source, len(sources) - 1))
         return True
+
+    def add_all(self, values: list[int], ends: list[int], place: Callable[[int], int]) -> bool:
+        """Adds pairs, if none of them is outside."""
+        return self.measure.add_all(values, self.lower or 0, self.upper, ends, place)
 
     def end(self, clock: int, closed: bool) -> None:
         self._settle(clock + (1 if closed or self.lower else 0))

@@ -14,8 +14,8 @@ from .sketch import ERROR_TEXT
 from .units import NUMBER, UNITS, NotWhole, in_unit, shown
 
 #: What can become of a row, the worst first, and how that is called.
-CHANGES = {"broken": "newly broken", "worse": "broken in more logs", "lost": "no longer judged", "shrunk": "margin shrank", "asked": "asks something else",
-           "added": "new row", "mended": "no longer broken", "same": "unchanged"}
+CHANGES = {"broken": "newly broken", "worse": "broken in more logs", "lost": "no longer judged", "shrunk": "margin shrank",
+           "asked": "asks something else", "added": "new row", "mended": "no longer broken", "same": "unchanged"}
 #: What a build server can fail on, besides any of these.
 FAIL_ON = ("broken", "worse", "lost", "shrunk", "asked", "added", "refused")
 FAIL_BY_DEFAULT = ("broken", "worse", "lost", "refused")

@@ -12,6 +12,7 @@ from .units import UNITS
 
 #: The first words of lines that are no rows.
 STATEMENTS = ("unit", "dbc", "event")
+_NUMBER = r"[+-]?(?:0[xX][0-9A-Fa-f]+|[0-9]+(?:\.[0-9]+)?(?:[eE][+-]?[0-9]+)?)"
 _STRING = r'"(?:[^"\\]|\\.)*"'
 
 
@@ -40,7 +41,7 @@ def textmate() -> str:
         {"match": r"\b(bus|signal|column|key)\s+([^\s\"#]+)",
          "captures": {"1": {"name": "keyword.other.delkuthi"}, "2": {"name": "variable.parameter.delkuthi"}}},
         {"name": "string.quoted.double.delkuthi", "match": _STRING},
-        {"name": "constant.numeric.delkuthi", "match": rf"[+-]?(?:0[xX][0-9A-Fa-f]+|[0-9]+(?:\.[0-9]+)?(?:[eE][+-]?[0-9]+)?)(?:\s*(?:{_any(UNITS)}))?(?!\w)"},
+        {"name": "constant.numeric.delkuthi", "match": rf"{_NUMBER}(?:\s*(?:{_any(UNITS)}))?(?!\w)"},
         {"name": "keyword.operator.delkuthi", "match": r"->|\.\.|[,=]"},
         {"name": "support.constant.unit.delkuthi", "match": rf"\b(?:{_any(UNITS)})\b"},
         {"name": "keyword.other.delkuthi", "match": rf"\b(?:{_any(words())})\b"},

@@ -91,5 +91,5 @@ def _change(change: Change, place: int, unit: str | None) -> Markup:
     for name in ("p50", "p99"):
         cells += ["" if side is None else page_time(side.percentiles[name], unit) for side in sides]
     worst = "" if change.after is None else change.after.worst_log or ""
-    return fill("compare_row", state=change.what, name=change.name, asks=change.asks, colour=_COLOURS[change.what], order=place, what=change.said(unit),
-                cells=[fill("fleet_cell", state="", text=cell) for cell in cells], worst=worst)
+    return fill("compare_row", state=change.what, name=change.name, asks=change.asks, colour=_COLOURS[change.what], order=place,
+                what=change.said(unit), cells=[fill("fleet_cell", state="", text=cell) for cell in cells], worst=worst)

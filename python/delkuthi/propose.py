@@ -1,7 +1,7 @@
 """``delkuthi propose``: a table to begin with, from what one log shows.
 
-For each event its period: a Sporadic where it keeps a period, else a Repeat where its distances are alike, else a Burst. For each event the nearest one
-before it that it follows in turn, with a Delay. For each task, interrupt routine and runnable of a scheduler trace its ExecutionTime. Values are
+For each event its period: a Sporadic where it keeps a period, else a Repeat where its distances are alike, else a Burst. For each event the nearest
+one before it that it follows in turn, with a Delay. For each task, interrupt routine and runnable of a scheduler trace its ExecutionTime. Values are
 the least that the log allows, with a slack. What the library does not find kept in the log is left out.
 """
 from __future__ import annotations
@@ -344,7 +344,8 @@ def add_propose(commands: Any) -> None:
                               description="A table to begin with, from what a log shows. With --events only for the events of that table.")
     one.add_argument("log", metavar="LOG")
     one.add_argument("-o", "--output", metavar="FILE", help="where to")
-    one.add_argument("--slack", metavar="SHARE", type=_slack, default=_slack(SLACK), help=f"widen what was seen by so much ({SLACK.replace('%', '%%')})")
+    one.add_argument("--slack", metavar="SHARE", type=_slack, default=_slack(SLACK),
+                     help=f"widen what was seen by so much ({SLACK.replace('%', '%%')})")
     one.add_argument("--least", metavar="N", type=positive, default=LEAST, help=f"a row needs so many instances ({LEAST})")
     add_edges(one)
     add_options(one)

@@ -14,6 +14,7 @@ from .check import Outcome, RowOutcome
 from .html_rows import STATES, state_of
 from .library import VERSION, library_version
 from .measured import worst_text
+from .sketch import bucket
 from .table import Table
 from .text import row_text
 from .units import UNITS
@@ -25,6 +26,9 @@ FORMAT, ENDINGS = 1, (".json", ".jsonl")
 LOG_STATES = {"refused": "refused", **STATES}
 _COUNTS, _TIMES = ("instances", "outside", "missing"), ("lower", "upper", "least", "greatest", "margin")
 _TEXTS = ("name", "asks", "state", "quantity", "where", "message")
+#: No count and no time is larger, and no bucket has a lower number.
+_LARGEST = 2**64
+_LOWEST = bucket(-_LARGEST)
 _INT, _INT_OR_NONE, _TEXT_OR_NONE = {int}, {int, type(None)}, {str, type(None)}
 
 
@@ -101,7 +105,7 @@ def _row_result(table: Table, row: RowOutcome) -> RowResult:
 def line_of(result: Result) -> str:
     """The line of a result. What a row has not is left out; a sketch is its buckets, each followed by its count."""
     rows = [{**{name: value for name, value in vars(row).items() if value not in (None, "") or name in ("name", "asks", "state")},
-             "sketch": [number for bucket in sorted(row.sketch.items()) for number in bucket]} for row in result.rows]
+             "sketch": [number for counted in sorted(row.sketch.items()) for number in counted]} for row in result.rows]
     found = {"delkuthi_result": FORMAT, "delkuthi": VERSION, "library": library_version(), **vars(result), "rows": rows}
     return json.dumps(found, separators=(",", ":")) + "\n"
 
@@ -133,18 +137,23 @@ def _result(found: dict[str, Any]) -> Result:
         raise ValueError(f"unit {unit}, error {error}")
     if not isinstance(found["exercised"], bool) or not isinstance(rows, list) or not isinstance(notes, dict):
         raise ValueError("exercised, rows or notes")
-    return Result(_text(found["log"]), unit, tuple(map(_row, rows)), error, found["exercised"], {str(name): str(text) for name, text in notes.items()})
+    named = {str(name): str(text) for name, text in notes.items()}
+    return Result(_text(found["log"]), unit, tuple(map(_row, rows)), error, found["exercised"], named)
 
 
 def _row(found: dict[str, Any]) -> RowResult:
-    if not {type(found.get(name, 0)) for name in _COUNTS} <= _INT or min(found.get(name, 0) for name in _COUNTS) < 0:
+    counts = [found.get(name, 0) for name in _COUNTS]
+    if not {*map(type, counts)} <= _INT or min(counts) < 0 or max(counts) > _LARGEST:
         raise ValueError(f"{', '.join(_COUNTS)}")
-    if not {*map(type, map(found.get, _TIMES))} <= _INT_OR_NONE:
+    times = [found.get(name) for name in _TIMES]
+    if not {*map(type, times)} <= _INT_OR_NONE or any(abs(time) > _LARGEST for time in times if time is not None):
         raise ValueError(f"{', '.join(_TIMES)}")
     if not {*map(type, map(found.get, _TEXTS))} <= _TEXT_OR_NONE or found["state"] not in STATES:
         raise ValueError(f"{', '.join(_TEXTS)}")
     buckets = found["sketch"]
-    if not {*map(type, buckets)} <= _INT or len(buckets) % 2 or min(buckets[1::2], default=1) < 1:
+    if not {*map(type, buckets)} <= _INT or len(buckets) % 2 or not _LOWEST <= min(buckets, default=1) <= max(buckets, default=1) <= _LARGEST:
+        raise ValueError("sketch")
+    if min(buckets[1::2], default=1) < 1 or max(buckets[::2], default=1) > -_LOWEST:
         raise ValueError("sketch")
     found["sketch"] = dict(zip(buckets[::2], buckets[1::2]))
     return RowResult(**found)

@@ -14,6 +14,8 @@ from hypothesis import strategies as st
 
 from delkuthi.compare import Threshold
 from delkuthi.matrix import Fleet
+from delkuthi.matrix import as_json as fleet_json
+from delkuthi.matrix import as_text as fleet_text
 from delkuthi.results import BadResult, Result, RowResult, line_of, read_line, read_results
 from delkuthi.sketch import ERROR, PERCENTS, Sketch, bucket, middle
 
@@ -183,6 +185,39 @@ def test_lines_that_are_no_results(tmp_path, command):
     assert 'r.jsonl:3: b.csv was checked against another table: row 0 is "a" Delay a -> b, 0 .. 6 ms, not "a" Delay a -> b, 0 .. 5 ms' in error
     status, _, error = command("merge", "nowhere.jsonl")
     assert status == 2 and "nowhere.jsonl" in error and "Traceback" not in error
+
+
+numbers = st.one_of(st.integers(), st.integers(-2**70, 2**70), st.just(10**4000), st.floats(), st.booleans(), st.none(), st.text(max_size=3), st.just([]))
+
+
+@given(st.data())
+def test_damaged_results(data):
+    """Whatever stands in a line, it is a result that can be merged, or a bad one."""
+    found = json.loads(line_of(some("a.csv")))
+    place = data.draw(st.sampled_from(["log", "unit", "error", "exercised", "notes", "rows", *found["rows"][0], "sketch 0", "sketch 1"]))
+    row = found["rows"][0]
+    if place.startswith("sketch "):
+        row["sketch"][int(place[-1])] = data.draw(numbers)
+    else:
+        (row if place in row else found)[place] = data.draw(numbers)
+    try:
+        text = json.dumps(found)
+        result = read_line(text)
+    except (BadResult, ValueError):
+        return
+    fleet = Fleet("x")
+    fleet.add("x", result)
+    assert fleet_text(fleet) and fleet_json(fleet)
+
+
+@given(st.binary(max_size=40), st.integers(0, 200))
+def test_lines_with_other_bytes(some_bytes, place):
+    line = bytearray(line_of(some("a.csv")).encode())
+    line[place : place + len(some_bytes)] = some_bytes
+    try:
+        read_line(bytes(line))
+    except BadResult:
+        pass
 
 
 def test_a_refused_log_is_in_the_matrix(tmp_path, command):

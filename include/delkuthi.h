@@ -147,7 +147,7 @@
  * step also holds for a withdrawal and for the calls that only read, the limit
  * of report_on for delkuthi_report_of. Link the host statically or with
  * -Wl,-z,now: otherwise the loader resolves a function at its first call, and
- * that takes 3 KiB more on the caller's stack.
+ * that takes about 3 KiB more on the caller's stack.
  *
  *
  * THE TABLE

@@ -70,8 +70,8 @@ def write(folder: Path) -> None:
                         for at, number, data in lines)
     with open(folder / "drive.trc", "w") as file:
         file.write(";$FILEVERSION=2.1\n;$STARTTIME=43008.9\n;$COLUMNS=N,O,T,B,I,d,R,L,D\n")
-        file.writelines(f"{line:7} {at // 1000:10}.{at % 1000:03d} DT  1     {0x100 + number:04X} Rx -  8    {data.to_bytes(8, 'big').hex(' ').upper()}\n"
-                        for line, (at, number, data) in enumerate(lines, 1))
+        file.writelines(f"{line:7} {at // 1000:10}.{at % 1000:03d} DT  1     {0x100 + number:04X} Rx -  8    "
+                        f"{data.to_bytes(8, 'big').hex(' ').upper()}\n" for line, (at, number, data) in enumerate(lines, 1))
     with open(folder / "drive.btf", "w") as file:
         file.write("#version 2.1.5\n#timeScale us\n")
         file.writelines(f"{at},Core_1,0,T,T{number},0,start\n" for at, number, _ in lines)

@@ -15,6 +15,8 @@ from .time_format import TimeFormat
 
 #: What is said where no reason is found.
 UNKNOWN = "nothing that could still come would meet it"
+#: So many events of a signal are looked at while an answer to a broken row is awaited.
+WAITED_FOR = 4096
 #: After so many events more than were needed a row forgets what it can.
 FORGET_AFTER = 64
 
@@ -72,6 +74,8 @@ class RowHistory:
     def _wanted(self, signal: int) -> bool:
         """Does the reason wait for an event of this signal, or need it to say how late the awaited one is?"""
         assert self._reason is not None
+        if self.answered or len(self._case.of(signal)) >= WAITED_FOR:
+            return False
         awaited = [one for one in self._reason.awaited if one.signal == signal]
         return signal in self._reason.needs and not (awaited and all(map(self._case.came, awaited)))
 

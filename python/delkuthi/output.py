@@ -112,7 +112,8 @@ def as_json(table: Table, outcomes: Sequence[Outcome], takeover: Takeover | None
     """All outcomes as one JSON object; with what became of each constraint where the table is an ARXML file."""
     logs = [outcome.as_dict() for outcome in outcomes]
     for outcome, log in zip(outcomes, logs):
-        log["rows"] = [{**asdict(row), "about": [{"event": table.event_name(number), "time": time} for number, time in row.about]}
+        log["rows"] = [{**asdict(row), "about": [{"event": table.event_name(number), "time": time} for number, time in row.about],
+                        "measured": None if row.measured is None else {name: row.measured[name] for name in row.measured if name != "sketch"}}
                        for row in outcome.rows]
     found = {"delkuthi": VERSION, "library": library_version(), "unit": table.unit, "logs": logs,
              "status": max((outcome.status for outcome in outcomes), default=0)}

@@ -2,10 +2,10 @@
 
 .. code-block:: text
 
-    table  = line*                                each statement on a line of its own; # begins a comment
-    line   = "unit" UNIT                          ns, us, ms, s, min or h: first, if times have units
-           | "dbc" STRING                         a file with the signals, DBC or ARXML, as seen from the table
-           | "event" NAME ["=" KIND] source*      KIND is 0 to 63; 48 to 63 are coloured, and their sources too
+    table  = line*                                one statement on each line; # begins a comment
+    line   = "unit" UNIT                          ns, us, ms, s, min or h; the first statement if times have units
+           | "dbc" STRING                         a DBC or ARXML file with the signals, relative to the table
+           | "event" NAME ["=" KIND] source*      KIND is 0 to 63; kinds 48 to 63 and their sources have colours
            | [STRING] TYPE form [window]          a row, with a name if it has one
 """
 from __future__ import annotations
@@ -111,7 +111,7 @@ def grammar() -> str:
              *form_lines(TYPES)]
     limited = [row_type.name for row_type in TYPES if row_type.has("limit")]
     lines.append("A kind is an event's name or its number; KINDS are two to four of them. A time is a number, with a unit")
-    lines.append(f"behind it where the table has one. An UPPER of {', '.join(limited[:-1])} and {limited[-1]} may be the word none.")
+    lines.append(f"after it if the table has a unit. An UPPER of {', '.join(limited[:-1])} and {limited[-1]} may be the word none.")
     return "\n".join(lines) + "\n"
 
 

@@ -6,7 +6,7 @@ from typing import Iterable
 from .logs import Log
 from .signals import parts
 from .spelling import did_you_mean, nearest
-from .sources import CanSource, ColumnSource, CsvSource, SignalSource, TaskSource
+from .sources import CanSource, ColumnSource, CsvSource, SignalSource, TaskSource, UdpSource
 from .table import Event, Table
 
 
@@ -21,6 +21,8 @@ def warnings(table: Table, log: Log, seen: Iterable[int | None]) -> list[str]:
             continue  # another lane of the same event
         why = _why(named[kind], log) if kind in named else ""
         lines.append(f"{log.path}: the log has no {table.event_name(kind)}{why and f': {why}'}")
+    if log.reader.lost:
+        lines.append(f"{log.path}: the recorder lost {log.reader.lost:,} events: a row may read otherwise with them")
     return list(dict.fromkeys(lines))
 
 
@@ -58,6 +60,9 @@ def _of_frames(source: object, log: Log) -> str:
         layout = log.reader.mapping().layouts[source.signal]
         frame = CanSource(layout.identifier, layout.extended, source.bus)
         return _frame(frame, log, f"that has {source.signal} ", f"{source.signal} {source.condition.text()}")
+    if isinstance(source, UdpSource):
+        came = f"datagrams to the port {source.port} came, but never with data {source.data}"
+        return came if source.port in log.reader.mapping().ports else f"no datagram to the port {source.port} came"
     return _frame(source, log) if isinstance(source, CanSource) else ""
 
 

@@ -33,7 +33,8 @@ def write_formats(folder, table, frames, name="drive"):
     for ending, lines in texts.items():
         (folder / f"{name}.{ending}").write_text("\n".join(lines) + "\n")
     (folder / f"{name}.bin").write_bytes(recording_bytes(steps))
-    return [*(folder / f"{name}.{ending}" for ending in (*texts, "bin")), *_workbook(folder, texts["csv"], name), *_by_python_can(folder, frames, name)]
+    paths = [folder / f"{name}.{ending}" for ending in (*texts, "bin")]
+    return [*paths, *_workbook(folder, texts["csv"], name), *_by_python_can(folder, frames, name)]
 
 
 def _workbook(folder, lines, name):

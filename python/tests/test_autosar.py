@@ -1,5 +1,7 @@
 """AUTOSAR timing requirements as rows: a file for each line of the tables, and files that nobody should have written."""
 import json
+import random
+import re
 import time as clock
 import tracemalloc
 
@@ -116,7 +118,8 @@ ROWS = [
      ['"x" Synchronization a c, tolerance 1 ms'], "InputSynchronization, which the library does not have yet: only the stimuli"),
     ("SYNCHRONIZATION-TIMING-CONSTRAINT", [element("EVENT-OCCURRENCE-KIND", SINGLE), chains("ab", "cb"), STIMULI, time("TOLERANCE", MS)],
      ['"x" Synchronization a c, tolerance 1 ms'], "InputSynchronization"),
-    ("SYNCHRONIZATION-TIMING-CONSTRAINT", [chains("ab", "cb"), RESPONSES, time("TOLERANCE", MS)], [], "the chains do not have one stimulus in common"),
+    ("SYNCHRONIZATION-TIMING-CONSTRAINT", [chains("ab", "cb"), RESPONSES, time("TOLERANCE", MS)], [],
+     "the chains do not have one stimulus in common"),
     ("SYNCHRONIZATION-TIMING-CONSTRAINT", [chains("ab", "cb"), time("TOLERANCE", MS)], [], "its SYNCHRONIZATION-CONSTRAINT-TYPE is missing"),
     ("SYNCHRONIZATION-TIMING-CONSTRAINT", [time("TOLERANCE", MS)], [], "it needs either SCOPE-EVENT-REFS or SCOPE-REFS"),
     ("SYNCHRONIZATION-TIMING-CONSTRAINT", [events("a", "b")], [], "it has no TOLERANCE, which such a row needs"),
@@ -135,7 +138,8 @@ ROWS = [
      "its EXECUTION-ORDER-CONSTRAINT-TYPE is HIERARCHICAL-EOC"),
     ("EXECUTION-ORDER-CONSTRAINT", [element("IGNORE-ORDER-ALLOWED", "true"), executed("Run", "Walk")], [], "it allows that the order is ignored"),
     ("EXECUTION-ORDER-CONSTRAINT", [executed("Run")], [], "it has 1 ORDERED-ELEMENTS"),
-    ("EXECUTION-ORDER-CONSTRAINT", [element("ORDERED-ELEMENTS", named("EOC-GROUP", "g"), named("EOC-GROUP", "h"))], [], "EOC-GROUP among its ORDERED"),
+    ("EXECUTION-ORDER-CONSTRAINT", [element("ORDERED-ELEMENTS", named("EOC-GROUP", "g"), named("EOC-GROUP", "h"))], [],
+     "EOC-GROUP among its ORDERED"),
     ("EXECUTION-TIME-CONSTRAINT", [RUN, NET, time("MINIMUM", MS), time("MAXIMUM", 2 * MS)], ['"x" ExecutionTime runnable "Run", 1 ms .. 2 ms'], None),
     ("EXECUTION-TIME-CONSTRAINT", [RUN, NET], [], "it has no MAXIMUM, which such a row needs"),
     ("EXECUTION-TIME-CONSTRAINT", [RUN, GROSS, time("MAXIMUM", 2 * MS)], ['"x" Delay Run_start -> Run_terminate, 0 .. 2 ms'], None),
@@ -162,7 +166,8 @@ ROWS = [
     ("PERIODIC-EVENT-TRIGGERING", [event(), coded("PERIOD", 3, "1.5")], [], "the CSE-CODE-FACTOR of PERIOD is 1.5, which is no whole number"),
     ("PERIODIC-EVENT-TRIGGERING", [event(), coded("PERIOD", 3, -1)], [], "PERIOD is below 0: its CSE-CODE-FACTOR is -1"),
     ("PERIODIC-EVENT-TRIGGERING", [event(), element("PERIOD", element("CSE-CODE-FACTOR", "5"))], [], "PERIOD has no CSE-CODE"),
-    ("PERIODIC-EVENT-TRIGGERING", [event(), coded("PERIOD", 10, 10**20)], [], "PERIOD is more than 1152921504606846975 ns, the longest time of a row"),
+    ("PERIODIC-EVENT-TRIGGERING", [event(), coded("PERIOD", 10, 10**20)], [],
+     "PERIOD is more than 1152921504606846975 ns, the longest time of a row"),
 ]
 
 
@@ -253,7 +258,8 @@ def test_events_without_a_source(tmp_path):
     assert (line, above) == ("event a", "# no source in the file: /P/T/a (TD-EVENT-COMPLEX)")
     conditional = runnable_event("a", "Ra", "STARTED").replace("</TD-EVENT-SWC-INTERNAL-BEHAVIOR>",
                                                                "<OCCURRENCE-EXPRESSION/></TD-EVENT-SWC-INTERNAL-BEHAVIOR>")
-    assert source(tmp_path, conditional) == ("event a", "# /P/T/a (TD-EVENT-SWC-INTERNAL-BEHAVIOR) has an OCCURRENCE-EXPRESSION, which no source can say")
+    assert source(tmp_path, conditional) == (
+        "event a", "# /P/T/a (TD-EVENT-SWC-INTERNAL-BEHAVIOR) has an OCCURRENCE-EXPRESSION, which no source can say")
     (tmp_path / "events.txt").write_text('event a from column "brake" rises above 5 from csv "Pedal"\n')
     line, above = source(tmp_path, named("TD-EVENT-COMPLEX", "a"), events=str(tmp_path / "events.txt"))
     assert line == 'event a from column brake rises above 5 from csv "Pedal"' and above == f"# from {tmp_path}/events.txt"
@@ -350,7 +356,8 @@ def test_unknown_elements_are_named_and_counted(tmp_path, command):
     status, _, error = command("table", "timing.arxml")
     assert status == 0
     said = [line.partition(": ")[2] for line in error.splitlines()]
-    assert said == ["TIMING-CLOCKS in SWC-TIMING is not known here and was left out", "TD-HEADER in TIMING-DESCRIPTIONS is not known here and was left out",
+    assert said == ["TIMING-CLOCKS in SWC-TIMING is not known here and was left out",
+                    "TD-HEADER in TIMING-DESCRIPTIONS is not known here and was left out",
                     "NEW-CONSTRAINT in TIMING-REQUIREMENTS is not known here and was left out (2 times)",
                     "PHASE in PERIODIC-EVENT-TRIGGERING is not known here and was left out (2 times)",
                     "TIMING-REQUIREMENTS in NEW-TIMING is not known here and was left out", "constraints: 1 taken, 2 weaker, 0 left out"]
@@ -377,7 +384,8 @@ NONE = [
     (WHOLE.replace("<AUTOSAR", '<!DOCTYPE AUTOSAR SYSTEM "file:///etc/passwd"><AUTOSAR', 1).encode(), "a document type (DTD) is refused"),
     (WHOLE.replace(">good<", ">&secret;<").encode(), "not whole XML: undefined entity"),
     (WHOLE.replace(">good<", f">{'x' * 5000}<").encode(), "a text of more than 4,000 characters"),
-    (b"<AUTOSAR>" + b"<A>" * 2000, "elements nested more than 1,000 deep"), (b"<html></html>", "expected an AUTOSAR file, whose first element is AUTOSAR, found html"),
+    (b"<AUTOSAR>" + b"<A>" * 2000, "elements nested more than 1,000 deep"),
+    (b"<html></html>", "expected an AUTOSAR file, whose first element is AUTOSAR, found html"),
     (WHOLE.replace("UTF-8", "UTF-16").encode("utf-16"), None), (WHOLE.encode().replace(b"UTF-8", b"ebcdic-xy"), "not whole XML: "),
     (WHOLE.encode().replace(b"good", b"g\xffd"), "not whole XML: not well-formed"),
     (b"<AUTOSAR/>", "it has no timing requirements"), (WHOLE.replace("/P/T/a", "/P/T/z").encode(), "no constraint of it can be taken"),
@@ -445,3 +453,24 @@ def test_what_the_log_cannot_have_is_said(tmp_path, command):
     (tmp_path / "drive.btf").write_text("#timeScale ns\n5,C,0,R,Ra,0,start\n")
     error = command("check", "timing.arxml", "drive.btf")[2]
     assert error.splitlines()[0] == "drive.btf: the log has no b: the table does not say what it is in such a log (from ..)"
+
+
+def test_damaged_files_are_taken_or_refused(tmp_path):
+    """Each of 500 damaged files is a table, or an error of the file with one line; whatever is taken is one that the library accepts."""
+    rng, path, refused = random.Random(9), tmp_path / "timing.arxml", 0
+    constraints = [named(kind, f"x{at}", *content) for at, (kind, content, _, _) in enumerate(ROWS)]
+    whole = arxml(package("P", extension("SWC-TIMING", "T", EVENTS, [GOOD, *constraints])))
+    words = sorted({*re.findall(r"[A-Z-]{3,}|/P/T/\w+|\d+", whole)})
+    for _ in range(500):
+        text = whole
+        for _ in range(rng.randint(1, 12)):
+            old, new = rng.choice(words), rng.choice([*words, "", "<", "&", "\u2028", "-5", "99999999999999999999999"])
+            text = text.replace(old, new, rng.choice([1, 1, 5, -1])) if rng.random() < 0.5 else text.replace(f">{old}<", f">{new}<", 2)
+        path.write_text(text, encoding="utf-8")
+        try:
+            found = take_over(str(path))
+            found.table("ns")
+            assert len(found.table().rows) == sum(len(entry.rows) for entry in found.entries)
+        except LogError as error:
+            refused += str(error).startswith(str(path))
+    assert 20 < refused < 480

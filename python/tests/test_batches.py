@@ -101,7 +101,8 @@ def as_asc(rng, lines):
             octets = data.hex(" ").upper() if rng.random() < 0.99 else "01 0"
             name = " Name" if named and rng.random() < 0.99 else ""
             way = "Rx" if rng.random() < 0.99 else rng.choice(["TxRq", "Tx", "Rz"])
-            text += f"   {time // 10**6}.{time % 10**6:06d} CANFD   {bus[-1]} {way}   {0x100 + kind:X}{name}  1 0 9 {len(data)} {octets} 1 2 3 {0:X}\n"
+            stamp = f"{time // 10**6}.{time % 10**6:06d}"
+            text += f"   {stamp} CANFD   {bus[-1]} {way}   {0x100 + kind:X}{name}  1 0 9 {len(data)} {octets} 1 2 3 0\n"
             continue
         bytes_of = data.hex(" ").upper()
         rest = rng.choice(["", "  Length = 5 BitCount = 4"]) if rng.random() < 0.9 else rng.choice([" 0", " AB", "A"])
@@ -346,6 +347,8 @@ def test_measures_of_many_steps():
     for number in range(300):
         rows = [random_row(rng, rng.choice(TYPES)) for _ in range(2)]
         rows += [Row.of(name, source=0, target=1, lower=rng.choice([0, 0, 2]), upper=rng.choice([5, 9])) for name in ("Delay", "StrongDelay")]
+        rows += [Row.of("Burst", event=1, maximum=rng.choice([1, 2, 4]), length=rng.choice([0, 2]), minimum=rng.choice([0, 1])),
+                 Row.of("Order", source=0, target=1), Row.of("Sporadic", event=0, lower=1, upper=60, jitter=9, minimum=rng.choice([0, 1]))]
         rows += [Row.of("Repeat", event=0, span=rng.choice([1, 2, 3]), lower=rng.choice([0, 3]), upper=rng.choice([30, 2**64 - 1]))]
         table, steps, time, faults = Table(rows), [], 0, rng.choice([0, 0, 0.02, 0.2])
         for _ in range(rng.randint(0, 60)):

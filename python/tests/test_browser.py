@@ -19,7 +19,7 @@ pytestmark = pytest.mark.skipif(BROWSER is None, reason="no browser (Debian: chr
 #: Measures the page, and writes what it found at its end. What a box of its own scrolls is not cut off.
 _MEASURE = """
   const wide = document.documentElement.clientWidth, cut = [];
-  const scrolls = one => one.closest(".picture, details.violations");
+  const scrolls = one => one.closest(".picture, details.violations") && !matchMedia("(width: 703px)").matches;
   for (const one of document.querySelectorAll("body *")) {
     const box = one.getBoundingClientRect();
     if (box.width && !scrolls(one) && (box.left < -1 || box.right > wide + 1)) cut.push(one.outerHTML.slice(0, 90));
@@ -80,9 +80,9 @@ def pages(tmp_path_factory):
         f"1600000000.{number:06d},{LONG_NAME if number % 3 else 'b'}\n" for number in range(0, 500000, 7001)))
     (folder / "b.csv").write_text("time,event\n" + "".join(f"{10 * number},a{number}\n" for number in range(40)))
     (folder / "c.csv").write_text("time,event\n" + "".join(f"{10 * number},{'ab'[number % 2]}{number % 60 // 2}\n" for number in range(6000)))
-    return {"drive": page_of(Table.read(EXAMPLES / "drive.txt"), EXAMPLES / "drive.csv"),
-            "long": page_of(LONG, folder / "a.csv", folder / "nowhere.csv"),
-            "broken": page_of(many_rows(40), folder / "b.csv"), "large": page_of(many_rows(30), folder / "c.csv")}
+    logs = {"drive": (Table.read(EXAMPLES / "drive.txt"), EXAMPLES / "drive.csv"), "long": (LONG, folder / "a.csv", folder / "nowhere.csv"),
+            "broken": (many_rows(40), folder / "b.csv"), "large": (many_rows(30), folder / "c.csv")}
+    return {name: page_of(*given, violations=str(folder / name)) for name, given in logs.items()}
 
 
 def right(found, dark):
@@ -102,8 +102,8 @@ def test_nothing_is_cut_off(tmp_path, pages, dark):
 
 def test_on_paper(tmp_path, pages):
     """A4 without its margins is 186 mm wide, 703 px; what is for print is measured as if it were for all."""
-    frames = {name: (page.replace("@media screen and", "@media speech and").replace("@media print", "@media all"), 703)
-              for name, page in pages.items()}
+    frames = {name: (page.replace("@media screen and", "@media speech and").replace("@media print", "@media all")
+                     .replace('<details class="violations">', '<details class="violations" open>'), 703) for name, page in pages.items()}
     for found in run(tmp_path, frames, _MEASURE).values():
         right(found, False)
 

@@ -1,4 +1,5 @@
 """The command: statuses, options, many logs, text and bytes, and what the program of the same name does."""
+import gzip
 import io
 import json
 import os
@@ -25,6 +26,25 @@ def kept(tmp_path):
     (tmp_path / "kept.txt").write_text(KEPT)
     (tmp_path / "kept.csv").write_text("time,event\n1,a\n3,b\n")
     return tmp_path
+
+
+def test_a_trace_that_is_packed(command, kept):
+    for name, opened in (("a.json", open), ("a.json.gz", gzip.open)):
+        assert command("check", "kept.txt", "kept.csv", "--trace", name)[0] == 0
+        with opened(kept / name, "rt", encoding="utf-8") as file:
+            assert json.load(file)["traceEvents"]
+
+
+def test_text_is_80_columns_wide(command):
+    """Messages and measures, of a log and of a part of it; with 0 each message is a line, and other widths are taken."""
+    for words in (["drive.txt", "drive.csv"], ["bench/bus.txt", "bench/bus.log"], ["bench/tasks.txt", "bench/tasks.btf"]):
+        words = ["check", *words, "--measure"]
+        for more in ([], ["--cut"], ["--from", "+50 ms", "--to", "+200 ms"]):
+            out = command(*words, *more, cwd=EXAMPLES)[1]
+            assert out and max(map(len, out.splitlines())) <= 80, out
+            assert command(*words, *more, "--width", "0", cwd=EXAMPLES)[1] == re.sub(r"\n {4,7}(?! )(?![0-9,]+ judged|least )", " ", out)
+    assert max(map(len, command(*words, "--width", "120", cwd=EXAMPLES)[1].splitlines())) > 80
+    assert command(*words, "--width", "20", cwd=EXAMPLES)[0] == 2
 
 
 def test_the_four_statuses(command, kept):

@@ -55,8 +55,10 @@ def options(chance):
     found = []
     for some in (["--equal", "drop"], ["--equal", "later"], ["--unsorted", "sort"], ["--round"], ["--from-zero"], ["--as-stamped"],
                  ["--no-close"], ["--from", chance.choice(["brake_pedal", "wheel_speed", "100 ms", "+1 ms", "-5", "x", ""])],
-                 ["--to", chance.choice(["camera_frame", "200 ms", "+9 s", "9" * 30])], ["--encoding", chance.choice(["cp1252", "utf-16", "ascii"])], ["--time-unit", "ms"],
-                 ["--format", chance.choice(["csv", "asc", "blf", "btf", "trc", "log", "xlsx", "bin", "db"])], ["--until", chance.choice(["300 ms", "9" * 30, "1152921504606846976", "1.5", "-1", "x"])]):
+                 ["--to", chance.choice(["camera_frame", "200 ms", "+9 s", "9" * 30])],
+                 ["--encoding", chance.choice(["cp1252", "utf-16", "ascii"])], ["--time-unit", "ms"],
+                 ["--format", chance.choice(["csv", "asc", "blf", "btf", "trc", "log", "xlsx", "bin", "db"])],
+                 ["--until", chance.choice(["300 ms", "9" * 30, "1152921504606846976", "1.5", "-1", "x"])]):
         if chance.randrange(24 if some[0] in ("--format", "--encoding") else 4) == 0:
             found += some
     return found

@@ -85,7 +85,8 @@ def test_asc_frames_of_every_length(tmp_path):
 def test_asc_lines_that_are_no_frames(tmp_path):
     path = tmp_path / "a.asc"
     text = BASE + ("0.1 1 1A0 TxRq d 1 01\n0.2 1 1A0 Tx d 1 01\n0.3 CANFD 1 Tx ErrorFrame Not Acknowledge error fffe c7 31ca Arb. 556 44\n"
-                   "0.4 CANFD 1 TxRq 1A0 1 0 9 12 01 02 03 04 05 06 07 08 09 0A 0B 0C\n0.5 1 Statistic: D 1 R 0\n0.6 1 1A0 Rx r\n0.7 1 ErrorFrame ECC: 10\n"
+                   "0.4 CANFD 1 TxRq 1A0 1 0 9 12 01 02 03 04 05 06 07 08 09 0A 0B 0C\n"
+                   "0.5 1 Statistic: D 1 R 0\n0.6 1 1A0 Rx r\n0.7 1 ErrorFrame ECC: 10\n"
                    "0.8 CANFD 1 Rx 1A0 0 0 0 0 100 10 10\n0.9 CANFD 1 Rx 1A0 0 0 0 0 100 10 0\n")
     assert [(time // 1000, kinds) for time, kinds, _ in read(path, text)] == [
         (100, ()), (200, (0,)), (300, ()), (400, ()), (500, ()), (600, ()), (700, ()), (800, ()), (900, (0,))]
@@ -100,6 +101,7 @@ def test_asc_lines_that_are_no_frames(tmp_path):
     ("0.1 1 1A0 Rx", "expected a line of ASC"),
     ("0.1 1 1A0 Rz d 1 01", "expected a line of ASC"),
     ("0.1", "expected a line of ASC"),
+    ("0.1 1", "expected a line of ASC"),
     ("0,1 1 1A0 Rx d 1 01", "expected a line of ASC"),
     ("x0.1 1 1A0 Rx d 1 01", "expected a line of ASC"),
     ("0.1 1 EngineData Rx d 1 01", "expected the number of an identifier, found EngineData; a log with the symbolic names of frames"),
@@ -132,7 +134,7 @@ def test_a_line_in_another_encoding(tmp_path, before):
     path, lines = tmp_path / "a.csv", "".join(f"{number},a\n" for number in range(before))
     for rest in ("", "99999,a\n"):
         text = f"time,event\n{lines}{before},Tür\n{rest}".encode("cp1252")
-        expected = f"a.csv:{before + 2}: byte {len(str(before)) + 3} of the line, 0xFC, is not text in utf-8: --encoding says what the log is written in"
+        expected = f"a.csv:{before + 2}: byte {len(str(before)) + 3} of the line, 0xFC, is not text in utf-8: --encoding says what the log is"
         assert error(path, text, MS).startswith(expected)
         with pytest.raises(Exception) as found:
             list(Log(path, MS).steps())
@@ -236,7 +238,8 @@ def test_a_mistake_does_not_hide_those_below(first):
 def test_more_events_than_kinds_and_rows_of_the_first(tmp_path, declared):
     """Events that no row is about may be as many as one likes."""
     names = [f"e{number}" for number in range(declared)]
-    table = Table.from_text("unit ms\n" + "".join(f"event {name}\n" for name in names) + "Delay e0 -> e1, 0 ms .. 5 ms\nRepeat e2 span 1, 1 ms .. none\n")
+    events = "".join(f"event {name}\n" for name in names)
+    table = Table.from_text(f"unit ms\n{events}Delay e0 -> e1, 0 ms .. 5 ms\nRepeat e2 span 1, 1 ms .. none\n")
     path = tmp_path / "a.csv"
     path.write_text("time,event\n" + "".join(f"{time},{name}\n" for time, name in enumerate([*names, *names])))
     found = check(table, str(path), measured=True)
@@ -305,13 +308,15 @@ def test_a_column_that_is_not_there(tmp_path):
 
 def test_a_task_and_a_signal_that_are_not_there(tmp_path):
     """What a row asks about is named, with what is like it; of events that no row asks about nothing is said."""
-    table = Table.from_text('unit us\nevent a from task "T1O" start\nevent b from task "T10" terminate\nevent idle from task "T99" start\nOrder a -> b\n')
+    table = Table.from_text('unit us\nevent a from task "T1O" start\nevent b from task "T10" terminate\nevent idle from task "T99" start\n'
+                            "Order a -> b\n")
     (tmp_path / "a.btf").write_text("#timeScale us\n1,C,0,T,T10,0,start\n2,C,0,T,T10,0,preempt\n")
     assert check(table, str(tmp_path / "a.btf")).warnings == [
         f"{tmp_path}/a.btf: the log has no a: no task T1O (did you mean T10?)",
         f"{tmp_path}/a.btf: the log has no b: the task T10 came, but no terminate of it"]
     (tmp_path / "a.dbc").write_text(DBC)
-    signals = Table.from_text('unit us\ndbc "a.dbc"\nevent a from signal State rises above 99\nevent b from can 0x200\nOrder a -> b\n', str(tmp_path / "t.txt"))
+    text = 'unit us\ndbc "a.dbc"\nevent a from signal State rises above 99\nevent b from can 0x200\nOrder a -> b\n'
+    signals = Table.from_text(text, str(tmp_path / "t.txt"))
     (tmp_path / "a.log").write_text("(0.000001) can0 200#00\n")
     assert check(signals, str(tmp_path / "a.log")).warnings == [f"{tmp_path}/a.log: the log has no a: no frame 0x100 that has State came"]
     (tmp_path / "a.log").write_text("(0.000001) can0 200#00\n(0.000002) can0 100#00\n")
@@ -357,8 +362,9 @@ def trace(*lines):
 def test_instances_are_kept_apart(tmp_path):
     """Two runs at once, each of 3 us; as one stream they would be runs of another length, or out of order."""
     path = tmp_path / "a.btf"
-    path.write_text(trace((1, "T10", 0, "start"), (3, "T10", 0, "preempt"), (3, "T10", 1, "start"), (4, "Filter", 0, "start"), (5, "Filter", 1, "start"),
-                          (6, "T10", 1, "terminate"), (6, "Filter", 0, "terminate"), (7, "T10", 0, "resume"), (7, "Filter", 1, "terminate"),
+    path.write_text(trace((1, "T10", 0, "start"), (3, "T10", 0, "preempt"), (3, "T10", 1, "start"), (4, "Filter", 0, "start"),
+                          (5, "Filter", 1, "start"), (6, "T10", 1, "terminate"),
+                          (6, "Filter", 0, "terminate"), (7, "T10", 0, "resume"), (7, "Filter", 1, "terminate"),
                           (8, "T10", 0, "terminate")))
     found = check(Table.from_text(APART), str(path), measured=True)
     assert found.error is None and [row.verdict for row in found.rows] == ["kept"] * 4

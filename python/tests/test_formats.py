@@ -18,7 +18,7 @@ FIRST = {"csv": 2, "log": 1, "asc": 4, "bin": 1, "xlsx": 2, "blf": 1, "trc": 19,
 
 def said(table, path, **policy):
     """Everything that a check says, without the names of files and with the frames counted from 1."""
-    outcome = check(table, str(path), Policy(round=True, **policy), measured=True)
+    outcome = check(table, str(path), Policy(round=True, **policy), measured=True, violations=f"{path}.violations")
     first = FIRST[path.suffix[1:]]
 
     def plain(text):
@@ -30,7 +30,9 @@ def said(table, path, **policy):
     counts = (outcome.counts.lines, outcome.counts.events, outcome.steps, outcome.clock, outcome.time_format)
     # What a log has in the place of an event that never came is not the same in each format.
     missing = [re.sub(r"(the log has no \S+?):.*", r"\1", plain(warning)) for warning in outcome.warnings]
-    return rows, counts, missing, plain(outcome.error), outcome.page
+    violations = [(one.row, one.violation, one.what, one.value, one.by, one.begin, one.end, one.due, one.line - first)
+                  for one in outcome.violations or ()]
+    return rows, counts, missing, plain(outcome.error), outcome.page, violations
 
 
 def test_the_drive(tmp_path):

@@ -151,9 +151,8 @@ def test_the_same_page_each_time(command, tmp_path):
         assert command(*words, env={**WHEN, "PYTHONHASHSEED": "random"})[0] == 1
         pages.append((tmp_path / "a.html").read_bytes())
     assert pages[0] == pages[1] and b"2026-11-17 00:00:00 UTC" in pages[0]
-    assert command(*words, env={**os.environ, "SOURCE_DATE_EPOCH": "noon"}) == (
-        2, command(*words[:3])[1], "drive.csv: the log has no cabin_light\nSOURCE_DATE_EPOCH: expected seconds since 1970, found noon\n"
-        .replace("drive.csv", str(EXAMPLES / "drive.csv")))
+    refused = command(*words, env={**os.environ, "SOURCE_DATE_EPOCH": "noon"})
+    assert refused == (2, "", "SOURCE_DATE_EPOCH: expected seconds since 1970, found noon\n")
 
 
 def test_provenance(command, tmp_path):
@@ -169,6 +168,14 @@ def test_provenance(command, tmp_path):
     assert "build 17 <x>" in text and "bench HIL 3=B" in text
     status, _, error = command(*words[:3], "--note", "build", cwd=EXAMPLES)
     assert status == 2 and "expected NAME=TEXT such as build=1234, found build" in error
+
+
+def test_long_notes_are_at_the_end_of_the_page():
+    notes = [("build", "17"), ("remark", "x" * 61), *((f"n{number}", str(number)) for number in range(9))]
+    page = page_of(SHORT, EXAMPLES / "drive.csv", notes=notes)
+    header, rest = page.split("</header>")
+    assert re.findall(r" · (\w+) <b>", header) == ["build", "n0", "n1", "n2", "n3", "n4"]
+    assert re.findall(r"<dt>(\w+)</dt><dd>[^<]*</dd>", rest)[-11:] == [name for name, _ in notes]
 
 
 def test_the_files_of_signals_and_the_standard_input(command, tmp_path):

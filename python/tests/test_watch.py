@@ -1,6 +1,7 @@
 """A live bus: python-can's virtual one; ticks by the clock; markers and their withdrawal."""
 import io
 import os
+import pickle
 import signal
 import subprocess
 import sys
@@ -300,6 +301,24 @@ def test_what_is_said_is_said_of_the_whole_watch(drawn):
                 with mock.patch.object(explain, "FORGET_AFTER", 10**9):
                     why = reasons_of(TABLE, taken, {row: watch.number}, lambda place: f"step {place}", watch.time_format, False)[row]
                 assert text.endswith(f": {why.text}")
+
+
+def test_a_run_that_never_ends_is_not_waited_for_without_end():
+    """What comes after a break is not gathered, whether the answer has come or never comes."""
+    table = Table.from_text("unit us\nevent a = 0\nevent b = 1\nevent c = 2\nevent d = 3\n"
+                            "ExecutionTime a -> b, preempt c, resume d, 0 us .. 5 us\nStrongSynchronization a b, tolerance 1 us\n")
+    for answer in (False, True):
+        said = []
+        watch = Watch(table, said.append, io.BytesIO(), False)
+        watch.event(0, 10)
+        watch.tick(20)
+        if answer:
+            watch.event(1, 30)
+        with mock.patch.object(explain, "WAITED_FOR", 50):
+            for number in range(2000):
+                watch.event((0, 2, 3)[number % 3], 40 + number)
+        kept = [len(pickle.dumps([(events.times, events.places) for events in history._case.events.values()])) for history in watch._histories]
+        assert len(said) == (4 if answer else 2) and max(kept) < 3000
 
 
 def resident():

@@ -38,7 +38,8 @@ def test_a_wheel_is_all_that_is_needed(tmp_path):
     done = subprocess.run([bin_folder / "delkuthi", "check", "drive.txt", "drive.csv"], cwd=EXAMPLES, env=clean, capture_output=True, text=True)
     assert (done.returncode, done.stdout) == (1, (EXAMPLES / "messages.txt").read_text(encoding="utf-8"))
     shared = tmp_path / "home/share/delkuthi/examples"
-    done = subprocess.run([bin_folder / "delkuthi", "check", "bench/samples.txt", "bench/samples.csv"], cwd=shared, env=clean, capture_output=True, text=True)
+    words = ["check", "bench/samples.txt", "bench/samples.csv"]
+    done = subprocess.run([bin_folder / "delkuthi", *words], cwd=shared, env=clean, capture_output=True, text=True)
     assert done.returncode == 1 and "broken" in done.stdout, done.stderr
     page = tmp_path / "drive.html"
     done = subprocess.run([bin_folder / "delkuthi", "check", "drive.txt", "drive.csv", "--html", page], cwd=EXAMPLES, env=clean, capture_output=True)
@@ -57,7 +58,7 @@ def test_the_sources_are_enough_for_a_wheel(tmp_path):
     names = []
     for number, folder in enumerate((ROOT / "python", tmp_path / archive.removesuffix(".tar.gz"))):
         (tmp_path / str(number)).mkdir()
-        wheel = subprocess.run([*backend, "build_wheel", tmp_path / str(number)], cwd=folder, capture_output=True, text=True, check=True).stdout.strip()
-        with zipfile.ZipFile(tmp_path / str(number) / wheel) as file:
+        done = subprocess.run([*backend, "build_wheel", tmp_path / str(number)], cwd=folder, capture_output=True, text=True, check=True)
+        with zipfile.ZipFile(tmp_path / str(number) / done.stdout.strip()) as file:
             names.append(file.namelist())
     assert names[0] == names[1] and any(name.endswith("share/delkuthi/examples/bench/tasks.btf") for name in names[0])

@@ -96,7 +96,7 @@ class _Measurement:
             return self._flexible(words[2:])
         if len(words) > 2 and words[1].isdigit():
             return self._classic(words[1], words[2:])
-        if len(words) < 3:
+        if len(words) == 1 or words[1].isdigit():
             raise self._error(_EXAMPLE)
         self._reader.other_lines += 1
         return ()

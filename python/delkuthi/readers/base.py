@@ -103,6 +103,8 @@ class Reader:
         self.state: dict[str, Any] = {}
         #: Lines that say nothing, such as blank ones, stamps that were rounded, and lines about what no table can name.
         self.skipped = self.rounded = self.other_lines = 0
+        #: Events that the recorder itself has lost.
+        self.lost = 0
         #: The buses of the frames that were read, as the log names them.
         self.buses: set[str] = set()
         #: What stands where an event of the table could, some of it.

@@ -29,6 +29,7 @@ _ERRORS = (2, 73, 104)
 _EXTENDED, _REMOTE, _REMOTE_64, _REQUEST = 0x80000000, 0x80, 0x10, 2
 #: The flags of an object whose stamp is in tens of microseconds; all others are in nanoseconds.
 _TEN_MICROSECONDS = 1
+_SHORT = "an object of BLF is too short"
 
 
 class _Columns(NamedTuple):
@@ -153,8 +154,8 @@ class _Objects:
             head = _OBJECT.unpack_from(data, begin) if begin + _OBJECT.size <= len(data) else None
             if head is None or begin + head[3] > len(data):
                 break
-            wrong = "an object of BLF is too short" if head[3] < _OBJECT.size else self._object(data[begin : begin + head[3]], head[2], head[4], frames)
             place = begin + head[3]
+            wrong = _SHORT if head[3] < _OBJECT.size else self._object(data[begin:place], head[2], head[4], frames)
         self.rest = data[place:]
         return _Columns(*zip(*frames)) if frames else _Columns((), (), (), ()), wrong
 
@@ -169,7 +170,7 @@ class _Objects:
             frames.append((stamp * 10_000 if flags == _TEN_MICROSECONDS else stamp, *_frame(data, _OBJECT.size + header.size, kind)))
             return ""
         except struct.error:
-            return "an object of BLF is too short"
+            return _SHORT
 
 
 def _frame(data: bytes, place: int, kind: int) -> tuple[int, int | None, bytes]:

@@ -60,3 +60,4 @@ class SeveralReader(Reader):
             yield number << _BITS, one
             before = before[0] + one.skipped, before[1] + one.rounded, before[2] + one.other_lines
             self.skipped, self.rounded, self.other_lines = before
+            self.lost += one.lost

@@ -46,7 +46,7 @@ from .violations import suffix_of, write_violations
 from .writing import NotWritten, complain, give_up_output, out, write
 
 KEPT, BROKEN, REFUSED, NOT_WRITTEN, INTERRUPTED = 0, 1, 2, 3, 130
-#: A log of so many bytes takes long enough for a progress bar.
+#: The size in bytes from which a log gets a progress bar.
 BAR_FROM = 4_000_000
 
 _EXAMPLES = """\
@@ -159,7 +159,7 @@ def _write_outputs(given: argparse.Namespace, table: Table, how: Policy, outcome
 
 
 def _check_one(given: argparse.Namespace, how: Policy, path: str | list[str], spool: str | None) -> Outcome:
-    """One of many logs, in a process of its own."""
+    """Checks one of many logs, in a separate process."""
     return check(read_table(given), path, how, exercised=given.exercised, measured=_measured(given), violations=spool)
 
 

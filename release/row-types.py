@@ -18,7 +18,7 @@ import row_machines
 from row_list import MADE, ROOT, TYPES, declared, having, length, listed, names, one, small, snake, text_of, wrapped
 from delkuthi.fields import MOST
 from delkuthi.library import NEWEST_EDITION
-from delkuthi.text import form_lines
+from delkuthi.text import grammar
 
 
 def counted():
@@ -55,9 +55,9 @@ def contract():
     return first + second + "| type | name | fields | length | edition |\n|---|---|---|---|---|\n" + "".join(lines) + "\n" + third + fourth
 
 
-def grammar():
-    """The lines of the grammar that have the types."""
-    return "".join(f"    {line}\n" for line in form_lines(TYPES))
+def manual_grammar():
+    """The grammar of text tables, as a block of code."""
+    return "".join(f"    {line}\n" if line else "\n" for line in grammar().splitlines())
 
 
 def asked():
@@ -256,7 +256,7 @@ FIRST_EDITION = "/// The last type that the first edition of the table has.\ncon
 # A file, the name of the part, and what makes it; a part without a name is the whole file.
 PARTS = (
     ("docs/CONTRACT.md", "types", contract),
-    ("python/README.md", "forms", grammar),
+    ("python/README.md", "grammar", manual_grammar),
     ("python/README.md", "rows", asked),
     ("python/README.md", "measures", measured),
     ("include/delkuthi.h", "table", header_table),

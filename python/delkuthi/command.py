@@ -19,7 +19,9 @@ from . import library as lib
 from .annotations import STYLES, annotated
 from .autosar import is_arxml
 from .check import Outcome, check
+from .completion import add_completion
 from .database import DatabaseError
+from .editor_grammar import textmate
 from .evidence import evidence_of
 from .fleet_commands import add_fleet
 from .html_page import as_html
@@ -30,6 +32,7 @@ from .monitor import report
 from .log_commands import join_logs, late_stamps, record, shrink
 from .output import COLUMNS, as_json, as_junit, as_text, overall, wrapped
 from .plot import PlotMissing, write_plot
+from .propose import add_propose
 from .provenance import provenance
 from .results import result_of, write_results
 from .options import add_databases, add_edges, add_options, add_timing, columns, policy, positive, read_table, refuse_windows, timing_table
@@ -50,22 +53,22 @@ _EXAMPLES = """\
 examples:
   delkuthi check brake.txt drive.csv                    a message for each broken row; status 1 if there is one
   delkuthi check brake.txt drive.log --html drive.html  the same as a page, with pictures
-  delkuthi check brake.txt drive.asc --dbc car.dbc --measure   signals by name; what rows measure beside what they ask
+  delkuthi check brake.txt drive.asc --dbc car.dbc --measure   signals by name; what each row measured
   delkuthi check brake.txt part_*.log --as-one          a drive in several files
-  delkuthi check brake.txt drive.csv --cut              a log that is a part of something longer
+  delkuthi check brake.txt drive.csv --cut              a log that is part of something longer
   delkuthi check brake.txt drive.csv --from ignition_on --to +90s --violations all.csv
   delkuthi check tasks.txt trace.btf --trace out.json   a scheduler trace; a file for Perfetto
   delkuthi check brake.txt logs/*.blf --jobs 4 --junit result.xml --exercised
-  delkuthi watch brake.txt socketcan:can0               says a broken row while frames come
-  delkuthi table brake.txt -o table.bin                 the bytes that the library reads; and back to text
+  delkuthi watch brake.txt socketcan:can0               checks a live bus and reports a broken row at once
+  delkuthi table brake.txt -o table.bin                 text to the bytes that the library reads, and back
   delkuthi check timing.arxml trace.btf                 AUTOSAR timing requirements on a scheduler trace
-  delkuthi table --grammar                              how a text table is written
-  delkuthi shrink brake.txt drive.csv "brake light"     the few lines that break the row by themselves
-  delkuthi stamps brake.txt drive.csv "wheel speed" "1 ms"  the row where stamps may be late by up to 1 ms
+  delkuthi table --grammar                              the grammar of text tables
+  delkuthi shrink brake.txt drive.csv "brake light"     the few lines that are enough to break the row
+  delkuthi stamps brake.txt drive.csv "wheel speed" "1 ms"  the verdict if stamps may be up to 1 ms late
   delkuthi join brake.txt bus.log marker.csv -o drive.bin
 
-status: 0 every row kept, 1 a row broken, 2 something refused or not foreseen, 3 an output not written, 130 interrupted.
-Without arguments it reads table.bin and recording.bin where it stands, and prints the report on them.
+status: 0 every row is kept, 1 a row is broken, 2 something was refused or not foreseen, 3 an output could not be written, 130 interrupted.
+Without arguments the command reads table.bin and recording.bin in the current folder and prints the report on them.
 """
 
 
@@ -218,8 +221,8 @@ def _trace(path: str, table: Table, how: Policy, outcomes: Sequence[Outcome]) ->
 
 
 def _table(given: argparse.Namespace) -> int:
-    if given.grammar:
-        out(grammar())
+    if given.grammar or given.textmate:
+        out(textmate() if given.textmate else grammar())
         return KEPT
     if given.table is None:
         raise LogError("delkuthi table", "", "expected a table, or --grammar")
@@ -307,64 +310,65 @@ def _add_check(commands: Any) -> None:
     one.add_argument("log", metavar="LOG", nargs="+",
                      help=".csv, .tsv, .xlsx, .log (candump), .asc, .blf, .trc, .btf, .pcap, .pcapng, .tessla, .bin; a CTF folder, .mf4, what "
                           "python-can reads; - is the standard input")
-    one.add_argument("--exercised", action="store_true", help="a row that the log never exercises is a failure: status 1")
-    one.add_argument("--measure", action="store_true", help="what each row measures beside what it asks, and the margin to its limit")
-    one.add_argument("--as-one", action="store_true", help="the logs are one drive, one behind the other")
+    one.add_argument("--exercised", action="store_true", help="a row that the log never exercises counts as a failure (status 1)")
+    one.add_argument("--measure", action="store_true", help="print what each row measured, what it asks, and the margin to its limit")
+    one.add_argument("--as-one", action="store_true", help="the logs are consecutive parts of one drive")
     one.add_argument("--violations", metavar="FILE", type=_violations_file,
-                     help="every instance that is outside its limits or missing, with its place and by how much: .csv or .json")
-    one.add_argument("--json", action="store_true", help="all of it as JSON on standard output")
-    one.add_argument("--junit", metavar="FILE", help="a JUnit file for all logs")
-    one.add_argument("--page", action="store_true", help="the library's printed page instead of the messages")
-    one.add_argument("--keep", metavar="FILE", help="the results as JSON, a line for each log, for delkuthi merge and compare")
-    one.add_argument("--annotations", choices=STYLES, help="lines that a build server shows beside the log")
-    one.add_argument("--html", metavar="FILE", help="a page with pictures that needs no network")
+                     help="write every instance that is outside its limits or missing, with its place and amount, as .csv or .json")
+    one.add_argument("--json", action="store_true", help="print everything as JSON on standard output")
+    one.add_argument("--junit", metavar="FILE", help="write a JUnit file for all logs")
+    one.add_argument("--page", action="store_true", help="print the library's page instead of the messages")
+    one.add_argument("--keep", metavar="FILE", help="write the results as JSON, one line for each log, for delkuthi merge and compare")
+    one.add_argument("--annotations", choices=STYLES, help="print lines that a build server shows beside the log")
+    one.add_argument("--html", metavar="FILE", help="write a page with pictures that needs no network")
     one.add_argument("--note", metavar="NAME=TEXT", type=_note, action="append", default=[],
-                     help="say this on the page and with the results, such as build=1234")
-    one.add_argument("--plot", metavar="FILE", help="a picture: SVG, or PNG by matplotlib")
-    one.add_argument("--trace", metavar="FILE", help="a trace for Perfetto or chrome://tracing; .json.gz is packed")
+                     help="add this note to the page and the results, such as build=1234")
+    one.add_argument("--plot", metavar="FILE", help="write a picture, as SVG, or as PNG with matplotlib")
+    one.add_argument("--trace", metavar="FILE", help="write a trace for Perfetto or chrome://tracing; .json.gz packs it")
     one.add_argument("--jobs", metavar="N", type=positive, default=1, help="check N logs at a time")
-    one.add_argument("--quiet", action="store_true", help="messages only, no last line")
+    one.add_argument("--quiet", action="store_true", help="print only messages, no last line")
     one.add_argument("--width", metavar="COLUMNS", type=columns, default=COLUMNS,
-                     help=f"text has so many columns ({COLUMNS}); with 0 each message is one line")
+                     help=f"wrap text at this many columns ({COLUMNS}); 0 prints each message on one line")
     add_edges(one)
     add_options(one)
     one.set_defaults(run=_check)
 
 
 def _add_watch(commands: Any) -> None:
-    one = commands.add_parser("watch", help="check a bus while frames come")
+    one = commands.add_parser("watch", help="check a live bus")
     one.add_argument("table", metavar="TABLE")
     one.add_argument("bus", metavar="BUS", help="INTERFACE:CHANNEL of python-can, such as socketcan:can0")
-    one.add_argument("--seconds", type=_seconds, metavar="S", help="close after so long; else at q, an interrupt or SIGTERM")
+    one.add_argument("--seconds", type=_seconds, metavar="S", help="close after S seconds; otherwise at q, an interrupt or SIGTERM")
     one.add_argument("--period", type=_seconds, metavar="S", default=0.01,
-                     help="tick so often while nothing comes, where the library has no deadlines (0.01)")
-    one.add_argument("--lag", type=_seconds, metavar="S", default=0.05, help="ticks stay so far behind the clock (0.05)")
+                     help="tick every S seconds while no frame comes, if the library gives no deadline (0.01)")
+    one.add_argument("--lag", type=_seconds, metavar="S", default=0.05, help="keep ticks S seconds behind the clock (0.05)")
     one.add_argument("--record", metavar="FILE", help="keep the recording")
-    one.add_argument("--bitrate", type=positive, metavar="N", help="of the bus, where the interface sets it")
+    one.add_argument("--bitrate", type=positive, metavar="N", help="the bit rate of the bus, if the interface sets it")
     add_databases(one)
     one.set_defaults(run=_watch)
 
 
 def _add_table(commands: Any) -> None:
-    one = commands.add_parser("table", help="text to bytes, bytes to text, text to its normal form")
+    one = commands.add_parser("table", help="turn text into bytes, bytes into text, text into its normal form")
     one.add_argument("table", metavar="TABLE", nargs="?")
-    one.add_argument("-o", "--output", metavar="FILE", help="where to; text goes to bytes and bytes to text")
+    one.add_argument("-o", "--output", metavar="FILE", help="the file to write; text becomes bytes, and bytes become text")
     one.add_argument("--text", action="store_true", help="write text, in its normal form")
     one.add_argument("--bytes", action="store_true", help="write bytes")
-    one.add_argument("--unit", choices=list(UNITS), help="the unit of a table that has none, for its text; of an ARXML file another one")
-    one.add_argument("--json", action="store_true", help="of an ARXML file the text and what became of each constraint, as JSON")
+    one.add_argument("--unit", choices=list(UNITS), help="the unit for a table that has none; another unit for an ARXML file")
+    one.add_argument("--json", action="store_true", help="for an ARXML file, print the text and what became of each constraint as JSON")
     add_timing(one)
-    one.add_argument("--grammar", action="store_true", help="how a text table is written")
+    one.add_argument("--grammar", action="store_true", help="print the grammar of text tables")
+    one.add_argument("--textmate", action="store_true", help="print the same for editors, as a TextMate grammar in JSON")
     one.set_defaults(run=_table)
 
 
 def _add_on_logs(commands: Any) -> None:
     """The commands that make something else of logs."""
     for name, run_it, logs, text in (
-        ("record", record, None, "a log as a recording of the library"),
-        ("join", join_logs, 2, "two logs with no event in common as one recording"),
-        ("shrink", shrink, None, "the few lines of a log that break a row by themselves"),
-        ("stamps", late_stamps, None, "whether a row is kept, broken or unsure where stamps may be late"),
+        ("record", record, None, "write a log as a recording of the library"),
+        ("join", join_logs, 2, "write two logs with no event in common as one recording"),
+        ("shrink", shrink, None, "print the few lines of a log that are enough to break a row"),
+        ("stamps", late_stamps, None, "say whether a row is kept, broken or unsure if stamps may be late"),
     ):
         one = commands.add_parser(name, help=text)
         one.add_argument("table", metavar="TABLE")
@@ -372,7 +376,7 @@ def _add_on_logs(commands: Any) -> None:
         if name in ("shrink", "stamps"):
             one.add_argument("row", metavar="ROW", help="a row's name or number")
         if name == "stamps":
-            one.add_argument("late", metavar="LATE", help="how late a stamp may be, such as 3 ms; the row is a Repeat of span 1")
+            one.add_argument("late", metavar="LATE", help="how late a stamp may be, such as 3 ms; the row must be a Repeat of span 1")
         elif name != "shrink":
             one.add_argument("-o", "--output", metavar="FILE", required=True)
         add_options(one)
@@ -380,13 +384,14 @@ def _add_on_logs(commands: Any) -> None:
 
 
 def _parser() -> argparse.ArgumentParser:
-    parser = _Parser("delkuthi", description="Timing constraints (TADL2) checked on logs and live buses.",
+    parser = _Parser("delkuthi", description="Check timing constraints (TADL2) on logs and live buses.",
                      epilog=_EXAMPLES, formatter_class=_PLAIN)
-    parser.add_argument("--version", action="store_true", help="the versions of this package and of the library")
+    parser.add_argument("--version", action="store_true", help="print the versions of this package and of the library")
     parser.set_defaults(takeover=None)
     commands = parser.add_subparsers(dest="command", metavar="COMMAND")
-    for add in (_add_check, _add_watch, _add_table, _add_on_logs, add_fleet):
+    for add in (_add_check, _add_watch, _add_table, _add_on_logs, add_fleet, add_propose):
         add(commands)
+    add_completion(commands, parser.format_help)
     return parser
 
 

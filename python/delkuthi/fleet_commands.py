@@ -154,21 +154,21 @@ def _threshold(text: str) -> Threshold:
 
 
 def _add_outputs(one: argparse.ArgumentParser) -> None:
-    one.add_argument("--json", action="store_true", help="all of it as JSON on standard output")
+    one.add_argument("--json", action="store_true", help="print everything as JSON on standard output")
     one.add_argument("--html", metavar="FILE", help="a page with tables that can be sorted, which needs no network")
     one.add_argument("--width", metavar="COLUMNS", type=columns, default=COLUMNS, help=f"text has so many columns ({COLUMNS}); 0 is any number")
 
 
 def add_fleet(commands: Any) -> None:
     """The commands merge and compare."""
-    one = commands.add_parser("merge", help="many results that check --keep wrote: rows and logs, percentiles, the worst log")
+    one = commands.add_parser("merge", help="merge results that check --keep wrote: rows and logs, percentiles, the worst log")
     one.add_argument("result", metavar="RESULT", nargs="+", help="a file of results, a folder with such files, or - for the standard input")
     one.add_argument("--logs", metavar="N", type=positive, default=LISTED, help=f"list so many logs, the worst first ({LISTED})")
     one.add_argument("--csv", metavar="FILE", help="a line for each row of each log")
     one.add_argument("--expect", metavar="N", type=positive, help="so many logs there have to be: status 2 otherwise")
     _add_outputs(one)
     one.set_defaults(run=merge)
-    two = commands.add_parser("compare", help="two builds: rows that changed, margins that shrank")
+    two = commands.add_parser("compare", help="compare two builds: rows that changed, margins that shrank")
     two.add_argument("before", metavar="A", help="the results of the first build, or with --table a folder of its logs")
     two.add_argument("after", metavar="B", help="those of the second")
     two.add_argument("--table", metavar="TABLE", help="A and B are logs, to be checked against this table")

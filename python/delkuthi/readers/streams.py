@@ -59,6 +59,8 @@ def sample_of(value: object) -> Sample | None:
         return number_or_text(value)
     if isinstance(value, (bool, int)):
         return int(value)
+    if isinstance(value, Decimal):
+        return value
     if isinstance(value, float):
         return Decimal(repr(value)) if math.isfinite(value) else None
     return None

@@ -59,6 +59,9 @@ examples:
   delkuthi check brake.txt drive.csv --from ignition_on --to +90s --violations all.csv
   delkuthi check tasks.txt trace.btf --trace out.json   a scheduler trace; a file for Perfetto
   delkuthi check brake.txt logs/*.blf --jobs 4 --junit result.xml --exercised
+  delkuthi check brake.txt drive.blf --keep results/drive.json   keep the result; delkuthi merge results reports on all of them
+  delkuthi compare old new --table brake.txt --fail-on broken,shrunk   two folders of logs, of two builds
+  delkuthi propose drive.log -o brake.txt               a table to begin with, from what the log shows
   delkuthi watch brake.txt socketcan:can0               checks a live bus and reports a broken row at once
   delkuthi table brake.txt -o table.bin                 text to the bytes that the library reads, and back
   delkuthi check timing.arxml trace.btf                 AUTOSAR timing requirements on a scheduler trace

@@ -23,7 +23,8 @@ SHARED    := libdelkuthi.so.$(VERSION)
 CMAKE     := $(BUILD)/delkuthi-config.cmake $(BUILD)/delkuthi-config-version.cmake
 LIBRARY   := $(BUILD)/libdelkuthi.a $(BUILD)/$(SHARED) $(BUILD)/delkuthi.pc $(CMAKE)
 HEADERS   := $(wildcard include/*.h include/*.hpp)
-DOCUMENTS := CHANGELOG.md LICENSE NOTICE docs/CONTRACT.md docs/DATASHEET.md docs/SAFETY.md docs/MISRA.md $(BUILD)/TRACE.md
+DOCUMENTS := CHANGELOG.md LICENSE NOTICE docs/CONTRACT.md docs/DATASHEET.md docs/SAFETY.md docs/QUALIFICATION.md docs/SUPPORT.md docs/MISRA.md \
+    $(BUILD)/TRACE.md
 MANUALS   := $(BUILD)/delkuthi.1 $(BUILD)/delkuthi.3
 EXAMPLES  := $(addprefix host/c/,bench_loop.c report.c file.c file.h) examples/table.bin examples/recording.bin
 

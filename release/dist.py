@@ -115,12 +115,25 @@ def declared(function):
     sys.exit(f"dist.py: no crate declares {function}, which is in the archive")
 
 
+def placeholders():
+    """Returns what only the seller can say and has not said: the list at the end of docs/SUPPORT.md."""
+    return re.findall(r"^\| `(\[SELLER:[^`]*\])` \|", (ROOT / "docs/SUPPORT.md").read_text(encoding="utf-8"), re.M)
+
+
+def to_fill_in():
+    """The part of the manifest about what the seller has not said."""
+    missing = placeholders()
+    if not missing:
+        return ""
+    return f"\n**NOT FILLED IN BY THE SELLER ({len(missing)}):** {', '.join(f'`{one}`' for one in missing)}. See docs/SUPPORT.md.\n"
+
+
 def manifest(version, of_commit, archive, tree, opening):
     """What is in the release, which proof is behind which function, and how to check it all again."""
     rows = [(f"`{name}`", str(size), *declared(name)) for name, size in sorted(archive.functions)]
     table = "".join(f"| {name} | {size} | {place} | {contract} |\n" for name, size, place, contract in rows)
     text = (ROOT / "release/MANIFEST.md.in").read_text(encoding="utf-8")
-    values = {"VERSION": version, "COMMIT": of_commit, "KIT": archive.kits[0], "OPENING": opening, "FUNCTIONS": table,
+    values = {"VERSION": version, "COMMIT": of_commit, "KIT": archive.kits[0], "OPENING": opening + "\n" + to_fill_in(), "FUNCTIONS": table,
               "OBJECTS": ", ".join(archive.objects), "ARCHIVE": digest(tree / "lib/libdelkuthi.a"),
               "SHARED": digest(tree / f"lib/libdelkuthi.so.{version}"), "BYTES": str(sum(size for _, size in archive.functions)),
               "NEEDED": ", ".join(f"`{name}`" for name in sorted(archive.needed))}
@@ -196,6 +209,8 @@ def make(build, gate, of_commit, time):
     (folder / "SHA256SUMS").write_text(sums, encoding="utf-8")
     packed = pack(folder, time)
     folder.with_name(f"{folder.name}.gate.txt").write_text(gate.text(of_commit), encoding="utf-8")
+    for missing in placeholders():
+        print(f"dist.py: not filled in by the seller: {missing}", file=sys.stderr)
     print(f"{digest(packed)}  {packed}")
 
 

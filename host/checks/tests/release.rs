@@ -42,7 +42,7 @@ fn copies() -> [Installed; 2] {
 }
 
 /// What is installed beside the headers and the files of the shared library.
-const INSTALLED: [&str; 22] = [
+const INSTALLED: [&str; 24] = [
     "bin/delkuthi",
     "lib/cmake/delkuthi/delkuthi-config-version.cmake",
     "lib/cmake/delkuthi/delkuthi-config.cmake",
@@ -55,7 +55,9 @@ const INSTALLED: [&str; 22] = [
     "share/doc/delkuthi/LICENSE",
     "share/doc/delkuthi/MISRA.md",
     "share/doc/delkuthi/NOTICE",
+    "share/doc/delkuthi/QUALIFICATION.md",
     "share/doc/delkuthi/SAFETY.md",
+    "share/doc/delkuthi/SUPPORT.md",
     "share/doc/delkuthi/TRACE.md",
     "share/doc/delkuthi/examples/bench_loop.c",
     "share/doc/delkuthi/examples/file.c",

@@ -27,7 +27,7 @@ DOCUMENTS := CHANGELOG.md LICENSE NOTICE docs/CONTRACT.md docs/DATASHEET.md docs
 MANUALS   := $(BUILD)/delkuthi.1 $(BUILD)/delkuthi.3
 EXAMPLES  := $(addprefix host/c/,bench_loop.c report.c file.c file.h) examples/table.bin examples/recording.bin
 
-.PHONY: all lib program install install-lib install-dev uninstall clean help test test-python test-ports run bench count worst portable trace dist wheel always
+.PHONY: all lib program install install-lib install-dev uninstall clean help test test-python test-ports kit run bench count worst portable trace dist wheel always
 
 all: lib program
 lib: $(LIBRARY)
@@ -44,6 +44,7 @@ help:
 	@echo "make wheel       a wheel of the package in python/ with the shared library in it, in $(BUILD)/"
 	@echo "make dist        the release: a folder and a tarball in $(BUILD)/, of a commit on which the gate passed; UNCHECKED=yes without a gate"
 	@echo "make portable    the sources as one no_std crate of Rust for other machines, in $(BUILD)/portable"
+	@echo "make kit         the qualification kit: vectors made by the model, and a runner in C for any machine, in $(BUILD)/kit"
 	@echo "make trace       TRACE.md, from each promise of the contract to its definition, theorem, function and tests"
 	@echo "make test-python the tests of the package in python/ alone"
 	@echo "make test-ports  the portable crate on other machines under qemu, beside the proved library; INSTALL=--install installs the packages"
@@ -187,13 +188,20 @@ worst: lib
 portable:
 	python3 release/portable.py $(BUILD)/portable $(PARTS)
 
-test-ports: lib portable
+# The vectors come from the model alone: neither the archive nor the prover takes part.
+KIT := $(addprefix host/kit/c/,runner.c runner.h main.c vectors.h README.md)
+kit:
+	@mkdir -p $(BUILD)/kit
+	@install -m 644 $(KIT) $(BUILD)/kit/
+	@cd host && cargo run --quiet --offline --release -p kit -- $(abspath $(BUILD))/kit
+
+test-ports: lib portable kit
 	BUILD=$(BUILD) bash release/test-ports $(INSTALL)
 
 # The release finds its own parts wherever it is unpacked.
 dist:
 	@python3 release/dist.py check $(BUILD) $(if $(UNCHECKED),unchecked)
-	$(MAKE) --no-print-directory portable wheel
+	$(MAKE) --no-print-directory portable wheel kit
 	rm -rf $(BUILD)/dist
 	$(MAKE) --no-print-directory install DESTDIR=$(BUILD)/dist PREFIX=/tree PC_PREFIX='$$$${pcfiledir}/../..'
 	python3 release/dist.py make $(BUILD) $(if $(UNCHECKED),unchecked)

@@ -181,6 +181,7 @@ def make(build, gate, of_commit, time):
     shutil.move(build / "dist/tree", folder)
     archive = Archive(folder / "lib/libdelkuthi.a")
     shutil.copytree(build / "portable", folder / "portable", ignore=shutil.ignore_patterns("target"))
+    shutil.copytree(build / "kit", folder / "kit")
     put_sources(folder / "source")
     put_answers(folder, build)
     (folder / "python").mkdir()

@@ -19,7 +19,9 @@ from . import library as lib
 from .annotations import STYLES, annotated
 from .autosar import is_arxml
 from .check import Outcome, check
+from .completion import add_completion
 from .database import DatabaseError
+from .editor_grammar import textmate
 from .evidence import evidence_of
 from .fleet_commands import add_fleet
 from .html_page import as_html
@@ -30,6 +32,7 @@ from .monitor import report
 from .log_commands import join_logs, late_stamps, record, shrink
 from .output import COLUMNS, as_json, as_junit, as_text, overall, wrapped
 from .plot import PlotMissing, write_plot
+from .propose import add_propose
 from .provenance import provenance
 from .results import result_of, write_results
 from .options import add_databases, add_edges, add_options, add_timing, columns, policy, positive, read_table, refuse_windows, timing_table
@@ -218,8 +221,8 @@ def _trace(path: str, table: Table, how: Policy, outcomes: Sequence[Outcome]) ->
 
 
 def _table(given: argparse.Namespace) -> int:
-    if given.grammar:
-        out(grammar())
+    if given.grammar or given.textmate:
+        out(textmate() if given.textmate else grammar())
         return KEPT
     if given.table is None:
         raise LogError("delkuthi table", "", "expected a table, or --grammar")
@@ -355,6 +358,7 @@ def _add_table(commands: Any) -> None:
     one.add_argument("--json", action="store_true", help="for an ARXML file, print the text and what became of each constraint as JSON")
     add_timing(one)
     one.add_argument("--grammar", action="store_true", help="print the grammar of text tables")
+    one.add_argument("--textmate", action="store_true", help="print the same for editors, as a TextMate grammar in JSON")
     one.set_defaults(run=_table)
 
 
@@ -385,8 +389,9 @@ def _parser() -> argparse.ArgumentParser:
     parser.add_argument("--version", action="store_true", help="print the versions of this package and of the library")
     parser.set_defaults(takeover=None)
     commands = parser.add_subparsers(dest="command", metavar="COMMAND")
-    for add in (_add_check, _add_watch, _add_table, _add_on_logs, add_fleet):
+    for add in (_add_check, _add_watch, _add_table, _add_on_logs, add_fleet, add_propose):
         add(commands)
+    add_completion(commands, parser.format_help)
     return parser
 
 

@@ -17,6 +17,7 @@ from .options import add_options, columns, policy, positive, read_table
 from .output import COLUMNS
 from .provenance import made_by
 from .readers import READERS
+from .readers.ctf import METADATA, is_ctf
 from .readers.base import ending
 from .results import LOG_STATES, BadResult, Result, read_results, result_of
 from .sketch import PERCENTS, Sketch
@@ -128,10 +129,12 @@ def _check_one(given: argparse.Namespace, how: Policy, log: str) -> Result:
 
 def logs_of(path: str) -> list[str]:
     """A log, or the logs of a folder and its folders, in the order of their names."""
-    if not Path(path).is_dir():
+    if not Path(path).is_dir() or is_ctf(path):
         return [path]
     endings = {one for reader in READERS for one in reader.endings}
-    return [str(file) for file in sorted(Path(path).rglob("*")) if file.is_file() and ending(str(file)) in endings]
+    traces = {file.parent for file in Path(path).rglob(METADATA)}
+    files = (file for file in Path(path).rglob("*") if file.is_file() and ending(str(file)) in endings and file.parent not in traces)
+    return list(map(str, sorted([*traces, *files])))
 
 
 def _fail_on(text: str) -> tuple[str, ...]:

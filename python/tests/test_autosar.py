@@ -1,5 +1,7 @@
 """AUTOSAR timing requirements as rows: a file for each line of the tables, and files that nobody should have written."""
 import json
+import random
+import re
 import time as clock
 import tracemalloc
 
@@ -451,3 +453,24 @@ def test_what_the_log_cannot_have_is_said(tmp_path, command):
     (tmp_path / "drive.btf").write_text("#timeScale ns\n5,C,0,R,Ra,0,start\n")
     error = command("check", "timing.arxml", "drive.btf")[2]
     assert error.splitlines()[0] == "drive.btf: the log has no b: the table does not say what it is in such a log (from ..)"
+
+
+def test_damaged_files_are_taken_or_refused(tmp_path):
+    """Each of 500 damaged files is a table, or an error of the file with one line; whatever is taken is one that the library accepts."""
+    rng, path, refused = random.Random(9), tmp_path / "timing.arxml", 0
+    constraints = [named(kind, f"x{at}", *content) for at, (kind, content, _, _) in enumerate(ROWS)]
+    whole = arxml(package("P", extension("SWC-TIMING", "T", EVENTS, [GOOD, *constraints])))
+    words = sorted({*re.findall(r"[A-Z-]{3,}|/P/T/\w+|\d+", whole)})
+    for _ in range(500):
+        text = whole
+        for _ in range(rng.randint(1, 12)):
+            old, new = rng.choice(words), rng.choice([*words, "", "<", "&", "\u2028", "-5", "99999999999999999999999"])
+            text = text.replace(old, new, rng.choice([1, 1, 5, -1])) if rng.random() < 0.5 else text.replace(f">{old}<", f">{new}<", 2)
+        path.write_text(text, encoding="utf-8")
+        try:
+            found = take_over(str(path))
+            found.table("ns")
+            assert len(found.table().rows) == sum(len(entry.rows) for entry in found.entries)
+        except LogError as error:
+            refused += str(error).startswith(str(path))
+    assert 20 < refused < 480

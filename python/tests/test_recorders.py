@@ -1,6 +1,7 @@
 """What trace recorders and network tools write: CTF, pcap and pcapng, MDF 4, TeSSLa's traces."""
 import gc
 import gzip
+import random
 import re
 import struct
 import sys
@@ -10,6 +11,7 @@ import pytest
 
 from delkuthi import Table
 from delkuthi.check import check
+from delkuthi.fleet_commands import logs_of
 from delkuthi.logs import Log, LogError, Policy
 
 
@@ -301,6 +303,14 @@ def test_ctf_with_lost_events(tmp_path):
     assert outcome.warnings == [f"{trace}: the recorder lost 3 events; rows may read differently with them"]
 
 
+def test_traces_in_a_folder_of_logs(tmp_path):
+    """A folder with a file metadata is one log, and the files in it are none."""
+    (tmp_path / "a/kernel").mkdir(parents=True)
+    for name in ("a/kernel/metadata", "a/kernel/stream.log", "a/b.csv", "a/c.txt"):
+        (tmp_path / name).write_text("")
+    assert logs_of(str(tmp_path)) == [f"{tmp_path}/a/b.csv", f"{tmp_path}/a/kernel"] and logs_of(f"{tmp_path}/a/kernel") == [f"{tmp_path}/a/kernel"]
+
+
 def test_ctf_that_is_none(tmp_path):
     pytest.importorskip("bt2", reason="bt2 is missing (Debian: python3-bt2)")
     (tmp_path / "trace").mkdir()
@@ -358,6 +368,7 @@ def test_mdf(tmp_path, asammdf):
     assert read(path, table) == [(0, [], 1), (5000, [], 2), (10000, [], 3), (20000, ["brake"], 4), (20000, ["back"], 5), (30000, [], 6)]
     assert error(path, "unit us\nevent a from column braek changes\n") == "a.mf4: it has no channel braek (did you mean brake?)"
     assert error(path, "unit us\nevent a from column twice changes\n").startswith("a.mf4: asammdf cannot read the channel Twice: Multiple occ")
+    assert error(path, "unit us\nevent a from can 0x1\n").startswith("a.mf4: the frames of .mf4 need asammdf and a python-can that has MF4Reader")
     path.write_bytes(b"no measurement")
     assert error(path, table).startswith("a.mf4: asammdf cannot read it: ")
 
@@ -445,3 +456,47 @@ def test_pages_of_what_has_no_lines(tmp_path, command):
     (tmp_path / "u.txt").write_text(BUS + "Delay brake -> lamp, 0 ms .. 2 ms\n")
     assert command("check", "u.txt", "a.pcap", "--html", "b.html")[0] == 1
     assert all("broken" in (tmp_path / name).read_text(encoding="utf-8") for name in ("a.html", "b.html"))
+
+
+def test_the_frames_of_mdf_by_python_can(tmp_path, monkeypatch):
+    """With a stand-in of python-can's reader of MDF 4."""
+    can = pytest.importorskip("can")
+
+    class Frames(list):
+        def __enter__(self):
+            return self
+
+        def __exit__(self, *_):
+            return None
+
+    frames = Frames([can.Message(timestamp=0.5, arbitration_id=0x1A0, is_extended_id=False, data=b"\x01", channel=1)])
+    monkeypatch.setattr(can, "MF4Reader", object, raising=False)
+    monkeypatch.setattr(can, "LogReader", lambda name: frames)
+    (tmp_path / "a.mf4").write_bytes(b"MDF     4.10")
+    assert read(tmp_path / "a.mf4", BUS) == [(500_000_000, ["brake"], 1)]
+
+
+def damaged(data, rng):
+    """The data with a few bytes changed, taken out or put in, or cut short."""
+    data = bytearray(data)
+    for _ in range(rng.randint(1, 4)):
+        place = rng.randrange(len(data) + 1)
+        data[place : place + rng.randint(0, 3)] = rng.randbytes(rng.randint(0, 3))
+    return bytes(data[: rng.randint(0, len(data))]) if rng.random() < 0.3 else bytes(data)
+
+
+@pytest.mark.parametrize("name", ["a.pcap", "a.pcapng", "a.tessla", "a.csv"])
+def test_damaged_files_are_read_or_refused(tmp_path, name):
+    """Each of a thousand damaged files is read, or refused with an error of the log."""
+    rng, path, refused = random.Random(name), tmp_path / name, 0
+    whole = {"a.pcap": HEAD + b"".join(struct.pack("<4I", at, 5, len(one), len(one)) + one for at, one in enumerate(FRAMES)),
+             "a.pcapng": pcapng("<", (227, b"can0", 0), (1, b"eth", 7)) + b"".join(packet("<", 0, at, one) for at, one in enumerate(FRAMES)),
+             "a.tessla": b'$timeunit = "us"\n10: pedal = true\n12: speed = 5.5\n13: gear = "R"\n', "a.csv": SCOPE.format("s,V,\n").encode()}[name]
+    table = {"a.tessla": TESSLA, "a.csv": SHEET}.get(name, BUS)
+    for _ in range(1000):
+        path.write_bytes(damaged(whole, rng))
+        try:
+            read(path, table, round=True)
+        except LogError as found:
+            refused += str(found).startswith(str(path))
+    assert 100 < refused < 1000

@@ -1,4 +1,4 @@
--- The lengths of rows, and which editions have their types: each is read off a list, and what is so of every number in a list is so at each place.
+-- The lengths of rows, and which editions have their types: each is read off a list, and what holds for every number in a list holds at each place.
 use Rattle.constraint.proofs.Names.{Bool, Constraint, List, List·getD-eq-default, ShapeFits, [], _+_, _-_, _<_, _∷_, _≡_, _≤_, add-zero, ap}
 use Rattle.constraint.proofs.Names.{arith, at, cond, false, lastType, lastTypes, length, lengthOf, lengths, ne-eqb, refl, rowBody, suc}
 use Rattle.constraint.proofs.Names.{takesCount, true, typeOf, zero, ℕ}

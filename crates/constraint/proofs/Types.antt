@@ -159,7 +159,7 @@ each-then P R i (suc n) then =
     split (ltb i x) (λ b. P x) (λ e. later x (omega (arith, ltb-true i x e)) (omega arith))
     (λ e. let same : x ≡ i = omega (arith, ltb-false i x e) in subst⁻¹ P same here)))
 
--- a row that is read has the number, and the values that its type has come back: the first so many of its bytes and times, which the length counts
+-- a row that is read has the number, and the values that its type has come back: as many of its first bytes and times as the length counts
 pub record ReadBack (t : ℕ) (b x : List ℕ) (c : Constraint) : Type 0 where
   pub typed : typeOf c ≡ t
   pub bytes : bytesIn (fieldsOf c) ≡ take (length (bytesIn (fieldsOf c))) b

@@ -1,5 +1,4 @@
-// What the whole monitor speaks of: a row's constraint, the limits, the answer to a call, and the verdict of a row.
-// The contract's definitions stand in specs/.
+// What every crate uses: a row's constraint, the limits, the answer to a call, and the verdict of a row. The contract's definitions are in specs/.
 pub mod fields;
 
 use fields::COLOURED;

@@ -1,4 +1,4 @@
-// The printed page: a line for each row, put to a lent buffer line after line.
+// The printed page: one line for each row, written line by line to the caller's buffer.
 use constraint::Verdict;
 ghost use mathlib.Core.Path.{_≡_};
 ghost use Prim.Native.Nat.{_≤_, _<_, min};
@@ -98,7 +98,7 @@ fn step(verdict: Verdict) -> [u8; 20]
     }
 }
 
-// How many bytes the page of so many rows has.
+// Returns the length in bytes of the page of `rows` rows.
 fn size(rows: usize) -> usize
     requires { ⌜ rows ≤ rowLimit ⌝ }
     ensures { λ r. ⌜ r ≡ pageLength rows ⌝ }

@@ -1,4 +1,4 @@
--- An event of a coloured kind crowds no row: nothing waits in a Reaction, and to a row of any other type it is no event of its own.
+-- An event of a coloured kind overflows no row: nothing waits in a Reaction, and such an event does not concern a row of any other type.
 use Rattle.constraint.proofs.Library.{ℕ, _≤_, _<_, arith, _≡_, refl, false, List, [], _∷_, _++_, eqb, ne-eqb}
 use Rattle.constraint.specs.Limits.{firstColoured}
 use Rattle.constraint.specs.Streams.{stream}

@@ -69,7 +69,7 @@ rowFrom parameters times now = record { parameters = parameters; times = times; 
 abbrev pub itemsOf : Row → List ℕ
 itemsOf r = ring (r .times) (r .now .head) (r .now .len)
 
--- 1 where something is so, else 0
+-- 1 for true, 0 for false
 abbrev pub mark : Bool → ℕ
 mark so = cond so 1 0
 

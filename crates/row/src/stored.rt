@@ -1,4 +1,4 @@
-// A row where it lies: its two arrays of words after an event, the clock, the close and a withdrawal, and before any step.
+// A row in memory: its two arrays of words before any step, and how an event, the clock, the close and a withdrawal change them.
 use crate::Row;
 use crate::RowUndo;
 use crate::StepInput;
@@ -165,16 +165,16 @@ fn put_undo(w: &mut [u64; SIZE], before: RowUndo)
 {
     let state = before.state;
     let registers = state.registers;
-    w[20] = registers.last;
-    w[21] = registers.first;
-    w[22] = registers.second;
-    w[23] = registers.third;
-    w[24] = registers.fourth;
-    w[25] = state.head as u64;
-    w[26] = state.len as u64;
-    w[27] = state.due;
-    w[28] = state.kept;
-    w[29] = state.broken;
+    w[row_words::UNDO_LAST] = registers.last;
+    w[row_words::UNDO_ONE] = registers.first;
+    w[row_words::UNDO_TWO] = registers.second;
+    w[row_words::UNDO_THREE] = registers.third;
+    w[row_words::UNDO_FOUR] = registers.fourth;
+    w[row_words::UNDO_HEAD] = state.head as u64;
+    w[row_words::UNDO_LEN] = state.len as u64;
+    w[row_words::UNDO_DUE] = state.due;
+    w[row_words::UNDO_KEPT] = state.kept;
+    w[row_words::UNDO_BROKEN] = state.broken;
     w[row_words::UNDO_PLACE] = before.place as u64;
     w[row_words::UNDO_WORD_0] = before.first;
     w[row_words::UNDO_WORD_1] = before.second;
@@ -211,19 +211,19 @@ fn undo_state(w: &[u64; SIZE]) -> State
         → r ≡ past .state) ⌝ }
 {
     let registers = Registers {
-        last: w[20],
-        first: w[21],
-        second: w[22],
-        third: w[23],
-        fourth: w[24],
+        last: w[row_words::UNDO_LAST],
+        first: w[row_words::UNDO_ONE],
+        second: w[row_words::UNDO_TWO],
+        third: w[row_words::UNDO_THREE],
+        fourth: w[row_words::UNDO_FOUR],
     };
     State {
         registers,
-        head: w[25] as usize,
-        len: w[26] as usize,
-        due: w[27],
-        kept: w[28],
-        broken: w[29],
+        head: w[row_words::UNDO_HEAD] as usize,
+        len: w[row_words::UNDO_LEN] as usize,
+        due: w[row_words::UNDO_DUE],
+        kept: w[row_words::UNDO_KEPT],
+        broken: w[row_words::UNDO_BROKEN],
     }
 }
 
@@ -350,7 +350,7 @@ pub fn larger(a: u64, b: u64) -> u64
     if a < b { b } else { a }
 }
 
-// How many places are taken in a row of a type and a span that keeps so many times.
+// Returns how many places are taken in a row, by its type, its span and how many times it keeps.
 fn slots_used_by_type(tag: u64, span: u64, len: u64) -> u64
     ensures { λ r. ⌜ r ≡ slotsUsedBy tag span len ⌝ }
 {
@@ -378,7 +378,7 @@ pub fn slots_used(row: &[[u64; SIZE]; 2]) -> u64
     let span = row[1][row_words::SPAN];
     larger(
         slots_used_by_type(tag, span, row[1][row_words::LEN]),
-        slots_used_by_type(tag, span, row[1][row_words::UNDO + 6]),
+        slots_used_by_type(tag, span, row[1][row_words::UNDO_LEN]),
     )
 }
 

@@ -1,12 +1,12 @@
 //! What the tests share.
 
 pub mod beside;
-pub mod contract;
 pub mod documents;
 pub mod editions;
 pub mod hosts;
 pub mod pages;
 pub mod places;
+pub mod portable;
 pub mod program;
 pub mod refusals;
 pub mod release;
@@ -16,3 +16,5 @@ pub mod sources;
 #[cfg(table_ffi)]
 pub mod table_ffi;
 pub mod words;
+
+pub use model::contract;

@@ -141,6 +141,8 @@ fn the_checksums() {
         "lib/libdelkuthi.a",
         "include/delkuthi.h",
         "portable/src/lib.rs",
+        "kit/vectors.c",
+        "kit/COVERAGE.md",
         "source/crates.txt",
         "LICENSE",
     ] {
@@ -229,6 +231,19 @@ fn a_buyer_without_the_kit() {
     let examples = "share/doc/delkuthi/examples";
     let report = shell(&format!("{}/report {examples}/table.bin {examples}/recording.bin", out.path().display()));
     assert_eq!(report, drive);
+}
+
+/// The kit of the tarball, compiled as its page says, passes on the archive of the tarball.
+#[test]
+fn the_qualification_kit_of_the_release() {
+    let Some(release) = release() else { return };
+    let readme = text_of(&release.join("kit/README.md"));
+    let lines: Vec<&str> = readme.lines().filter_map(|line| line.strip_prefix("    ")).collect();
+    let out = Folder::new();
+    let program = out.path().join("kit").display().to_string();
+    let shell = lines.join("\n").replace("-o kit", &format!("-o {program}")).replace("./kit", &program);
+    let said = done(Command::new("sh").arg("-ec").arg(shell).current_dir(release.join("kit")));
+    assert!(said.ends_with(" passed, 0 failed\n") && !said.starts_with('0'), "{said}");
 }
 
 /// The portable sources of the tarball build by themselves, and answer the calls that come with them as the proved archive did.

@@ -4,30 +4,13 @@
 use checks::documents::text_of;
 use checks::hosts::{Host, Ran, c_compiler, c_host, compile_with, done, ran};
 use checks::places::{Folder, example, root};
-use checks::release::{RustHost, make};
+use checks::portable::{compiled, portable};
+use checks::release::RustHost;
 use model::random::script::script;
 use std::collections::HashSet;
 use std::fs;
 use std::path::{Path, PathBuf};
 use std::process::{Command, Output};
-
-/// The portable crate, as `make portable` writes it.
-fn portable() -> Folder {
-    let folder = Folder::new();
-    let output = make(folder.path(), &["portable"]);
-    assert!(output.status.success(), "{}", String::from_utf8_lossy(&output.stderr));
-    folder
-}
-
-/// Compiles the portable crate as a buyer does, without a warning, and gives the folder of the archive.
-fn compiled(folder: &Folder) -> PathBuf {
-    let package = folder.path().join("portable");
-    let mut cargo = Command::new(env!("CARGO"));
-    cargo.args(["build", "--release", "--offline", "--quiet"]).current_dir(&package);
-    cargo.env("CARGO_TARGET_DIR", folder.path().join("target")).env("RUSTFLAGS", "-D warnings");
-    done(&mut cargo);
-    folder.path().join("target/release")
-}
 
 /// A host that plays calls on the portable crate.
 fn player(folder: &Folder) -> Host {
@@ -231,7 +214,7 @@ fn missing_packages_are_named() {
     let output = bash.output();
     let output = output.expect("bash can be run");
     let said = String::from_utf8_lossy(&output.stdout).into_owned();
-    let tools = ["aarch64-linux-gnu-gcc", "arm-linux-gnueabihf-gcc", "riscv64-linux-gnu-gcc", "arm-none-eabi-gcc"];
+    let tools = ["aarch64-linux-gnu-gcc", "arm-linux-gnueabihf-gcc", "riscv64-linux-gnu-gcc", "s390x-linux-gnu-gcc", "arm-none-eabi-gcc"];
     for name in tools.into_iter().chain(["qemu-user", "qemu-system-arm", "rustc", "INSTALL=--install"]) {
         assert!(said.contains(name), "{name} in {said}");
     }

@@ -38,14 +38,18 @@ fn each_promise_is_traced_to_a_test() {
 
 /// The trace over a contract, declarations with tags, rows by hand and one test file: the table, and what is missing.
 fn traced(definitions: &str, by_hand: &str, test: &str) -> (String, String) {
-    let contract = "**2.1** One.\n\n**2.2** Two.\n\n*2.7* Three.\n\n**5.1** Four.\n\n*5.1.1* Five.\n\n```example\n```\n";
+    let contract =
+        "**2.1** One.\n\n**2.2** Two.\n\n*2.7* Three.\n\n**5.1** Four.\n\n*5.1.1* Five.\n\n```example\n```\n";
     let files = [
         ("VERSION", "1.2.3\n"),
         ("docs/CONTRACT.md", contract),
         ("docs/READING.md", by_hand),
         ("crates/a/specs/Things.antt", definitions),
         ("crates/a/proofs/Things.antt", "-- §5.1.1: a corner\npub a-law\n    : Thing\n"),
-        ("crates/a/src/thing.rt", "impl Bench {\n    // §2.1\n    // Takes it.\n    #[no_mangle]\n    pub fn take() {}\n}\n"),
+        (
+            "crates/a/src/thing.rt",
+            "impl Bench {\n    // §2.1\n    // Takes it.\n    #[no_mangle]\n    pub fn take() {}\n}\n",
+        ),
         ("host/checks/tests/small.rs", test),
     ];
     let (folder, program) = Folder::around("release/trace.py", &files);

@@ -18,6 +18,7 @@
 
 pub mod beside;
 pub mod continuation;
+pub mod contract;
 pub mod examples;
 pub mod hidden_points;
 pub mod join;

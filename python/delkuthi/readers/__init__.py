@@ -1,7 +1,6 @@
 """The readers of logs, a module for each format. A new one is a class in a module of its own and its name in ``READERS``."""
 from __future__ import annotations
 
-from pathlib import Path
 from typing import Sequence
 
 from ..table import Table
@@ -11,7 +10,7 @@ from .blf import BlfReader
 from .btf import BtfReader
 from .candump import CandumpReader
 from .csv_events import CsvReader
-from .ctf import CtfReader
+from .ctf import CtfReader, is_ctf
 from .mdf import MdfReader
 from .pcap import PcapReader
 from .python_can import PythonCanReader
@@ -34,7 +33,7 @@ def reader(path: str | Sequence[str], table: Table, policy: Policy) -> Reader:
     if not isinstance(path, str):
         return SeveralReader([reader(one, table, policy) for one in path], table, policy)
     file = kept() if path == NAME else path
-    wanted = policy.format or (ending_of(file) if path == NAME else ".ctf" if Path(path, "metadata").is_file() else ending(path))
+    wanted = policy.format or (ending_of(file) if path == NAME else ".ctf" if is_ctf(path) else ending(path))
     for one in READERS:
         if wanted in one.endings:
             return one(path, table, policy, file)

@@ -1,10 +1,20 @@
 """CTF, the Common Trace Format of LTTng, barectf and Zephyr: a folder with a file ``metadata``, read by babeltrace 2."""
 from __future__ import annotations
 
+from pathlib import Path
 from typing import Any, Iterator
 
 from .base import LogError, Reader, Stamped
 from .streams import Streams, sample_of
+
+
+#: The file that makes a folder a trace.
+METADATA = "metadata"
+
+
+def is_ctf(path: str) -> bool:
+    """Is it the folder of a trace?"""
+    return Path(path, METADATA).is_file()
 
 
 class CtfReader(Reader):

@@ -19,7 +19,21 @@ class MdfReader(PythonCanReader):
 
     def lines(self) -> Iterator[Stamped]:
         sampled = any(isinstance(source, ColumnSource) for event in self.table.events for source in event.sources)
-        return self._samples() if sampled else super().lines()
+        return self._samples() if sampled else self._bus_log()
+
+    def _bus_log(self) -> Iterator[Stamped]:
+        """The frames of a bus log, where python-can reads them."""
+        try:
+            import can
+
+            readable = hasattr(can, "MF4Reader")
+        except ImportError:
+            readable = False
+        if not readable:
+            raise LogError(self.path, "", f"the frames of {self.endings[0]} need asammdf and a python-can that has MF4Reader; the channels of "
+                                          "sampled signals need asammdf alone, and a source in the table: from column ..")
+        self.word = "frame"  # type: ignore[misc]
+        return super().lines()
 
     def _samples(self) -> Iterator[Stamped]:
         """The samples of all channels that the table names, in the order of their stamps."""

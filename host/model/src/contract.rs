@@ -1,17 +1,18 @@
 //! `docs/CONTRACT.md` as data: its clauses, and its examples to be executed.
 
-use crate::places::root;
-use model::types::Given;
-use model::{Constraint, NO_LIMIT, Step};
+use crate::types::Given;
+use crate::{Constraint, NO_LIMIT, Step};
 use std::collections::HashMap;
 use std::fs;
+use std::path::Path;
 
 /// The text of the contract.
 ///
 /// # Panics
 /// If it is not there.
 pub fn text() -> String {
-    fs::read_to_string(root().join("docs/CONTRACT.md")).expect("docs/CONTRACT.md")
+    let root = Path::new(env!("CARGO_MANIFEST_DIR")).join("../..");
+    fs::read_to_string(root.join("docs/CONTRACT.md")).expect("docs/CONTRACT.md")
 }
 
 /// A clause: its number, and whether it promises something (a bold number) or explains (one in italics).
@@ -23,13 +24,15 @@ pub struct Clause {
 
 /// The clauses of the contract, in its order.
 pub fn clauses(text: &str) -> Vec<Clause> {
-    let clause = |line: &str| {
-        let promises = line.starts_with("**");
-        let mark = if promises { "**" } else { "*" };
-        let number = line.strip_prefix(mark)?.split_once(mark)?.0;
-        is_clause(number).then(|| Clause { number: number.to_string(), promises })
-    };
     text.lines().filter_map(clause).collect()
+}
+
+/// The clause that a line begins, if it begins one.
+fn clause(line: &str) -> Option<Clause> {
+    let promises = line.starts_with("**");
+    let mark = if promises { "**" } else { "*" };
+    let number = line.strip_prefix(mark)?.split_once(mark)?.0;
+    is_clause(number).then(|| Clause { number: number.to_string(), promises })
 }
 
 /// Has it the form of a clause's number: "3.6", "5.4.1"?
@@ -39,15 +42,32 @@ pub fn is_clause(word: &str) -> bool {
     (2..=3).contains(&parts.len()) && parts.iter().all(digits)
 }
 
-/// The lines of each fenced block of a sort, as ```` ```example ````.
-pub fn blocks<'a>(text: &'a str, sort: &str) -> Vec<Vec<&'a str>> {
-    let fence = format!("```{sort}");
-    let mut blocks = Vec::new();
+/// A fenced block: the clause under which it stands (none before the first), its sort, and its lines.
+pub struct Block<'a> {
+    pub clause: Option<String>,
+    pub sort: &'a str,
+    pub lines: Vec<&'a str>,
+}
+
+/// Every fenced block of the contract that has a sort, as ```` ```example ````, in its order.
+pub fn every_block(text: &str) -> Vec<Block<'_>> {
+    let (mut blocks, mut under) = (Vec::new(), None);
     let mut lines = text.lines();
-    while lines.any(|line| line == fence) {
-        blocks.push(lines.by_ref().take_while(|line| *line != "```").collect());
+    while let Some(line) = lines.next() {
+        if let Some(sort) = line.strip_prefix("```") {
+            let block = lines.by_ref().take_while(|line| *line != "```").collect();
+            blocks.push(Block { clause: under.clone(), sort, lines: block });
+        } else if let Some(clause) = clause(line) {
+            under = Some(clause.number);
+        }
     }
+    blocks.retain(|block| !block.sort.is_empty());
     blocks
+}
+
+/// The lines of each fenced block of a sort.
+pub fn blocks<'a>(text: &'a str, sort: &str) -> Vec<Vec<&'a str>> {
+    every_block(text).into_iter().filter(|block| block.sort == sort).map(|block| block.lines).collect()
 }
 
 /// A recording of an example: each step, or none where the last one is withdrawn, and what the contract says after it, word for word.
@@ -64,7 +84,11 @@ pub fn examples(text: &str) -> Vec<Example> {
     blocks(text, "example").iter().map(|lines| example(lines)).collect()
 }
 
-fn example(lines: &[&str]) -> Example {
+/// The example in the lines of a block.
+///
+/// # Panics
+/// Where they are none.
+pub fn example(lines: &[&str]) -> Example {
     let rows: Vec<Constraint> = lines.iter().map_while(|line| row(line)).collect();
     let recordings: Vec<Recording> = lines[rows.len()..].iter().map(|line| recording(line)).collect();
     assert!(!rows.is_empty() && !recordings.is_empty(), "no example: {lines:?}");
@@ -145,22 +169,32 @@ pub struct Page {
 
 /// The contract's pages. Blanks at the end of a line are left out there.
 pub fn pages(text: &str) -> Vec<Page> {
-    let page = |lines: Vec<&str>| {
-        let rows: Vec<Constraint> = lines.iter().map_while(|line| row(line)).collect();
-        let steps = recording(lines[rows.len()]).into_iter().map(|(step, _)| step.expect("a step")).collect();
-        let printed = lines[rows.len() + 1..].iter().map(|line| format!("{line:<72}\n")).collect();
-        Page { rows, steps, printed }
-    };
-    blocks(text, "page").into_iter().map(page).collect()
+    blocks(text, "page").iter().map(|lines| page(lines)).collect()
+}
+
+/// The page in the lines of a block.
+///
+/// # Panics
+/// Where they are none.
+pub fn page(lines: &[&str]) -> Page {
+    let rows: Vec<Constraint> = lines.iter().map_while(|line| row(line)).collect();
+    let steps = recording(lines[rows.len()]).into_iter().map(|(step, _)| step.expect("a step")).collect();
+    let printed = lines[rows.len() + 1..].iter().map(|line| format!("{line:<72}\n")).collect();
+    Page { rows, steps, printed }
 }
 
 /// The files of the contract: a table, a recording, and the report on them.
 pub fn files(text: &str) -> Vec<(Vec<u8>, Vec<u8>, String)> {
-    let file = |lines: Vec<&str>| {
-        let report = lines[2..].iter().map(|line| format!("{line}\n")).collect();
-        (bytes(lines[0], "table"), bytes(lines[1], "recording"), report)
-    };
-    blocks(text, "file").into_iter().map(file).collect()
+    blocks(text, "file").iter().map(|lines| file(lines)).collect()
+}
+
+/// The file in the lines of a block.
+///
+/// # Panics
+/// Where they are none.
+pub fn file(lines: &[&str]) -> (Vec<u8>, Vec<u8>, String) {
+    let report = lines[2..].iter().map(|line| format!("{line}\n")).collect();
+    (bytes(lines[0], "table"), bytes(lines[1], "recording"), report)
 }
 
 /// "table 01 0003": the bytes in hexadecimal after a name.

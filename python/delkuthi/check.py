@@ -443,7 +443,7 @@ def _refusal(table: Table, time_format: TimeFormat, refused: StepRefused) -> str
         return text + "; --from-zero counts the stamps from the first one"
     if number == 12 and signal is not None:
         rows = [f"{table.row_name(number)}" for number, row in enumerate(table.rows) if _waits(row, signal)]
-        return text + f" (one of {', '.join(rows)}): ask for less patience there" if rows else text
+        return text + f" (one of {', '.join(rows)}): shorten its upper limit" if rows else text
     return text
 
 

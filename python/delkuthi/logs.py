@@ -314,7 +314,7 @@ class Ordering:
 
     def _twice(self, kind: int, time: int) -> LogError:
         name = self.log.table.event_name(kind)
-        return self.log.error(self.place, f"a second {name} at {self.log.time_format.at(time)}; a finer unit tells them apart, --equal drop "
+        return self.log.error(self.place, f"a second {name} at {self.log.time_format.at(time)}; a finer unit separates them, --equal drop "
                                           "leaves it out, --equal later gives it the next time")
 
 

@@ -95,7 +95,7 @@ class Row:
                 if number == 5 and lib.LAST_KIND < kind <= 255:
                     return part.name, f"found {kind}, the range is 0 to {lib.LAST_KIND}"
                 if number == 5 and kind in seen:
-                    return part.name, f"found {kind}, which stands in {seen[kind]} already"
+                    return part.name, f"found {kind}, which is already in {seen[kind]}"
                 if number == 18 and is_coloured(kind) != (part.role == "coloured"):
                     return part.name, f"found {kind}, the range is {_SORTS[part.role == 'coloured']}"
                 seen[kind] = part.name

@@ -148,7 +148,7 @@ class Watch:
         for step in self._since(before.place):
             self._take(step, again)
         for row in sorted(again - set(self.broken)):
-            self.say(f"{self.table.row_name(row)} is not broken any more")
+            self.say(f"{self.table.row_name(row)} is no longer broken")
         return True
 
     def _since(self, place: int) -> Iterator[Step]:
@@ -422,7 +422,7 @@ def _spool(path: str | None) -> IO[bytes]:
 
 def watch_command(given: argparse.Namespace, table: Table) -> int:
     """``delkuthi watch``: 0 if every row is kept in the end, 1 if one is broken, 2 if no frame ever came or the bus failed."""
-    refuse_windows(table, given.table, range(len(table.rows)), "watch does not take it")
+    refuse_windows(table, given.table, range(len(table.rows)), "watch does not support it")
     bus = _bus(given)
     with bus, _spool(given.record) as spool, _keyboard() as pressed, _signals(pressed) as (keys, stopped):
         watch = Watch(table, lambda text: screen.say(text), spool, given.record is not None)
@@ -439,7 +439,7 @@ def watch_command(given: argparse.Namespace, table: Table) -> int:
         screen.clear()
         status = _ended(watch, given.bus)
         if failed is not None:
-            complain(f"{given.bus}: the bus failed, and what came before is checked: {failed}")
+            complain(f"{given.bus}: the bus failed; what came before was checked: {failed}")
         return status if failed is None else 2
 
 

@@ -66,7 +66,7 @@ class PcapReader(Reader):
             elif begin == _SECTION:
                 yield from self._pcapng(file)
             else:
-                raise self.error(1, f"expected a pcap or pcapng file, which begins otherwise than with {begin.hex(' ') or 'nothing'}")
+                raise self.error(1, f"expected a pcap or pcapng file, found one that begins with {begin.hex(' ') or 'nothing'}")
 
     def _pcap(self, file: IO[bytes], order: str, second: int) -> Iterator[Packet]:
         """The packets of a pcap file behind its first four bytes."""

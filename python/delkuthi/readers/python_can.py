@@ -82,6 +82,6 @@ def float_stamp(reader: Reader, seconds: float, place: int, package: str) -> int
         raise reader.error(place, f"expected a time, found {seconds}")
     exponent = decimal.as_tuple().exponent
     if isinstance(exponent, int) and not reader.policy.round and 10.0**exponent < 2 * math.ulp(seconds):
-        raise reader.error(place, f"the stamp {decimal:f} s is finer than {package} can tell apart; --round takes the nearest "
+        raise reader.error(place, f"the stamp {decimal:f} s is finer than {package} can represent; --round takes the nearest "
                                   f"{reader.table.unit or 'unit'}")
     return reader.time(f"{decimal:f}", "s", place)

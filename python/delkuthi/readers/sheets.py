@@ -159,7 +159,7 @@ class Columns:
             return False
         if self.reader.policy.time_unit is None:
             if self.unit not in (None, unit):
-                raise self.reader.error(number, f"the times are in {unit} here, and in {self.unit} by the head of their column")
+                raise self.reader.error(number, f"the times are in {unit} here, but in {self.unit} in the head of their column")
             self.unit, self.unknown_unit = unit, None
         return True
 
@@ -187,7 +187,7 @@ class Columns:
             raise self.reader.error(number, f"expected a time, found {text or 'nothing'}")
         if found[1] is None and self.unknown_unit is not None:
             raise self.reader.error(number, f"the column {self.header[self.time].strip()} says that its times are in {self.unknown_unit}, which is "
-                                            f"no unit here: --time-unit with one of {', '.join(UNITS)} says what they are in")
+                                            f"not a unit here; --time-unit with one of {', '.join(UNITS)} gives their unit")
         return self.reader.time(found[0], found[1] or self.unit, number)
 
 

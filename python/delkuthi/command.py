@@ -46,7 +46,7 @@ from .violations import suffix_of, write_violations
 from .writing import NotWritten, complain, give_up_output, out, write
 
 KEPT, BROKEN, REFUSED, NOT_WRITTEN, INTERRUPTED = 0, 1, 2, 3, 130
-#: A log of so many bytes takes long enough for a progress bar.
+#: The size in bytes from which a log gets a progress bar.
 BAR_FROM = 4_000_000
 
 _EXAMPLES = """\
@@ -106,7 +106,7 @@ def _check(given: argparse.Namespace) -> int:
     table = read_table(given)
     how = policy(given, table)
     if given.page and (how.scope.cut_begin or how.scope.cut_end or any(row.window is not None for row in table.rows)):
-        raise LogError("--page", "", "the library's page is of one monitor over a whole log: not with a log that is cut, nor with windows (while)")
+        raise LogError("--page", "", "the library's page covers a whole log; it is not available for a cut log or with windows (while)")
     # The violations of each log wait in a file of their own.
     with tempfile.TemporaryDirectory(prefix="delkuthi-") as folder:
         return _check_into(given, table, how, folder if given.violations or given.html else None)
@@ -162,7 +162,7 @@ def _write_outputs(given: argparse.Namespace, table: Table, how: Policy, outcome
 
 
 def _check_one(given: argparse.Namespace, how: Policy, path: str | list[str], spool: str | None) -> Outcome:
-    """One of many logs, in a process of its own."""
+    """Checks one of many logs, in a separate process."""
     return check(read_table(given), path, how, exercised=given.exercised, measured=_measured(given), violations=spool)
 
 
@@ -242,11 +242,11 @@ def _table(given: argparse.Namespace) -> int:
         table = Table.read(given.table)
     if given.unit and given.takeover is None:
         if table.unit is not None:
-            raise LogError(given.table, "", f"the table has the unit {table.unit} already")
+            raise LogError(given.table, "", f"the table already has the unit {table.unit}")
         table = Table(table.rows, table.events, given.unit, table.databases, table.folder, table.comments)
     to_text = given.text or not given.bytes and (is_bytes(begin) or given.takeover is not None or given.output is None)
     if not to_text:
-        refuse_windows(table, given.table, range(len(table.rows)), "the bytes of a table do not take it")
+        refuse_windows(table, given.table, range(len(table.rows)), "the bytes of a table do not support it")
     write(given.output, table.text() if to_text else table.bytes())
     return KEPT
 
@@ -264,7 +264,7 @@ def _program() -> int:
     later = files[0][:1] > b"\x01"
     text = "refused 17 0\n" if large else "refused 1 0\n" if later else report(files[0], files[1])
     if not files[0]:
-        complain("delkuthi: there is no table.bin here; delkuthi --help says what else there is")
+        complain("delkuthi: there is no table.bin here; delkuthi --help lists the commands")
     out(text)
     return REFUSED if text.startswith("refused") else BROKEN if "broken" in text else KEPT
 
@@ -293,7 +293,7 @@ def _seconds(text: str) -> float:
     except ValueError:
         seconds = math.nan
     if not 0 <= seconds <= 1e9:
-        raise argparse.ArgumentTypeError(f"expected seconds from 0 on, found {text}")
+        raise argparse.ArgumentTypeError(f"expected 0 or more seconds, found {text}")
     return seconds
 
 

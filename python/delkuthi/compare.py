@@ -43,13 +43,13 @@ class Threshold:
         return before - after > allowed
 
     def check(self, unit: str | None) -> None:
-        """:class:`ValueError` if it is no whole number of the unit."""
+        """:class:`ValueError` if it is not a whole number of the unit."""
         if self.share is None and self.time[1] is not None and unit is None:
             raise ValueError(f"{self.text}: the results have no unit")
         try:
             in_unit(*self.time, unit)
         except NotWhole as found:
-            raise ValueError(f"{found} is no whole number of {unit or 'units'}") from None
+            raise ValueError(f"{found} is not a whole number of {unit or 'units'}") from None
 
 
 @dataclass(frozen=True)

@@ -155,24 +155,24 @@ def _threshold(text: str) -> Threshold:
 
 def _add_outputs(one: argparse.ArgumentParser) -> None:
     one.add_argument("--json", action="store_true", help="print everything as JSON on standard output")
-    one.add_argument("--html", metavar="FILE", help="a page with tables that can be sorted, which needs no network")
-    one.add_argument("--width", metavar="COLUMNS", type=columns, default=COLUMNS, help=f"text has so many columns ({COLUMNS}); 0 is any number")
+    one.add_argument("--html", metavar="FILE", help="write a page with sortable tables that needs no network")
+    one.add_argument("--width", metavar="COLUMNS", type=columns, default=COLUMNS, help=f"wrap text at this many columns ({COLUMNS}); 0 does not wrap")
 
 
 def add_fleet(commands: Any) -> None:
     """The commands merge and compare."""
     one = commands.add_parser("merge", help="merge results that check --keep wrote: rows and logs, percentiles, the worst log")
     one.add_argument("result", metavar="RESULT", nargs="+", help="a file of results, a folder with such files, or - for the standard input")
-    one.add_argument("--logs", metavar="N", type=positive, default=LISTED, help=f"list so many logs, the worst first ({LISTED})")
-    one.add_argument("--csv", metavar="FILE", help="a line for each row of each log")
-    one.add_argument("--expect", metavar="N", type=positive, help="so many logs there have to be: status 2 otherwise")
+    one.add_argument("--logs", metavar="N", type=positive, default=LISTED, help=f"list this many logs, the worst first ({LISTED})")
+    one.add_argument("--csv", metavar="FILE", help="write a line for each row of each log")
+    one.add_argument("--expect", metavar="N", type=positive, help="require this many logs; otherwise the status is 2")
     _add_outputs(one)
     one.set_defaults(run=merge)
     two = commands.add_parser("compare", help="compare two builds: rows that changed, margins that shrank")
     two.add_argument("before", metavar="A", help="the results of the first build, or with --table a folder of its logs")
-    two.add_argument("after", metavar="B", help="those of the second")
-    two.add_argument("--table", metavar="TABLE", help="A and B are logs, to be checked against this table")
-    two.add_argument("--jobs", metavar="N", type=positive, default=1, help="check so many logs at a time")
+    two.add_argument("after", metavar="B", help="the same for the second build")
+    two.add_argument("--table", metavar="TABLE", help="A and B are logs; check them against this table")
+    two.add_argument("--jobs", metavar="N", type=positive, default=1, help="check N logs at a time")
     two.add_argument("--exercised", action="store_true", help="a row that a log never exercises is a failure of that log")
     two.add_argument("--fail-on", metavar="WHAT", type=_fail_on, default=FAIL_BY_DEFAULT,
                      help=f"status 1 on these: some of {','.join(FAIL_ON)}, or none ({','.join(FAIL_BY_DEFAULT)})")

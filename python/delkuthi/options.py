@@ -25,7 +25,7 @@ def time_of(what: str, text: str, table: Table) -> int:
     try:
         return in_unit(match[1], match[2], table.unit)
     except NotWhole as found:
-        raise LogError(what, "", f"{found} is no whole number of {table.unit or 'units'}") from None
+        raise LogError(what, "", f"{found} is not a whole number of {table.unit or 'units'}") from None
 
 
 def add_options(parser: argparse.ArgumentParser) -> None:
@@ -66,7 +66,8 @@ def add_edges(parser: argparse.ArgumentParser) -> None:
 
 def add_databases(parser: argparse.ArgumentParser) -> None:
     """The option that every command on frames has."""
-    parser.add_argument("--dbc", metavar="FILE", action="append", default=[], help="a DBC or ARXML file with the signals that the table names, read with canmatrix")
+    parser.add_argument("--dbc", metavar="FILE", action="append", default=[],
+                        help="a DBC or ARXML file with the signals that the table names, read with canmatrix")
     add_timing(parser)
     parser.add_argument("--unit", choices=list(UNITS), help="the unit of a table that is an ARXML file (ns)")
 
@@ -81,14 +82,14 @@ def add_timing(parser: argparse.ArgumentParser) -> None:
 def positive(text: str) -> int:
     """A number of jobs, of logs, or of bits a second."""
     if not (text.isascii() and text.isdecimal() and len(text) < 10 and int(text) > 0):
-        raise argparse.ArgumentTypeError(f"expected a whole number from 1 on, found {text}")
+        raise argparse.ArgumentTypeError(f"expected a whole number of at least 1, found {text}")
     return int(text)
 
 
 def columns(text: str) -> int:
     """A number of columns of text, or 0."""
     if text != "0" and not (text.isascii() and text.isdecimal() and len(text) < 6 and int(text) >= 40):
-        raise argparse.ArgumentTypeError(f"expected 0, or a number of columns from 40 on, found {text}")
+        raise argparse.ArgumentTypeError(f"expected 0, or at least 40 columns, found {text}")
     return int(text)
 
 
@@ -118,7 +119,7 @@ def _plain_table(given: argparse.Namespace) -> Table:
     """A table of text or bytes, which says itself where its events come from."""
     for name, option in (("--events", given.events), ("--guarantees", given.guarantees), ("--unit", given.unit)):
         if option:
-            raise LogError(name, "", f"only where the table is an ARXML file; {given.table} is none")
+            raise LogError(name, "", f"only for a table that is an ARXML file; {given.table} is not one")
     return Table.read(given.table)
 
 
@@ -132,7 +133,7 @@ def refuse_windows(table: Table, file: str, rows: Iterable[int], what: str) -> N
     """An error where one of these rows has a window, which only ``check`` takes."""
     for number in rows:
         if table.rows[number].window is not None:
-            raise LogError(file, "", f"{table.row_name(number)} has a window (while): {what}, only check does")
+            raise LogError(file, "", f"{table.row_name(number)} has a window (while): {what}; only check does")
 
 
 def policy(given: argparse.Namespace, table: Table) -> Policy:

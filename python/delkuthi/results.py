@@ -161,7 +161,7 @@ def _row(found: dict[str, Any]) -> RowResult:
 
 def _text(value: object) -> str:
     if not isinstance(value, str):
-        raise ValueError(f"{value} is no text")
+        raise ValueError(f"{value} is not text")
     return value
 
 

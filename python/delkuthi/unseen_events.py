@@ -22,7 +22,7 @@ def warnings(table: Table, log: Log, seen: Iterable[int | None]) -> list[str]:
         why = _why(named[kind], log) if kind in named else ""
         lines.append(f"{log.path}: the log has no {table.event_name(kind)}{why and f': {why}'}")
     if log.reader.lost:
-        lines.append(f"{log.path}: the recorder lost {log.reader.lost:,} events: a row may read otherwise with them")
+        lines.append(f"{log.path}: the recorder lost {log.reader.lost:,} events; rows may read differently with them")
     return list(dict.fromkeys(lines))
 
 
@@ -35,7 +35,7 @@ def _why(event: Event, log: Log) -> str:
     if not log.reader.reads_frames and not reasons:
         wanted = [event.name, *(source.text for source in event.sources if isinstance(source, CsvSource))]
         near = [name for name in (nearest(one, log.reader.others, 0.75) for one in wanted) if name]
-        reasons = [f"but it has {near[0]}, which is no event of the table"] if near else []
+        reasons = [f"but it has {near[0]}, which is not an event of the table"] if near else []
     return "; ".join(reasons)
 
 
@@ -50,7 +50,7 @@ def _of_columns(source: object, log: Log) -> str:
         names = {name for target, name in reader.targets if target in ("", source.target)}
         if source.name not in names:
             return f"no {source.target} {source.name}{did_you_mean(source.name, names)}"
-        return f"the {source.target} {source.name} came, but no {source.action} of it"
+        return f"the {source.target} {source.name} came, but not its {source.action}"
     return ""
 
 
@@ -74,7 +74,7 @@ def _frame(source: CanSource, log: Log, what: str = "", never: str = "") -> str:
         other = (source.identifier, not source.extended) in met
         return f"no frame {name} {what}came" + (f", only {'standard' if source.extended else 'extended'} ones of that number" if other else "")
     if source.bus is not None and source.bus not in log.buses:
-        return f"{name} came, but on no bus {source.bus}; the log has {', '.join(sorted(log.buses)) or 'none'}"
+        return f"{name} came, but not on bus {source.bus}; the log has {', '.join(sorted(log.buses)) or 'none'}"
     if never:
         return f"{name} came, but never {never}"
     return f"{name} came, but never {_asked(source)}"

@@ -150,20 +150,20 @@ ROWS = [
      "it holds only under the timing condition /P/night"),
     ("PERIODIC-EVENT-TRIGGERING", [event(), element("VARIATION-POINT"), coded("PERIOD", 4)], [], "it holds only in some variants"),
     ("PERIODIC-EVENT-TRIGGERING", [event(), coded("PERIOD", 4), element("PHASE", "1")], ['"x" Sporadic a, 10 ms .. 10 ms, jitter 0, minimum 0'],
-     "PHASE is not known here"),
+     "PHASE is unknown"),
     ("PERIODIC-EVENT-TRIGGERING", [event()], [], "it has no PERIOD, which such a row needs"),
     ("PERIODIC-EVENT-TRIGGERING", [coded("PERIOD", 4)], [], "it has no EVENT-REF"),
     ("PERIODIC-EVENT-TRIGGERING", [event("nowhere"), coded("PERIOD", 4)], [], "EVENT-REF names /P/T/nowhere, which is not in the file"),
-    ("PERIODIC-EVENT-TRIGGERING", [reference("EVENT-REF", "T/a"), coded("PERIOD", 4)], [], "EVENT-REF is T/a, which is no path from the root"),
+    ("PERIODIC-EVENT-TRIGGERING", [reference("EVENT-REF", "T/a"), coded("PERIOD", 4)], [], "EVENT-REF is T/a, which is not a path from the root"),
     ("PERIODIC-EVENT-TRIGGERING", [scope("ab", "EVENT-REF"), coded("PERIOD", 4)], [], "EVENT-REF names /P/T/ab, a chain where an event is expected"),
     # Times.
-    ("PERIODIC-EVENT-TRIGGERING", [event(), coded("PERIOD", 101, 2)], [], "PERIOD has the CSE-CODE 101, an angle or a count and no time"),
-    ("PERIODIC-EVENT-TRIGGERING", [event(), coded("PERIOD", 15)], [], "PERIOD has the CSE-CODE 15, which is no unit of time that is known here"),
+    ("PERIODIC-EVENT-TRIGGERING", [event(), coded("PERIOD", 101, 2)], [], "PERIOD has the CSE-CODE 101, an angle or a count, not a time"),
+    ("PERIODIC-EVENT-TRIGGERING", [event(), coded("PERIOD", 15)], [], "PERIOD has the CSE-CODE 15, which is not a known unit of time"),
     ("PERIODIC-EVENT-TRIGGERING", [event(), coded("PERIOD", 23, 500)], [], "PERIOD is 500 ps, and no row has times finer than 1 ns"),
     ("PERIODIC-EVENT-TRIGGERING", [event(), coded("PERIOD", 20, 1)], [], "PERIOD is 1 fs, and no row has times finer than 1 ns"),
     ("PERIODIC-EVENT-TRIGGERING", [event(), coded("PERIOD", 20, 7_000_000)], ['"x" Sporadic a, 7 ns .. 7 ns, jitter 0, minimum 0'], None),
     ("PERIODIC-EVENT-TRIGGERING", [event(), coded("PERIOD", 3, "0x10")], ['"x" Sporadic a, 16 ms .. 16 ms, jitter 0, minimum 0'], None),
-    ("PERIODIC-EVENT-TRIGGERING", [event(), coded("PERIOD", 3, "1.5")], [], "the CSE-CODE-FACTOR of PERIOD is 1.5, which is no whole number"),
+    ("PERIODIC-EVENT-TRIGGERING", [event(), coded("PERIOD", 3, "1.5")], [], "the CSE-CODE-FACTOR of PERIOD is 1.5, which is not a whole number"),
     ("PERIODIC-EVENT-TRIGGERING", [event(), coded("PERIOD", 3, -1)], [], "PERIOD is below 0: its CSE-CODE-FACTOR is -1"),
     ("PERIODIC-EVENT-TRIGGERING", [event(), element("PERIOD", element("CSE-CODE-FACTOR", "5"))], [], "PERIOD has no CSE-CODE"),
     ("PERIODIC-EVENT-TRIGGERING", [event(), coded("PERIOD", 10, 10**20)], [],
@@ -267,8 +267,8 @@ def test_events_without_a_source(tmp_path):
 
 @pytest.mark.parametrize("text, said", [
     ("event pedal from key a\n", ": {file} has no event pedal"), ("event A from key a\n", ": {file} has no event A (did you mean a?)"),
-    ("unit ms\n", ": only event and dbc lines stand in a file of --events"), ("event a from nothing\n", ":1:14: expected"),
-    ("Order 1 -> 2\n", ": only event and dbc lines stand in a file of --events")])
+    ("unit ms\n", ": a file of --events has only event and dbc lines"), ("event a from nothing\n", ":1:14: expected"),
+    ("Order 1 -> 2\n", ": a file of --events has only event and dbc lines")])
 def test_wrong_lines_of_events(tmp_path, command, text, said):
     (tmp_path / "events.txt").write_text(text)
     file(tmp_path, GOOD)
@@ -356,11 +356,11 @@ def test_unknown_elements_are_named_and_counted(tmp_path, command):
     status, _, error = command("table", "timing.arxml")
     assert status == 0
     said = [line.partition(": ")[2] for line in error.splitlines()]
-    assert said == ["TIMING-CLOCKS in SWC-TIMING is not known here and was left out",
-                    "TD-HEADER in TIMING-DESCRIPTIONS is not known here and was left out",
-                    "NEW-CONSTRAINT in TIMING-REQUIREMENTS is not known here and was left out (2 times)",
-                    "PHASE in PERIODIC-EVENT-TRIGGERING is not known here and was left out (2 times)",
-                    "TIMING-REQUIREMENTS in NEW-TIMING is not known here and was left out", "constraints: 1 taken, 2 weaker, 0 left out"]
+    assert said == ["TIMING-CLOCKS in SWC-TIMING is unknown and was left out",
+                    "TD-HEADER in TIMING-DESCRIPTIONS is unknown and was left out",
+                    "NEW-CONSTRAINT in TIMING-REQUIREMENTS is unknown and was left out (2 times)",
+                    "PHASE in PERIODIC-EVENT-TRIGGERING is unknown and was left out (2 times)",
+                    "TIMING-REQUIREMENTS in NEW-TIMING is unknown and was left out", "constraints: 1 taken, 2 weaker, 0 left out"]
     line = int(error.split(":")[1])
     assert "TIMING-CLOCKS" in text.splitlines()[line - 1]
 
@@ -379,17 +379,17 @@ LAUGHS = ('<!DOCTYPE AUTOSAR [<!ENTITY a "lol">' + "".join(f'<!ENTITY {b} "{f"&{
 
 
 NONE = [
-    (WHOLE[: len(WHOLE) // 2].encode(), "not whole XML: "), (b"<", "not whole XML: "), (b"", "not whole XML: no element found"),
+    (WHOLE[: len(WHOLE) // 2].encode(), "not well-formed XML: "), (b"<", "not well-formed XML: "), (b"", "not well-formed XML: no element found"),
     (WHOLE.replace("<AUTOSAR", LAUGHS + "<AUTOSAR", 1).encode(), "a document type (DTD) is refused"),
     (WHOLE.replace("<AUTOSAR", '<!DOCTYPE AUTOSAR SYSTEM "file:///etc/passwd"><AUTOSAR', 1).encode(), "a document type (DTD) is refused"),
-    (WHOLE.replace(">good<", ">&secret;<").encode(), "not whole XML: undefined entity"),
+    (WHOLE.replace(">good<", ">&secret;<").encode(), "not well-formed XML: undefined entity"),
     (WHOLE.replace(">good<", f">{'x' * 5000}<").encode(), "a text of more than 4,000 characters"),
     (b"<AUTOSAR>" + b"<A>" * 2000, "elements nested more than 1,000 deep"),
     (b"<html></html>", "expected an AUTOSAR file, whose first element is AUTOSAR, found html"),
-    (WHOLE.replace("UTF-8", "UTF-16").encode("utf-16"), None), (WHOLE.encode().replace(b"UTF-8", b"ebcdic-xy"), "not whole XML: "),
-    (WHOLE.encode().replace(b"good", b"g\xffd"), "not whole XML: not well-formed"),
+    (WHOLE.replace("UTF-8", "UTF-16").encode("utf-16"), None), (WHOLE.encode().replace(b"UTF-8", b"ebcdic-xy"), "not well-formed XML: "),
+    (WHOLE.encode().replace(b"good", b"g\xffd"), "not well-formed XML: not well-formed"),
     (b"<AUTOSAR/>", "it has no timing requirements"), (WHOLE.replace("/P/T/a", "/P/T/z").encode(), "no constraint of it can be taken"),
-    (b"\x00\x01\x02" * 1000, "not whole XML: "), (b"<AUTOSAR " + b"x" * (1 << 25), "one tag, comment or attribute of more than"),
+    (b"\x00\x01\x02" * 1000, "not well-formed XML: "), (b"<AUTOSAR " + b"x" * (1 << 25), "one tag, comment or attribute of more than"),
     (WHOLE.replace("<EVENT", "<PERIOD").replace("</EVENT", "</PERIOD").replace("good</SHORT-NAME>", "good</SHORT-NAME>" + "<A/>" * 100_001).encode(),
      "OFFSET-TIMING-CONSTRAINT has more than 100,000 elements"),
 ]
@@ -429,7 +429,7 @@ def test_much_nonsense_takes_little_time_and_memory(tmp_path):
 def test_options_are_for_arxml_files(tmp_path, command):
     (tmp_path / "t.txt").write_text("unit ms\nevent a\nevent b\nOrder a -> b\n")
     (tmp_path / "a.csv").write_text("time,event\n1,a\n2,b\n")
-    assert command("check", "t.txt", "a.csv", "--guarantees")[2] == "--guarantees: only where the table is an ARXML file; t.txt is none\n"
+    assert command("check", "t.txt", "a.csv", "--guarantees")[2] == "--guarantees: only for a table that is an ARXML file; t.txt is not one\n"
     assert command("check", "t.txt", "a.csv", "--unit", "ns")[0] == 2
     assert command("table", "t.txt", "--json")[2] == "t.txt: --events, --guarantees and --json are for an ARXML file\n"
 
@@ -441,7 +441,7 @@ def test_the_table_as_json_bytes_and_in_another_unit(tmp_path, command):
     assert status == 0 and [one["result"] for one in found["constraints"]] == ["taken", "taken"] and found["table"].startswith("# the timing of")
     assert "unit us\n" in command("table", "timing.arxml", "--unit", "us")[1]
     status, printed, error = command("table", "timing.arxml", "--unit", "s")
-    assert status == 2 and "10 ms is no whole number of s" in error
+    assert status == 2 and "10 ms is not a whole number of s" in error
     assert command("table", "timing.arxml", "--bytes", "-o", "table.bin")[0] == 0
     assert (tmp_path / "table.bin").read_bytes()[:1] in (b"\1", b"\2")
     assert command("table", "timing.arxml", "-o", "table.txt")[0] == 0 and (tmp_path / "table.txt").read_text().startswith("# the timing")

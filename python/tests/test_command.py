@@ -328,7 +328,7 @@ def test_the_lines_that_matter(command, tmp_path):
         f"{CSV}: lines 25 to 58 are enough, 34 of {len(lines) - 1} steps; the row's events among them, and the last:", *quoted(25, 58)]
     status, out, _ = command("shrink", TABLE, CSV, "steering reply")
     assert status == 1 and out.splitlines()[2:] == [
-        *quoted(33, 39), f'{CSV}: "steering reply" is broken by less, taken alone',
+        *quoted(33, 39), f'{CSV}: "steering reply" is also broken by fewer steps on their own',
         f"{CSV}: line 12 is enough, 1 of {len(lines) - 1} steps; the row's events among them, and the last:", *quoted(12)]
     steps = command("shrink", TABLE, EXAMPLES / "recording.bin", "7")[1].splitlines()[2:]
     assert steps[0] == "record 24: door_open 70.1 ms"
@@ -337,7 +337,7 @@ def test_the_lines_that_matter(command, tmp_path):
     assert command("shrink", TABLE, "end.csv", "cabin light")[:2] == (
         1, 'end.csv: "cabin light" is broken by the end of the log alone: no line before it breaks the row\n')
     status, _, error = command("shrink", TABLE, CSV, "nobody")
-    assert status == 2 and error.startswith("ROW: refused with 15: there is no row of that number; nobody is none of \"brake light\", ")
+    assert status == 2 and error.startswith("ROW: refused with 15: there is no row of that number; nobody is not one of \"brake light\", ")
 
 
 def test_stamps_that_may_be_late(command):

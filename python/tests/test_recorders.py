@@ -51,7 +51,7 @@ def test_tessla(tmp_path):
     ("pedal\n", ":1: expected a line of a TeSSLa trace, such as 10: pedal = true"),
     ("1: speed = fast\n", ":1: expected a number for speed, found fast"),
     ("$timeunit = eons\n", ":1: expected $timeunit with one of ns, us"), ("-1: pedal\n", ":1: expected a line of a TeSSLa"),
-    ('$timeunit = "ns"\n1: pedal\n', ":2: the stamp 1 ns is no whole number of us")])
+    ('$timeunit = "ns"\n1: pedal\n', ":2: the stamp 1 ns is not a whole number of us")])
 def test_tessla_errors(tmp_path, text, said):
     (tmp_path / "a.input").write_text(text)
     assert error(tmp_path / "a.input", TESSLA).startswith(f"a.input{said}")
@@ -186,7 +186,7 @@ HEAD = struct.pack("<IHHiIII", 0xA1B2C3D4, 2, 4, 0, 0, 65535, 227)
 
 
 @pytest.mark.parametrize("data, said", [
-    (b"", ": packet 1: expected a pcap or pcapng file, which begins otherwise than with nothing"), (b"GIF8", ": packet 1: expected a pcap or pcapng"),
+    (b"", ": packet 1: expected a pcap or pcapng file, found one that begins with nothing"), (b"GIF8", ": packet 1: expected a pcap or pcapng"),
     (HEAD[:10], ": packet 1: the file ends within it"), (HEAD + b"\1" * 7, ": packet 1: the file ends within it"),
     (HEAD + struct.pack("<4I", 1, 0, 9, 9) + b"\0" * 4, ": packet 1: the file ends within it"),
     (HEAD + struct.pack("<4I", 1, 10**6, 0, 0), ": packet 1: expected a stamp, found 1 s and 1000000 parts"),
@@ -300,7 +300,7 @@ def test_ctf_with_lost_events(tmp_path):
     trace = ctf_trace(tmp_path / "trace", TRACE, True)
     assert len(read(trace, CTF)) == 7
     outcome = check(Table.from_text(CTF + "Delay pedal_pressed -> light, 0 ms .. 4 ms\n"), str(trace))
-    assert outcome.warnings == [f"{trace}: the recorder lost 3 events: a row may read otherwise with them"]
+    assert outcome.warnings == [f"{trace}: the recorder lost 3 events; rows may read differently with them"]
 
 
 def test_traces_in_a_folder_of_logs(tmp_path):
@@ -316,6 +316,26 @@ def test_ctf_that_is_none(tmp_path):
     (tmp_path / "trace").mkdir()
     (tmp_path / "trace/metadata").write_text("/* CTF 1.8 */\nnonsense { } ;")
     assert error(tmp_path / "trace", CTF).startswith("trace: babeltrace cannot read it: ")
+
+
+def test_damaged_traces_are_read_or_refused(tmp_path):
+    """Each of thirty damaged traces is read or refused, also where babeltrace itself gives up (the last one)."""
+    trace, rng, refused = ctf_trace(tmp_path / "trace", TRACE), random.Random(3), 0
+    whole = {path: path.read_bytes() for path in trace.iterdir() if path.is_file()}
+    for number in range(31):
+        changed = rng.choice(sorted(whole))
+        for path, data in whole.items():
+            path.write_bytes(damaged(data, rng) if path == changed and number < 30 else data)
+        if number == 30:
+            # The size of the packet, in bits.
+            stream = trace / "stream"
+            stream.write_bytes(whole[stream].replace(struct.pack("<Q", len(whole[stream]) * 8), b"\0" * 7 + b"\x80", 1))
+        try:
+            read(trace, CTF, round=True)
+        except LogError as found:
+            said = str(found)
+            refused += said.startswith(f"{trace}: babeltrace cannot read it: ") and "\n" not in said
+    assert refused > 10 and said.endswith("it ended with the signal 6")
 
 
 @pytest.mark.parametrize("name, module, said", [
@@ -424,7 +444,7 @@ def test_units_by_the_head_or_the_option(tmp_path):
     path.write_text(SCOPE.format("ms,V,\n"))
     assert both_ways(path, SHEET, time_unit="s")[0] == RISES
     path.write_text(SCOPE.format("s,V,\n").replace("TIME,", "time_ms,"))
-    assert error(path, SHEET) == "a.csv:7: the times are in s here, and in ms by the head of their column"
+    assert error(path, SHEET) == "a.csv:7: the times are in s here, but in ms in the head of their column"
     path.write_text(SCOPE.format("parsecs,V,\n"))
     assert error(path, SHEET) == "a.csv:7: expected a time, found parsecs"
 

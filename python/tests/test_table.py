@@ -91,9 +91,9 @@ ERRORS = [
     ("StrongSynchronization 1 2 3 4 5, tolerance 5", "t:1:31: expected ,, found 5"),
     (UNIT + "Order pedel -> light", "t:4:7: expected an event for source; pedel is not declared (did you mean pedal?)"),
     (UNIT + "Order pedal -> horn", "t:4:16: expected an event for target; horn is not declared"),
-    (UNIT + "Delay pedal -> light, 0.5 us .. 1", "t:4:23: 0.5 us is no whole number of us"),
+    (UNIT + "Delay pedal -> light, 0.5 us .. 1", "t:4:23: 0.5 us is not a whole number of us"),
     (UNIT + "Delay pedal -> light, 0 .. 99999999999999999999", "t:4:28: expected a time up to 1152921504606846975"),
-    (UNIT + "event horn = 1", "t:4:14: kind 1 is light already"),
+    (UNIT + "event horn = 1", "t:4:14: kind 1 is already light"),
     (UNIT + "event light = 2", "t:4:7: a second event with the name light"),
     (UNIT + "event horn = 48 from key m", "t:4:22: kind 48 is coloured: its source needs a colour"),
     (UNIT + "event horn = 40 from key m colour 1", "t:4:22: kind 40 is plain: its source has no colour"),
@@ -106,7 +106,7 @@ ERRORS = [
     (UNIT + "event horn = 2 from can 0x1 on", "t:4:31: expected change, found the end of the line"),
     (UNIT + "unit ms", "t:4:1: a second unit"),
     ("unit days", "t:1:6: expected one of ns, us, ms, s, min, h, found days"),
-    ("Order 0 -> 1\nunit ms", "t:2:1: the unit has to stand before the first row"),
+    ("Order 0 -> 1\nunit ms", "t:2:1: the unit has to come before the first row"),
 ]
 
 
@@ -121,13 +121,13 @@ def test_errors_say_line_and_column(text, message):
 HINTS = [
     (UNIT + "Delay pedal -> light, 1 .. 2 msec", "expected the end of the line, found msec (the unit is written ms)"),
     (UNIT + "Delay pedal -> light, 1 \u00b5s .. 2", "expected .., found \u00b5s (the unit is written us)"),
-    (UNIT + "Delay pedal -> light, 1 .. 50,5 ms", "found , (a part is written with a point: 50.5)"),
+    (UNIT + "Delay pedal -> light, 1 .. 50,5 ms", "found , (write a decimal point: 50.5)"),
     (UNIT + "Periodic pedal, 5 ms", "found Periodic (a periodic signal is a Sporadic with lower = upper"),
     (UNIT + "DelayConstraint pedal -> light, 5", "found DelayConstraint (did you mean Delay?)"),
     (UNIT + "Delay pedal -> light, 9 ms .. 2 ms", "(refused with 7): found 9 ms above 2 ms"),
     (UNIT + "Repeat pedal span 70, 1 .. 2", "(refused with 6): found 70, the range is 1 to 64"),
     (UNIT + "Repetition pedal span 9, 1 .. 2, jitter 1", "(refused with 6): found 9, the range is 1 to 8"),
-    (UNIT + "Order pedal -> pedal", "(refused with 5): found 0, which stands in source already"),
+    (UNIT + "Order pedal -> pedal", "(refused with 5): found 0, which is already in source"),
     (UNIT + "Order pedal -> 64", "(refused with 5): found 64, the range is 0 to 63"),
     (UNIT + "Order pedal -> 48", "(refused with 18): found 48, the range is 0 to 47"),
     ('"a\tb" Order 0 -> 1', "a row's name is one line of text; it has the character U+0009"),
@@ -152,7 +152,7 @@ def test_all_mistakes_are_said_at_once():
         "t:2:15: expected a kind from 0 to 63, found 99", "    event pedal = 99", "                  ^",
         "t:6:17: expected an event for target; hron is not declared (did you mean horn?)", "    \tOrder light -> hron",
         "    \t               ^",
-        "t:7:16: Order, target: a row has a kind above 63, or one kind twice (refused with 5): found 1, which stands in source already",
+        "t:7:16: Order, target: a row has a kind above 63, or one kind twice (refused with 5): found 1, which is already in source",
         "    Order light -> light", "                   ^",
         "t:8:17: expected ->, found ,", "    \"\u65e5\u672c\" Order light, horn", "                      ^",
     ]

@@ -113,7 +113,7 @@ def clock_of(monitor):
 
 
 class SleepyBus:
-    """A bus and a clock: frames come at their moments, and whoever waits sleeps until one does or the time is over."""
+    """A bus and a clock: frames come at their moments, and a reader that waits sleeps until one comes or the time is over."""
 
     def __init__(self, frames):
         self.frames, self.now, self.waits = list(frames), 0.0, 0
@@ -232,7 +232,7 @@ def test_a_bus_that_fails(monkeypatch, capsys, tmp_path):
     assert main(["watch", str(tmp_path / "a.txt"), "virtual:x"]) == 2
     said = capsys.readouterr()
     assert "virtual:x: 2 rows, " in said.out and "2 frames" in said.out
-    assert said.err.endswith("virtual:x: the bus failed, and what came before is checked: bus off\n")
+    assert said.err.endswith("virtual:x: the bus failed; what came before was checked: bus off\n")
 
 
 def test_a_table_without_a_unit():
@@ -415,4 +415,4 @@ def test_a_row_that_is_whole_again():
     watch.marker(1, 5)
     assert watch.withdraw() and not watch.withdraw()
     assert said == ["b at 5 ms", "row 0 (StrongDelay) broken at 5 ms: the b at 5 ms (step 1) has no a that it could belong to",
-                    "row 0 is not broken any more"]
+                    "row 0 is no longer broken"]

@@ -45,7 +45,7 @@ class PythonCanReader(Reader):
         return self.policy.format or ending(self.path)
 
     def _reader(self, folder: str) -> Any:
-        """python-can's reader. It goes by the name's ending, so that a file with another name gets one in the folder."""
+        """python-can's reader. It chooses the format by the ending of the name, so a file with another ending gets a second name in the folder."""
         try:
             import can
         except ImportError:
@@ -82,6 +82,6 @@ def float_stamp(reader: Reader, seconds: float, place: int, package: str) -> int
         raise reader.error(place, f"expected a time, found {seconds}")
     exponent = decimal.as_tuple().exponent
     if isinstance(exponent, int) and not reader.policy.round and 10.0**exponent < 2 * math.ulp(seconds):
-        raise reader.error(place, f"the stamp {decimal:f} s is finer than {package} can tell apart; --round takes the nearest "
+        raise reader.error(place, f"the stamp {decimal:f} s is finer than {package} can represent; --round takes the nearest "
                                   f"{reader.table.unit or 'unit'}")
     return reader.time(f"{decimal:f}", "s", place)

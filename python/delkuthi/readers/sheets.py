@@ -21,7 +21,7 @@ _BRACKETS = re.compile(r".*[\[(<{]\s*(.*?)\s*[\])>}]")
 #: Last words of a head that are no unit: there the stamps are in the table's.
 _NO_UNIT = ("time", "stamp", "timestamp", "date", "zeit", "uhrzeit", "zeitstempel", "abs", "absolute", "rel", "relative", "elapsed", "utc", "gmt",
             "local", "day", "start", "offset", "axis", "column")
-#: So many lines may stand above a header.
+#: The largest number of lines above a header.
 PREAMBLE = 200
 _TIME = re.compile(r"(?:time(?:stamp)?|date|uhrzeit|zeit(?:stempel)?)(?:$|[\W_])")
 
@@ -41,7 +41,7 @@ def named_kinds(table: Table) -> dict[str, tuple[int, ...]]:
 
 
 def _as_a_word(capital: re.Match[str]) -> str:
-    """A capital within a word, as in ``timeMs``, where a word of its own begins."""
+    """A capital within a word, as in ``timeMs``, where a new word begins."""
     return f"_{capital[0].lower()}"
 
 
@@ -159,7 +159,7 @@ class Columns:
             return False
         if self.reader.policy.time_unit is None:
             if self.unit not in (None, unit):
-                raise self.reader.error(number, f"the times are in {unit} here, and in {self.unit} by the head of their column")
+                raise self.reader.error(number, f"the times are in {unit} here, but in {self.unit} in the head of their column")
             self.unit, self.unknown_unit = unit, None
         return True
 
@@ -187,7 +187,7 @@ class Columns:
             raise self.reader.error(number, f"expected a time, found {text or 'nothing'}")
         if found[1] is None and self.unknown_unit is not None:
             raise self.reader.error(number, f"the column {self.header[self.time].strip()} says that its times are in {self.unknown_unit}, which is "
-                                            f"no unit here: --time-unit with one of {', '.join(UNITS)} says what they are in")
+                                            f"not a unit here; --time-unit with one of {', '.join(UNITS)} gives their unit")
         return self.reader.time(found[0], found[1] or self.unit, number)
 
 

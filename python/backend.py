@@ -70,11 +70,12 @@ def _files(tag: str, library: Path | None) -> Iterator[tuple[str, bytes]]:
         yield f"{info}/{name}", (BESIDE / name).read_bytes()
     for path in _examples():
         yield f"delkuthi-{_version()}.data/data/share/delkuthi/{path.relative_to(BESIDE)}", path.read_bytes()
-    scripts = "".join(f"{name} = {place}\n" for name, place in _project()["scripts"].items())
     yield f"{info}/METADATA", _metadata().encode()
     pure = str(library is None).lower()
     yield f"{info}/WHEEL", f"Wheel-Version: 1.0\nGenerator: delkuthi\nRoot-Is-Purelib: {pure}\nTag: {tag}\n".encode()
-    yield f"{info}/entry_points.txt", f"[console_scripts]\n{scripts}".encode()
+    groups = {"console_scripts": _project()["scripts"], **_project()["entry-points"]}
+    lines = [line for group, found in groups.items() for line in (f"[{group}]", *(f"{name} = {place}" for name, place in found.items()))]
+    yield f"{info}/entry_points.txt", "\n".join([*lines, ""]).encode()
 
 
 def _wheel(folder: str, tag: str, library: Path | None = None, build: str = "") -> str:
@@ -105,7 +106,7 @@ def build_sdist(sdist_directory: str, config_settings: object = None) -> str:
     """Writes the sources and answers the name of the archive."""
     base = f"delkuthi-{_version()}"
     with tarfile.open(Path(sdist_directory) / f"{base}.tar.gz", "w:gz", dereference=True) as archive:
-        for path in [HERE / "pyproject.toml", HERE / "backend.py", HERE / "README.md", *_sources()]:
+        for path in [HERE / "pyproject.toml", HERE / "backend.py", HERE / "README.md", HERE / "TUTORIAL.md", *sorted((HERE / "editors").iterdir()), *_sources()]:
             archive.add(path, f"{base}/{path.relative_to(HERE)}")
         for path in [*(BESIDE / name for name in LICENCES), *_examples()]:
             archive.add(path, f"{base}/{path.relative_to(BESIDE)}")

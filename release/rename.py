@@ -646,6 +646,8 @@ def renamed(tree):
         put_mods(tree, edits, path)
         put_definitions(tree, edits, path, plain)
         put_callers(tree, edits, path)
+        for old, new in tree.table.crates.items():
+            edits.match(re.compile(rf"(?<=calls-){kebab(old)}(?=·)"), kebab(new), plain)
         put_names(tree, edits, proof.crate, plain, True)
         put_fields(tree, edits, proof.crate, plain)
         put_comments(tree, edits, comments, paths)
@@ -941,6 +943,7 @@ def check(old, new):
                 pairs[one, other] = pairs.get((one, other), 0) + 1
     table = {(rest[-2], rest[-1]) if kind not in ("name", "word") else rest[:2] for kind, rest in tree.table.lines if kind != "text"}
     table |= {(kebab(one), kebab(other)) for one, other in table}
+    table |= {(f"calls-{kebab(one)}", f"calls-{kebab(other)}") for one, other in tree.table.crates.items()}
     words = {rest[:2] for kind, rest in tree.table.lines if kind == "word"}
     for one, other in sorted(pairs):
         base = tuple(re.sub(r"^(?:Need-|After-)|\d*(?:-spec|-requires(?:-\d+)?)?$", "", name) for name in (one, other))

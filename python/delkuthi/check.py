@@ -35,7 +35,7 @@ IDLE = ", never exercised"
 UNEXERCISED = f"kept{IDLE}"
 #: What a row reads that is not broken, in a log that is cut.
 SO_FAR = "kept so far"
-#: So many steps are given to the monitor before its rows are asked.
+#: The number of steps that the monitor takes before its rows are asked.
 CHUNK = 1024
 _SIGNAL, _PAIR = itemgetter(0), itemgetter(0, 1)
 
@@ -353,7 +353,7 @@ def _verdict(row: Row, found: Run, number: int, why: Explanation | None) -> RowV
 
 
 def _check_scoped(table: Table, log: Log, outcome: Outcome, bar: Progress, measured: bool, violations: str | None) -> _Checked:
-    """A log that is cut, or a table with windows: each row by monitors of its own."""
+    """A log that is cut, or a table with windows: each row has its own monitors."""
     close, scope = log.policy.close, log.policy.scope
     judging = Judging(table, scope, close, log.at, lambda: log.time_format)
     with bar(log):
@@ -443,7 +443,7 @@ def _refusal(table: Table, time_format: TimeFormat, refused: StepRefused) -> str
         return text + "; --from-zero counts the stamps from the first one"
     if number == 12 and signal is not None:
         rows = [f"{table.row_name(number)}" for number, row in enumerate(table.rows) if _waits(row, signal)]
-        return text + f" (one of {', '.join(rows)}): ask for less patience there" if rows else text
+        return text + f" (one of {', '.join(rows)}): shorten its upper limit" if rows else text
     return text
 
 

@@ -16,10 +16,14 @@ from pathlib import Path
 from typing import IO, Any, Iterator, Sequence
 
 from . import library as lib
+from .annotations import STYLES, annotated
 from .autosar import is_arxml
 from .check import Outcome, check
+from .completion import add_completion
 from .database import DatabaseError
+from .editor_grammar import textmate
 from .evidence import evidence_of
+from .fleet_commands import add_fleet
 from .html_page import as_html
 from .library import LibraryMissing, Refused
 from .logs import Log, LogError, Policy
@@ -28,8 +32,10 @@ from .monitor import report
 from .log_commands import join_logs, late_stamps, record, shrink
 from .output import COLUMNS, as_json, as_junit, as_text, overall, wrapped
 from .plot import PlotMissing, write_plot
+from .propose import add_propose
 from .provenance import provenance
-from .options import add_databases, add_edges, add_options, add_timing, policy, read_table, refuse_windows, timing_table
+from .results import result_of, write_results
+from .options import add_databases, add_edges, add_options, add_timing, columns, policy, positive, read_table, refuse_windows, timing_table
 from .readers.standard_input import NAME, kept
 from .table import Table, is_bytes
 from .text import TextError, grammar
@@ -40,29 +46,32 @@ from .violations import suffix_of, write_violations
 from .writing import NotWritten, complain, give_up_output, out, write
 
 KEPT, BROKEN, REFUSED, NOT_WRITTEN, INTERRUPTED = 0, 1, 2, 3, 130
-#: A log of so many bytes takes long enough for a progress bar.
+#: The size in bytes from which a log gets a progress bar.
 BAR_FROM = 4_000_000
 
 _EXAMPLES = """\
 examples:
   delkuthi check brake.txt drive.csv                    a message for each broken row; status 1 if there is one
   delkuthi check brake.txt drive.log --html drive.html  the same as a page, with pictures
-  delkuthi check brake.txt drive.asc --dbc car.dbc --measure   signals by name; what rows measure beside what they ask
+  delkuthi check brake.txt drive.asc --dbc car.dbc --measure   signals by name; what each row measured
   delkuthi check brake.txt part_*.log --as-one          a drive in several files
-  delkuthi check brake.txt drive.csv --cut              a log that is a part of something longer
+  delkuthi check brake.txt drive.csv --cut              a log that is part of something longer
   delkuthi check brake.txt drive.csv --from ignition_on --to +90s --violations all.csv
   delkuthi check tasks.txt trace.btf --trace out.json   a scheduler trace; a file for Perfetto
   delkuthi check brake.txt logs/*.blf --jobs 4 --junit result.xml --exercised
-  delkuthi watch brake.txt socketcan:can0               says a broken row while frames come
-  delkuthi table brake.txt -o table.bin                 the bytes that the library reads; and back to text
+  delkuthi check brake.txt drive.blf --keep results/drive.json   keep the result; delkuthi merge results reports on all of them
+  delkuthi compare old new --table brake.txt --fail-on broken,shrunk   two folders of logs, of two builds
+  delkuthi propose drive.log -o brake.txt               a table to begin with, from what the log shows
+  delkuthi watch brake.txt socketcan:can0               checks a live bus and reports a broken row at once
+  delkuthi table brake.txt -o table.bin                 text to the bytes that the library reads, and back
   delkuthi check timing.arxml trace.btf                 AUTOSAR timing requirements on a scheduler trace
-  delkuthi table --grammar                              how a text table is written
-  delkuthi shrink brake.txt drive.csv "brake light"     the few lines that break the row by themselves
-  delkuthi stamps brake.txt drive.csv "wheel speed" "1 ms"  the row where stamps may be late by up to 1 ms
+  delkuthi table --grammar                              the grammar of text tables
+  delkuthi shrink brake.txt drive.csv "brake light"     the few lines that are enough to break the row
+  delkuthi stamps brake.txt drive.csv "wheel speed" "1 ms"  the verdict if stamps may be up to 1 ms late
   delkuthi join brake.txt bus.log marker.csv -o drive.bin
 
-status: 0 every row kept, 1 a row broken, 2 something refused or not foreseen, 3 an output not written, 130 interrupted.
-Without arguments it reads table.bin and recording.bin where it stands, and prints the report on them.
+status: 0 every row is kept, 1 a row is broken, 2 something was refused or not foreseen, 3 an output could not be written, 130 interrupted.
+Without arguments the command reads table.bin and recording.bin in the current folder and prints the report on them.
 """
 
 
@@ -97,7 +106,7 @@ def _check(given: argparse.Namespace) -> int:
     table = read_table(given)
     how = policy(given, table)
     if given.page and (how.scope.cut_begin or how.scope.cut_end or any(row.window is not None for row in table.rows)):
-        raise LogError("--page", "", "the library's page is of one monitor over a whole log: not with a log that is cut, nor with windows (while)")
+        raise LogError("--page", "", "the library's page covers a whole log; it is not available for a cut log or with windows (while)")
     # The violations of each log wait in a file of their own.
     with tempfile.TemporaryDirectory(prefix="delkuthi-") as folder:
         return _check_into(given, table, how, folder if given.violations or given.html else None)
@@ -127,7 +136,7 @@ def _check_into(given: argparse.Namespace, table: Table, how: Policy, folder: st
 
 def _measured(given: argparse.Namespace) -> bool:
     """Does an output want what rows measure?"""
-    return bool(given.measure or given.json or given.junit or given.html)
+    return bool(given.measure or given.json or given.junit or given.html or given.keep)
 
 
 def _write_outputs(given: argparse.Namespace, table: Table, how: Policy, outcomes: Sequence[Outcome]) -> None:
@@ -142,6 +151,8 @@ def _write_outputs(given: argparse.Namespace, table: Table, how: Policy, outcome
         made = provenance(table, given.table, [outcome.files for outcome in outcomes], given.words,
                           [*given.note, *(given.takeover.notes() if given.takeover else ())])
         write(given.html, as_html(table, given.table, [evidence_of(table, how, outcome) for outcome in outcomes], made))
+    if given.keep:
+        write_results(given.keep, [result_of(table, outcome, given.note) for outcome in outcomes])
     if given.plot:
         _plot(given.plot, table, how, outcomes)
     if given.trace:
@@ -151,13 +162,13 @@ def _write_outputs(given: argparse.Namespace, table: Table, how: Policy, outcome
 
 
 def _check_one(given: argparse.Namespace, how: Policy, path: str | list[str], spool: str | None) -> Outcome:
-    """One of many logs, in a process of its own."""
+    """Checks one of many logs, in a separate process."""
     return check(read_table(given), path, how, exercised=given.exercised, measured=_measured(given), violations=spool)
 
 
 def _violations(path: str, table: Table, outcomes: Sequence[Outcome]) -> None:
     """One file with the violations of all logs."""
-    found = chain.from_iterable(outcome.violations for outcome in outcomes if outcome.violations is not None)
+    found = chain.from_iterable(outcome.violations.values() for outcome in outcomes if outcome.violations is not None)
     try:
         with open(path, "wb") as file:
             write_violations(file, suffix_of(path), table.unit, found)
@@ -169,6 +180,8 @@ def _tell(given: argparse.Namespace, table: Table, outcome: Outcome) -> None:
     """The messages and a last line, for a person; with ``--json`` only what goes to standard error."""
     for line in [outcome.error] if outcome.error is not None else outcome.warnings:
         complain(line)
+    if given.annotations and not given.json:
+        out(annotated(outcome, given.annotations))
     if outcome.error is None and not given.json:
         out(as_text(outcome, given.page, given.quiet, given.width))
         rows = [(table.row_name(row.number), row.measured) for row in outcome.rows if row.measured is not None]
@@ -211,8 +224,8 @@ def _trace(path: str, table: Table, how: Policy, outcomes: Sequence[Outcome]) ->
 
 
 def _table(given: argparse.Namespace) -> int:
-    if given.grammar:
-        out(grammar())
+    if given.grammar or given.textmate:
+        out(textmate() if given.textmate else grammar())
         return KEPT
     if given.table is None:
         raise LogError("delkuthi table", "", "expected a table, or --grammar")
@@ -229,11 +242,11 @@ def _table(given: argparse.Namespace) -> int:
         table = Table.read(given.table)
     if given.unit and given.takeover is None:
         if table.unit is not None:
-            raise LogError(given.table, "", f"the table has the unit {table.unit} already")
+            raise LogError(given.table, "", f"the table already has the unit {table.unit}")
         table = Table(table.rows, table.events, given.unit, table.databases, table.folder, table.comments)
     to_text = given.text or not given.bytes and (is_bytes(begin) or given.takeover is not None or given.output is None)
     if not to_text:
-        refuse_windows(table, given.table, range(len(table.rows)), "the bytes of a table do not take it")
+        refuse_windows(table, given.table, range(len(table.rows)), "the bytes of a table do not support it")
     write(given.output, table.text() if to_text else table.bytes())
     return KEPT
 
@@ -251,23 +264,9 @@ def _program() -> int:
     later = files[0][:1] > b"\x01"
     text = "refused 17 0\n" if large else "refused 1 0\n" if later else report(files[0], files[1])
     if not files[0]:
-        complain("delkuthi: there is no table.bin here; delkuthi --help says what else there is")
+        complain("delkuthi: there is no table.bin here; delkuthi --help lists the commands")
     out(text)
     return REFUSED if text.startswith("refused") else BROKEN if "broken" in text else KEPT
-
-
-def _positive(text: str) -> int:
-    """A number of jobs, or of bits a second."""
-    if not (text.isascii() and text.isdecimal() and len(text) < 10 and int(text) > 0):
-        raise argparse.ArgumentTypeError(f"expected a whole number from 1 on, found {text}")
-    return int(text)
-
-
-def _width(text: str) -> int:
-    """A number of columns, or 0."""
-    if text != "0" and not (text.isascii() and text.isdecimal() and len(text) < 6 and int(text) >= 40):
-        raise argparse.ArgumentTypeError(f"expected 0, or a number of columns from 40 on, found {text}")
-    return int(text)
 
 
 def _violations_file(text: str) -> str:
@@ -294,7 +293,7 @@ def _seconds(text: str) -> float:
     except ValueError:
         seconds = math.nan
     if not 0 <= seconds <= 1e9:
-        raise argparse.ArgumentTypeError(f"expected seconds from 0 on, found {text}")
+        raise argparse.ArgumentTypeError(f"expected 0 or more seconds, found {text}")
     return seconds
 
 
@@ -312,62 +311,67 @@ def _add_check(commands: Any) -> None:
     one = commands.add_parser("check", help="check logs against a table", epilog=_EXAMPLES, formatter_class=_PLAIN)
     one.add_argument("table", metavar="TABLE", help="a text table, table.bin, or an ARXML file with AUTOSAR timing requirements")
     one.add_argument("log", metavar="LOG", nargs="+",
-                     help=".csv, .tsv, .xlsx, .log (candump), .asc, .trc, .btf, .bin; with python-can .blf ..; - is the standard input")
-    one.add_argument("--exercised", action="store_true", help="a row that the log never exercises is a failure: status 1")
-    one.add_argument("--measure", action="store_true", help="what each row measures beside what it asks, and the margin to its limit")
-    one.add_argument("--as-one", action="store_true", help="the logs are one drive, one behind the other")
+                     help=".csv, .tsv, .xlsx, .log (candump), .asc, .blf, .trc, .btf, .pcap, .pcapng, .tessla, .bin; a CTF folder, .mf4, what "
+                          "python-can reads; - is the standard input")
+    one.add_argument("--exercised", action="store_true", help="a row that the log never exercises counts as a failure (status 1)")
+    one.add_argument("--measure", action="store_true", help="print what each row measured, what it asks, and the margin to its limit")
+    one.add_argument("--as-one", action="store_true", help="the logs are consecutive parts of one drive")
     one.add_argument("--violations", metavar="FILE", type=_violations_file,
-                     help="every instance that is outside its limits or missing, with its place and by how much: .csv or .json")
-    one.add_argument("--json", action="store_true", help="all of it as JSON on standard output")
-    one.add_argument("--junit", metavar="FILE", help="a JUnit file for all logs")
-    one.add_argument("--page", action="store_true", help="the library's printed page instead of the messages")
-    one.add_argument("--html", metavar="FILE", help="a page with pictures that needs no network")
-    one.add_argument("--note", metavar="NAME=TEXT", type=_note, action="append", default=[], help="say this on the page, such as build=1234")
-    one.add_argument("--plot", metavar="FILE", help="a picture: SVG, or PNG by matplotlib")
-    one.add_argument("--trace", metavar="FILE", help="a trace for Perfetto or chrome://tracing; .json.gz is packed")
-    one.add_argument("--jobs", metavar="N", type=_positive, default=1, help="check so many logs at a time")
-    one.add_argument("--quiet", action="store_true", help="messages only, no last line")
-    one.add_argument("--width", metavar="COLUMNS", type=_width, default=COLUMNS,
-                     help=f"text has so many columns ({COLUMNS}); with 0 each message is one line")
+                     help="write every instance that is outside its limits or missing, with its place and amount, as .csv or .json")
+    one.add_argument("--json", action="store_true", help="print everything as JSON on standard output")
+    one.add_argument("--junit", metavar="FILE", help="write a JUnit file for all logs")
+    one.add_argument("--page", action="store_true", help="print the library's page instead of the messages")
+    one.add_argument("--keep", metavar="FILE", help="write the results as JSON, one line for each log, for delkuthi merge and compare")
+    one.add_argument("--annotations", choices=STYLES, help="print lines that a build server shows beside the log")
+    one.add_argument("--html", metavar="FILE", help="write a page with pictures that needs no network")
+    one.add_argument("--note", metavar="NAME=TEXT", type=_note, action="append", default=[],
+                     help="add this note to the page and the results, such as build=1234")
+    one.add_argument("--plot", metavar="FILE", help="write a picture, as SVG, or as PNG with matplotlib")
+    one.add_argument("--trace", metavar="FILE", help="write a trace for Perfetto or chrome://tracing; .json.gz packs it")
+    one.add_argument("--jobs", metavar="N", type=positive, default=1, help="check N logs at a time")
+    one.add_argument("--quiet", action="store_true", help="print only messages, no last line")
+    one.add_argument("--width", metavar="COLUMNS", type=columns, default=COLUMNS,
+                     help=f"wrap text at this many columns ({COLUMNS}); 0 prints each message on one line")
     add_edges(one)
     add_options(one)
     one.set_defaults(run=_check)
 
 
 def _add_watch(commands: Any) -> None:
-    one = commands.add_parser("watch", help="check a bus while frames come")
+    one = commands.add_parser("watch", help="check a live bus")
     one.add_argument("table", metavar="TABLE")
     one.add_argument("bus", metavar="BUS", help="INTERFACE:CHANNEL of python-can, such as socketcan:can0")
-    one.add_argument("--seconds", type=_seconds, metavar="S", help="close after so long; else at q, an interrupt or SIGTERM")
+    one.add_argument("--seconds", type=_seconds, metavar="S", help="close after S seconds; otherwise at q, an interrupt or SIGTERM")
     one.add_argument("--period", type=_seconds, metavar="S", default=0.01,
-                     help="tick so often while nothing comes, where the library has no deadlines (0.01)")
-    one.add_argument("--lag", type=_seconds, metavar="S", default=0.05, help="ticks stay so far behind the clock (0.05)")
+                     help="tick every S seconds while no frame comes, if the library gives no deadline (0.01)")
+    one.add_argument("--lag", type=_seconds, metavar="S", default=0.05, help="keep ticks S seconds behind the clock (0.05)")
     one.add_argument("--record", metavar="FILE", help="keep the recording")
-    one.add_argument("--bitrate", type=_positive, metavar="N", help="of the bus, where the interface sets it")
+    one.add_argument("--bitrate", type=positive, metavar="N", help="the bit rate of the bus, if the interface sets it")
     add_databases(one)
     one.set_defaults(run=_watch)
 
 
 def _add_table(commands: Any) -> None:
-    one = commands.add_parser("table", help="text to bytes, bytes to text, text to its normal form")
+    one = commands.add_parser("table", help="turn text into bytes, bytes into text, text into its normal form")
     one.add_argument("table", metavar="TABLE", nargs="?")
-    one.add_argument("-o", "--output", metavar="FILE", help="where to; text goes to bytes and bytes to text")
+    one.add_argument("-o", "--output", metavar="FILE", help="the file to write; text becomes bytes, and bytes become text")
     one.add_argument("--text", action="store_true", help="write text, in its normal form")
     one.add_argument("--bytes", action="store_true", help="write bytes")
-    one.add_argument("--unit", choices=list(UNITS), help="the unit of a table that has none, for its text; of an ARXML file another one")
-    one.add_argument("--json", action="store_true", help="of an ARXML file the text and what became of each constraint, as JSON")
+    one.add_argument("--unit", choices=list(UNITS), help="the unit for a table that has none; another unit for an ARXML file")
+    one.add_argument("--json", action="store_true", help="for an ARXML file, print the text and what became of each constraint as JSON")
     add_timing(one)
-    one.add_argument("--grammar", action="store_true", help="how a text table is written")
+    one.add_argument("--grammar", action="store_true", help="print the grammar of text tables")
+    one.add_argument("--textmate", action="store_true", help="print the same for editors, as a TextMate grammar in JSON")
     one.set_defaults(run=_table)
 
 
 def _add_on_logs(commands: Any) -> None:
     """The commands that make something else of logs."""
     for name, run_it, logs, text in (
-        ("record", record, None, "a log as a recording of the library"),
-        ("join", join_logs, 2, "two logs with no event in common as one recording"),
-        ("shrink", shrink, None, "the few lines of a log that break a row by themselves"),
-        ("stamps", late_stamps, None, "whether a row is kept, broken or unsure where stamps may be late"),
+        ("record", record, None, "write a log as a recording of the library"),
+        ("join", join_logs, 2, "write two logs with no event in common as one recording"),
+        ("shrink", shrink, None, "print the few lines of a log that are enough to break a row"),
+        ("stamps", late_stamps, None, "say whether a row is kept, broken or unsure if stamps may be late"),
     ):
         one = commands.add_parser(name, help=text)
         one.add_argument("table", metavar="TABLE")
@@ -375,7 +379,7 @@ def _add_on_logs(commands: Any) -> None:
         if name in ("shrink", "stamps"):
             one.add_argument("row", metavar="ROW", help="a row's name or number")
         if name == "stamps":
-            one.add_argument("late", metavar="LATE", help="how late a stamp may be, such as 3 ms; the row is a Repeat of span 1")
+            one.add_argument("late", metavar="LATE", help="how late a stamp may be, such as 3 ms; the row must be a Repeat of span 1")
         elif name != "shrink":
             one.add_argument("-o", "--output", metavar="FILE", required=True)
         add_options(one)
@@ -383,13 +387,14 @@ def _add_on_logs(commands: Any) -> None:
 
 
 def _parser() -> argparse.ArgumentParser:
-    parser = _Parser("delkuthi", description="Timing constraints (TADL2) checked on logs and live buses.",
+    parser = _Parser("delkuthi", description="Check timing constraints (TADL2) on logs and live buses.",
                      epilog=_EXAMPLES, formatter_class=_PLAIN)
-    parser.add_argument("--version", action="store_true", help="the versions of this package and of the library")
+    parser.add_argument("--version", action="store_true", help="print the versions of this package and of the library")
     parser.set_defaults(takeover=None)
     commands = parser.add_subparsers(dest="command", metavar="COMMAND")
-    for add in (_add_check, _add_watch, _add_table, _add_on_logs):
+    for add in (_add_check, _add_watch, _add_table, _add_on_logs, add_fleet, add_propose):
         add(commands)
+    add_completion(commands, parser.format_help)
     return parser
 
 

@@ -15,7 +15,9 @@ from .time_format import TimeFormat
 
 #: What is said where no reason is found.
 UNKNOWN = "nothing that could still come would meet it"
-#: After so many events more than were needed a row forgets what it can.
+#: The largest number of events of a signal that are looked at while an answer to a broken row is awaited.
+WAITED_FOR = 4096
+#: A row forgets what it can after this many events more than it needs.
 FORGET_AFTER = 64
 
 
@@ -38,7 +40,7 @@ class RowHistory:
         self._more = FORGET_AFTER
 
     def copy(self) -> RowHistory:
-        """A history of its own that goes on from here."""
+        """Returns an independent history that continues from here."""
         other: RowHistory = object.__new__(RowHistory)
         other.__dict__.update(self.__dict__)
         events = {signal: Events(list(some.times), list(some.places)) for signal, some in self._case.events.items()}
@@ -72,6 +74,8 @@ class RowHistory:
     def _wanted(self, signal: int) -> bool:
         """Does the reason wait for an event of this signal, or need it to say how late the awaited one is?"""
         assert self._reason is not None
+        if self.answered or len(self._case.of(signal)) >= WAITED_FOR:
+            return False
         awaited = [one for one in self._reason.awaited if one.signal == signal]
         return signal in self._reason.needs and not (awaited and all(map(self._case.came, awaited)))
 

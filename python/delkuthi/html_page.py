@@ -31,14 +31,20 @@ NOTES, SHORT_NOTE = 6, 60
 def as_html(table: Table, table_name: str, logs: Sequence[Evidence], made: Provenance) -> str:
     """The page: for each log the rows, the reasons of broken ones, and pictures."""
     outcomes, numbered = [log.outcome for log in logs], list(enumerate(logs, 1))
+    style = joined([Markup(STYLE + "\n"), *(_rules(number, log) for number, log in numbered)])
+    return whole_page(f"{_headline(outcomes)}: {_subject(table_name, outcomes)}", _header(table_name, outcomes),
+                      [_log(table, number, log, len(logs) > 1) for number, log in numbered], made, style)
+
+
+def whole_page(title: str, headline: Markup, sections: list[Markup], made: Provenance, style: Markup = Markup()) -> str:
+    """A page of some sections, with the style and the script that every page has."""
     script = file_text("page.js")
     digest = base64.b64encode(hashlib.sha256(b"\n" + script.encode()).digest()).decode()  # the element's text begins with a line feed
     return fill(
-        "page", title=f"{_headline(outcomes)}: {_subject(table_name, outcomes)}", version=VERSION, date=made.date,
+        "page", title=title, version=VERSION, date=made.date,
         notes=[fill("note", name=name, value=value) for name, value in made.notes if len(value) <= SHORT_NOTE][:NOTES],
-        style=joined([file_text("page.css"), Markup(STYLE + "\n"), *(_rules(number, log) for number, log in numbered)]),
-        script=script, script_hash=digest, headline=_header(table_name, outcomes),
-        logs=[_log(table, number, log, len(logs) > 1) for number, log in numbered], provenance=_provenance(made)) + "\n"
+        style=joined([file_text("page.css"), style]), script=script, script_hash=digest, headline=headline, logs=sections,
+        provenance=_provenance(made)) + "\n"
 
 
 def _headline(outcomes: Sequence[Outcome]) -> str:

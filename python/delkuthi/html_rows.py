@@ -50,7 +50,7 @@ def rows_html(table: Table, number: int, log: Evidence) -> Markup:
     states += [fill("state", state=state, word=STATES[state], count=counts[state]) for state in STATES if counts[state]]
     lines = [_row(table, number, log, row, place, measured) for place, row in enumerate(rows)]
     return fill("rows", states=states, measured=" measured" if measured else "", rows=lines,
-                headings=fill("measured_headings", unit=_unit(table)) if measured else "", explained=fill("explained") if measured else "")
+                headings=fill("measured_headings", unit=page_unit(table.unit)) if measured else "", explained=fill("explained") if measured else "")
 
 
 def _row(table: Table, number: int, log: Evidence, row: RowOutcome, place: int, measured: bool) -> Markup:
@@ -78,27 +78,28 @@ def _when(outcome: Outcome, row: RowOutcome) -> list[str]:
     return [f"at {time_format.since(time + time_format.shift) or shown(time, time_format.unit)}", place]
 
 
-def _size(table: Table) -> int:
+def _size(unit: str | None) -> int:
     """The size of the page's unit in units of the table. The page's unit is ms, or the table's if that is coarser."""
-    return max(UNITS["ms"] // UNITS[table.unit], 1) if table.unit is not None else 1
+    return max(UNITS["ms"] // UNITS[unit], 1) if unit is not None else 1
 
 
-def _unit(table: Table) -> str:
-    """The page's unit, as it stands in a heading."""
-    return "" if table.unit is None else f" [{table.unit if UNITS[table.unit] > UNITS['ms'] else 'ms'}]"
+def page_unit(unit: str | None) -> str:
+    """The page's unit for a table of this unit, as it stands in a heading."""
+    return "" if unit is None else f" [{unit if UNITS[unit] > UNITS['ms'] else 'ms'}]"
 
 
-def _time(time: int | None, table: Table) -> str:
-    """A time in the page's unit, as a number that can be pasted."""
-    return "" if time is None else decimal(time, _size(table))
+def page_time(time: int | None, unit: str | None) -> str:
+    """A time of a table of this unit in the page's unit, as a number that can be pasted."""
+    return "" if time is None else decimal(time, _size(unit))
 
 
 def _measured(found: Described, table: Table) -> Markup:
     """The figures of a row."""
-    times = {name: _time(found[name], table) for name in ("least", "greatest", "margin")}
+    times = {name: page_time(found[name], table.unit) for name in ("least", "greatest", "margin")}
     bad = {f"{name}_state": " bad" if found[name] else "" for name in ("outside", "missing")}
     negative = found["margin"] is not None and found["margin"] < 0
-    return fill("measured", outside=found["outside"], missing=found["missing"], mean=mean_number(found["mean"], _size(table)), unit=_unit(table),
+    return fill("measured", outside=found["outside"], missing=found["missing"], mean=mean_number(found["mean"], _size(table.unit)),
+                unit=page_unit(table.unit),
                 margin_state=" bad" if negative else "", worst=worst_text(found), histogram=Markup(histogram_svg(found, table.unit)), **times, **bad)
 
 
@@ -137,7 +138,7 @@ def _violations(table: Table, outcome: Outcome, found: list[Violation], count: i
     if not found:
         return Markup()
     more = fill("violations_more", count=count - len(found)) if count > len(found) else Markup()
-    return fill("violations", count=plain(number_of(count, "violation")), unit=_unit(table), more=more,
+    return fill("violations", count=plain(number_of(count, "violation")), unit=page_unit(table.unit), more=more,
                 lines=[_violation(table, outcome, number, one) for number, one in enumerate(found, 1)],
                 open=Markup(" open") if count <= VIOLATIONS else "")
 
@@ -145,5 +146,5 @@ def _violations(table: Table, outcome: Outcome, found: list[Violation], count: i
 def _violation(table: Table, outcome: Outcome, number: int, one: Violation) -> Markup:
     """One violation: what it is, where, when, and by how much. Where a log is in several files, its place names the file."""
     where = f"{outcome.word} {one.line}" if isinstance(outcome.files, str) else one.end_where or one.begin_where or ""
-    times = {name: _time(getattr(one, name), table) for name in ("begin", "end", "value", "by", "due")}
+    times = {name: page_time(getattr(one, name), table.unit) for name in ("begin", "end", "value", "by", "due")}
     return fill("violation", number=number, what=one.what, where=where, **times)

@@ -1,4 +1,4 @@
-"""Rows judged over parts of a log: each by a monitor of its own, over a scope that is cut, or over each stretch of its ``while`` window.
+"""Rows judged over parts of a log: each row has its own monitor, over a scope that is cut, or over each stretch of its ``while`` window.
 
 The verdict is the library's. What is not known is what came before a scope that is cut: a target may belong to a source that is not in
 the log, an event to a group that began before it. So a row is judged over every past that matters, each with a monitor, and it is
@@ -22,7 +22,7 @@ from .split import split
 from .table import Row, Table
 from .time_format import TimeFormat
 
-#: So many pasts of a row are followed at most.
+#: The largest number of pasts of a row that are followed.
 PASTS = 64
 #: A deadline that is never reached.
 NEVER = 1 << 62
@@ -45,7 +45,7 @@ class Past:
         self.taken: Counter[int] = Counter()
 
     def copy(self) -> Past:
-        """A past of its own that goes on from here."""
+        """Returns an independent past that continues from here."""
         other = Past(self.monitor.copy(), self.history.copy())
         other.left, other.taken = Counter(self.left), Counter(self.taken)
         return other
@@ -91,6 +91,9 @@ class RowJudge:
         if self.broken:
             self.best.history.add(signal, time, place)
             return
+        if len(self.pasts) == 1 and self._first is None and not self._began(self.pasts[0], step):
+            self._take_alone(self.pasts[0], step)
+            return
         self._pass(step)
         self._count_lone(time)
         if self._first is not None:
@@ -99,13 +102,31 @@ class RowJudge:
             self._take(past, step)
         self._look(time)
 
+    def _began(self, past: Past, step: Step) -> str:
+        """Does an event belong to what began before the stretch?"""
+        if self._begin is None or step.signal is None:
+            return ""
+        return self.row.type.beginning.began(self.row, step.signal, step.time - self._begin, past.taken, past.left)
+
+    def _take_alone(self, past: Past, step: Step) -> None:
+        """The same as :meth:`take` where one past is left and the event belongs to none before it."""
+        signal, time, place = step
+        assert signal is not None
+        self._clock = time
+        past.taken[signal] += 1
+        past.history.add(signal, time, place)
+        self._step(past, self._signal(signal), step)
+        if past.broken:
+            self._drop_broken(time)
+            self.due = NEVER
+        else:
+            self.due = past.deadline
+
     def _take(self, past: Past, step: Step) -> None:
         """An event in one past: taken, left out, or both, where both may be."""
         signal, time, place = step
         assert signal is not None
-        beginning, began = self.row.type.beginning, ""
-        if self._begin is not None:
-            began = beginning.began(self.row, signal, time - self._begin, past.taken, past.left)
+        began = self._began(past, step)
         if began == "surely":
             self._leave_out(past, step)
             return

@@ -145,7 +145,7 @@ def library() -> ctypes.CDLL:
         )
     for name, (result, arguments) in CALLS.items():
         if not hasattr(found, name):
-            raise LibraryMissing(f"{path} has no call {name}: it is not a library of version {INTERFACE}; install both anew")
+            raise LibraryMissing(f"{path} has no call {name}: it is not a library of version {INTERFACE}; install both again")
         call = getattr(found, name)
         call.restype, call.argtypes = result, arguments
     for name, (result, arguments) in OPTIONAL_CALLS.items():
@@ -155,7 +155,7 @@ def library() -> ctypes.CDLL:
     version = found.delkuthi_version()
     interface = f"{version // 1_000_000}.{version // 1000 % 1000}"
     if interface != INTERFACE:
-        raise LibraryMissing(f"the library is of version {interface}, this package of {INTERFACE}: install both anew")
+        raise LibraryMissing(f"the library is of version {interface}, this package of {INTERFACE}: install both again")
     return found
 
 

@@ -29,7 +29,7 @@ def accepted(log: Log, steps: Iterable[Step]) -> Iterator[Step]:
             raise _refused(log, chunk[taken], refusal)
     for (target, name), most in log.at_once.items():
         if most > 1:
-            raise LogError(log.path, "", f"{most} instances of the {target} {name} run at once, which only delkuthi check tells apart")
+            raise LogError(log.path, "", f"{most} instances of the {target} {name} run at once; only delkuthi check can separate them")
 
 
 def _refused(log: Log, step: Step, number: int) -> LogError:
@@ -92,14 +92,14 @@ def row_number(table: Table, given: str) -> int:
     if given.isascii() and given.isdecimal() and len(given) < 9 and int(given) < len(table.rows):
         return int(given)
     names = ", ".join(table.row_name(number) for number in range(len(table.rows)))
-    raise LogError("ROW", "", f"{Refused(15)}; {given} is none of {names or 'its rows, as there are none'}")
+    raise LogError("ROW", "", f"{Refused(15)}; {given} is not one of {names or 'its rows, because it has none'}")
 
 
 def shrink(given: argparse.Namespace) -> int:
     """``delkuthi shrink``: 0 if the log keeps the row, 1 if it breaks it."""
     table = read_table(given, True)
     row = row_number(table, given.row)
-    refuse_windows(table, given.table, [row], "shrink does not take it")
+    refuse_windows(table, given.table, [row], "shrink does not support it")
     log = Log(given.log, table, policy(given, table))
     steps = list(accepted(log, log.steps()))
     name, alone = table.row_name(row), table.alone(row)
@@ -119,7 +119,7 @@ def shrink(given: argparse.Namespace) -> int:
     less = shortest(alone, 0, steps, end)
     if less is not None and (start is None or less[1].length < end - start + 1):
         first = less[0] + less[1].first
-        _tell(log, row, steps, first, first + less[1].length - 1, f"{name} is broken by less, taken alone")
+        _tell(log, row, steps, first, first + less[1].length - 1, f"{name} is also broken by fewer steps on their own")
     return 1
 
 
@@ -148,7 +148,7 @@ def late_stamps(given: argparse.Namespace) -> int:
     """``delkuthi stamps``: 0 if the row is kept, 1 if it is broken or unsure."""
     table = read_table(given, True)
     row, late = row_number(table, given.row), time_of("LATE", given.late, table)
-    refuse_windows(table, given.table, [row], "stamps does not take it")
+    refuse_windows(table, given.table, [row], "stamps does not support it")
     log = Log(given.log, table, policy(given, table))
     steps = list(accepted(log, log.steps()))
     # A true time is not below 0: with room for the lateness the answer does not depend on where the stamps begin.

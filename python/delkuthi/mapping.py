@@ -9,18 +9,21 @@ from typing import Callable, Sequence
 from .conditions import Condition, Edge, Sample
 from .database import Database, DatabaseError, Raw, SignalLayout
 from .signals import signal
-from .sources import CanSource, SignalSource
+from .sources import CanSource, SignalSource, UdpSource
 from .spelling import did_you_mean
 from .table import Table
 
 
 class CanMapping:
-    """The sources of a table by their identifiers. It remembers what each frame was, for the sources that go by a change."""
+    """The sources of a table by their identifiers. It remembers what each frame was, for the sources that take only changes."""
 
     def __init__(self, table: Table):
         self._by_identifier: dict[tuple[int, bool], list[tuple[int, _FrameTest | _SignalTest]]] = {}
+        self._by_port: dict[int, list[tuple[int, _FrameTest]]] = {}
         #: The identifiers of the data frames that the log has, and whether they are extended.
         self.met: set[tuple[int, bool]] = set()
+        #: The UDP ports that datagrams of the log were sent to.
+        self.ports: set[int] = set()
         self._known: dict[tuple[int, bool], tuple[int, ...] | None] = {}
         #: Where the signals stand that the table names.
         self.layouts: dict[str, SignalLayout] = {}
@@ -29,9 +32,16 @@ class CanMapping:
                 number = signal(event.kind, source.colour)
                 if isinstance(source, CanSource):
                     self._by_identifier.setdefault((source.identifier, source.extended), []).append((number, _FrameTest(source)))
+                elif isinstance(source, UdpSource):
+                    self._by_port.setdefault(source.port, []).append((number, _FrameTest(source)))
                 elif isinstance(source, SignalSource):
                     layout = self.layouts[source.signal] = _layout(table, source.signal)
                     self._by_identifier.setdefault((layout.identifier, layout.extended), []).append((number, _SignalTest(layout, source)))
+
+    def datagram(self, port: int, data: bytes) -> tuple[int, ...]:
+        """The signals that a datagram to a UDP port is an event of."""
+        self.ports.add(port)
+        return tuple(dict.fromkeys(number for number, test in self._by_port.get(port, ()) if test.events("", [data])))
 
     def kinds(self, identifier: int, extended: bool, bus: str, data: bytes) -> tuple[int, ...]:
         """The signals that a data frame is an event of, in the order of the event lines."""
@@ -64,9 +74,9 @@ class _FrameTest:
     """Does the data of frames match, on the bus that is asked for; and, if that is asked, did the frame before it not match? A first frame is
     no event then, as what was before is not known."""
 
-    def __init__(self, source: CanSource):
-        self._bus, self._change = source.bus, source.change
-        self.always = source.bus is None and source.data is None and not source.change
+    def __init__(self, source: CanSource | UdpSource):
+        self._bus, self._change = source.bus if isinstance(source, CanSource) else None, source.change
+        self.always = self._bus is None and source.data is None and not source.change
         digits = source.data or ""
         #: How many bytes are looked at, which of their bits, and what these are.
         self._size = (len(digits) + 1) // 2

@@ -2,7 +2,7 @@
 
 The steps are read once, and the memory that is needed does not grow with the log. The library alone says whether a row is kept; the
 measures are tested against it: a row that it breaks has an instance outside its limits or a missing one, a kept row has none.
-Once something is missing, the count of instances begins anew behind it, so that one lost answer does not put all later ones out.
+Once something is missing, counting starts again after it, so that one lost answer does not shift all later ones.
 """
 from __future__ import annotations
 
@@ -15,6 +15,7 @@ from typing import TYPE_CHECKING, Any, Callable, Iterable, Iterator, Mapping, Na
 
 from .fifo import Fifo
 from .library import NO_LIMIT
+from .sketch import Sketch
 
 if TYPE_CHECKING:
     from .table import Row, Table
@@ -59,7 +60,7 @@ class Histogram:
             self.counts, self.outside = wider, {place // 2 for place in self.outside}
 
     def bars(self, most: int = 32) -> tuple[int, int, list[int], list[bool]]:
-        """At most so many bars side by side: where the first begins, how wide each is, their counts, and whether a value of each is
+        """A histogram of at most this many bars: where the first begins, how wide each is, their counts, and whether a value of each is
         outside."""
         if not self.counts:
             return 0, self.width, [], []
@@ -133,6 +134,8 @@ class Measure:
     worst: Instance | None = None
     missed: Moment | None = None
     histogram: Histogram = field(default_factory=Histogram)
+    #: For percentiles.
+    sketch: Sketch = field(default_factory=Sketch)
     #: Called with each instance that is not as asked.
     note: Callable[[Finding], None] | None = None
 
@@ -158,7 +161,7 @@ class Measure:
             self.outside += 1
             if self.note is not None:
                 self.note(Finding("outside", what or self._side(value), value, -margin, begin, (time, place)))
-        if self.worst is None or margin is not None and (self.worst.margin is None or margin < self.worst.margin):
+        if self._is_worse(margin):
             self.worst = Instance(value, time, place, margin)
 
     def _side(self, value: int) -> str:
@@ -172,6 +175,7 @@ class Measure:
         self.least = value if self.least is None else min(self.least, value)
         self.greatest = value if self.greatest is None else max(self.greatest, value)
         self.histogram.add(value, outside)
+        self.sketch.add(value)
 
     def add_all(self, values: Sequence[int], lower: int, upper: int | None, ends: Sequence[int], place: Callable[[int], int]) -> bool:
         """Instances with values that are all within their limits, each with the time and the place that it ends at; nothing is added, and the
@@ -179,19 +183,35 @@ class Measure:
         least, greatest = min(values), max(values)
         if least < lower or upper is not None and greatest > upper:
             return False
+        margin = min(([least - lower] if lower else []) + ([] if upper is None else [upper - greatest]), default=None)
+        if self._is_worse(margin):
+            near = [] if margin is None else ([lower + margin] if lower else []) + ([] if upper is None else [upper - margin])
+            at = min((values.index(value) for value in near if least <= value <= greatest and value in values), default=0)
+            self.worst = Instance(values[at], ends[at], place(at), margin)
+        self._add_values(values, least, greatest)
+        return True
+
+    def add_with(self, values: Sequence[int], margins: Sequence[int | None], ends: Sequence[int], place: Callable[[int], int]) -> None:
+        """The same for instances whose margins are known, of which none is below 0."""
+        known = [margin for margin in margins if margin is not None]
+        margin = min(known, default=None)
+        if self._is_worse(margin):
+            at = margins.index(margin)
+            self.worst = Instance(values[at], ends[at], place(at), margin)
+        self._add_values(values, min(values), max(values))
+
+    def _is_worse(self, margin: int | None) -> bool:
+        """Is an instance with this margin the worst so far?"""
+        return self.worst is None or margin is not None and (self.worst.margin is None or margin < self.worst.margin)
+
+    def _add_values(self, values: Sequence[int], least: int, greatest: int) -> None:
         self.judged += len(values)
         self.measured += len(values)
         self.total += sum(values)
         self.least = least if self.least is None else min(self.least, least)
         self.greatest = greatest if self.greatest is None else max(self.greatest, greatest)
         self.histogram.add_all(values)
-        margins = ([least - lower] if lower else []) + ([] if upper is None else [upper - greatest])
-        margin = min(margins, default=None)
-        if self.worst is None or margin is not None and (self.worst.margin is None or margin < self.worst.margin):
-            near = [] if margin is None else ([lower + margin] if lower else []) + ([] if upper is None else [upper - margin])
-            at = min((values.index(value) for value in near if least <= value <= greatest and value in values), default=0)
-            self.worst = Instance(values[at], ends[at], place(at), margin)
-        return True
+        self.sketch.add_all(values)
 
     def miss(self, moment: Moment, what: str, due: int | None = None, now: int | None = None) -> None:
         """One instance that has no partner, or is out of order, by the event of this moment; ``now`` is when that is certain."""
@@ -252,8 +272,8 @@ class RowMeasuring:
 
 
 class HiddenPoints(RowMeasuring):
-    """The first and the last place that hidden points can have by the events so far. What is measured is the distance of the events;
-    whether one is outside, and its margin, goes by the stretch in which it could come after those before it."""
+    """The first and the last place that hidden points can have by the events so far. What is measured is the distance of the events.
+    The stretch in which an event could come after those before it decides whether it is outside, and its margin."""
 
     def __init__(self, row: Row):
         super().__init__(row)
@@ -280,6 +300,27 @@ class HiddenPoints(RowMeasuring):
             self.before.clear()
         self.before.append((time, place))
         self.step(time)
+
+    def take_all(self, times: Mapping[int, list[int]], place: Callable[[int, int], int]) -> bool:
+        event, before, points = self.values["event"], self.before.copy(), self.points.copy()
+        values: list[int] = []
+        margins: list[int | None] = []
+        for at, time in enumerate(times[event]):
+            margin = self.margin(time)
+            if margin is not None and margin < 0:
+                self.before, self.points = before, points
+                return False
+            if len(self.before) == self.before.maxlen:
+                values.append(time - self.before[0][0])
+                margins.append(margin)
+            # The place of an event is looked for below, where it is needed.
+            self.before.append((time, ~at))
+            self.step(time)
+        self.before = deque([(time, at if at >= 0 else place(event, ~at)) for time, at in self.before], self.before.maxlen)
+        first = len(times[event]) - len(values)
+        if values:
+            self.measure.add_with(values, margins, times[event][first:], lambda at: place(event, at + first))
+        return True
 
     def margin(self, time: int) -> int | None:
         """How far an event at this time is from the ends of the stretch in which it can come."""

@@ -19,6 +19,7 @@ def described(found: Measure, stamp: Callable[[int], int], where: Callable[[int]
         "quantity": found.quantity, "lower": found.lower, "upper": found.upper, "judged": found.judged, "measured": found.measured,
         "outside": found.outside, "missing": found.missing, "least": found.least,
         "mean": None if found.mean is None else float(found.mean), "greatest": found.greatest, "margin": found.margin,
+        "percentiles": found.sketch.percentiles(found.least, found.greatest), "sketch": found.sketch.as_dict(),
         "worst": None if worst is None else {"value": worst.value, "time": stamp(worst.time), "where": where(worst.place)},
         "missed": None if missed is None else {"time": stamp(missed[0]), "where": where(missed[1])},
         "histogram": {"begin": begin, "width": width, "counts": counts, "outside": outside},

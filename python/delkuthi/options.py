@@ -25,32 +25,32 @@ def time_of(what: str, text: str, table: Table) -> int:
     try:
         return in_unit(match[1], match[2], table.unit)
     except NotWhole as found:
-        raise LogError(what, "", f"{found} is no whole number of {table.unit or 'units'}") from None
+        raise LogError(what, "", f"{found} is not a whole number of {table.unit or 'units'}") from None
 
 
 def add_options(parser: argparse.ArgumentParser) -> None:
     """The options that every command on logs has."""
     group = parser.add_argument_group("how the log is read")
     group.add_argument("--equal", choices=["refuse", "drop", "later"], default="refuse",
-                       help="two events of one kind at one stamp: an error, leave out the second, or one unit later")
+                       help="two events of one kind at one stamp: report an error, leave out the second, or move it one unit later")
     group.add_argument("--unsorted", choices=["refuse", "sort"], default="refuse",
-                       help="a stamp before the one above it: an error, or sort the log first (in memory)")
-    group.add_argument("--round", action="store_true", help="stamps finer than the table's unit count as the nearest")
+                       help="a stamp before the one above it: report an error, or sort the log first (in memory)")
+    group.add_argument("--round", action="store_true", help="round stamps that are finer than the table's unit to the nearest")
     group.add_argument("--from-zero", action="store_true", help="count the stamps from the first one")
     group.add_argument("--as-stamped", action="store_true",
-                       help="give the monitor the stamps as they are, not ahead by the largest jitter of the table")
-    group.add_argument("--until", metavar="TIME", help="the clock went on to this time after the last line")
-    group.add_argument("--no-close", action="store_true", help="the end of the log is not the end: rows may stay open")
+                       help="give the monitor the stamps as they are, without the offset of the largest jitter of the table")
+    group.add_argument("--until", metavar="TIME", help="the clock reached this time after the last line")
+    group.add_argument("--no-close", action="store_true", help="do not close the recording at the end of the log; rows may stay open")
     group.add_argument("--from", metavar="EDGE", dest="begin",
-                       help="begin at an event, at a stamp such as 300 ms, or with +300 ms so long after the first line")
-    group.add_argument("--to", metavar="EDGE", dest="end", help="end at an event, at a stamp, or so long after the first line")
+                       help="begin at an event, at a stamp such as 300 ms, or at a time after the first line such as +300 ms")
+    group.add_argument("--to", metavar="EDGE", dest="end", help="end at an event, at a stamp, or at a time after the first line")
     group.add_argument("--time-column", metavar="NAME", help="CSV: the column of the times (time, time_ms, ..)")
-    group.add_argument("--time-unit", choices=list(UNITS), help="CSV: the unit of the times, where the column's head does not say it")
+    group.add_argument("--time-unit", choices=list(UNITS), help="CSV: the unit of the times, if the column's head does not give it")
     group.add_argument("--event-column", metavar="NAME", help="CSV: the column of the events (event)")
     group.add_argument("--task-column", metavar="NAME", help="CSV: the column of the tasks (task)")
-    group.add_argument("--action-column", metavar="NAME", help="CSV: the column of what happens to them (action)")
-    group.add_argument("--encoding", metavar="NAME", type=_encoding, default="utf-8", help="of a text log, such as cp1252 (utf-8)")
-    group.add_argument("--format", metavar="ENDING", type=_format, help="what the log is, such as csv, whatever its name ends with")
+    group.add_argument("--action-column", metavar="NAME", help="CSV: the column of the actions (action)")
+    group.add_argument("--encoding", metavar="NAME", type=_encoding, default="utf-8", help="the encoding of a text log, such as cp1252 (utf-8)")
+    group.add_argument("--format", metavar="ENDING", type=_format, help="the format of the log, such as csv, whatever the ending of its name")
     add_databases(parser)
 
 
@@ -58,24 +58,39 @@ def add_edges(parser: argparse.ArgumentParser) -> None:
     """The options that say what the beginning and the end of a log are."""
     edges = parser.add_mutually_exclusive_group()
     edges.add_argument("--cut", action="store_true",
-                       help="the log is a part of something longer: what began before it is left out, what is not yet due at its end is not "
-                            "missing; the default with --from and --to, at that end")
+                       help="the log is part of something longer: leave out what began before it, and do not count what is not yet due at its end "
+                            "as missing; the default at an end that --from or --to gives")
     edges.add_argument("--close", action="store_true",
-                       help="the log is all there is: what has not come by its end is missing; the default without --from and --to")
+                       help="the log is complete: what has not come by its end is missing; the default without --from and --to")
 
 
 def add_databases(parser: argparse.ArgumentParser) -> None:
     """The option that every command on frames has."""
-    parser.add_argument("--dbc", metavar="FILE", action="append", default=[], help="signals by name: a DBC or ARXML file, by canmatrix")
+    parser.add_argument("--dbc", metavar="FILE", action="append", default=[],
+                        help="a DBC or ARXML file with the signals that the table names, read with canmatrix")
     add_timing(parser)
     parser.add_argument("--unit", choices=list(UNITS), help="the unit of a table that is an ARXML file (ns)")
 
 
 def add_timing(parser: argparse.ArgumentParser) -> None:
     """The options of a table that is an ARXML file."""
-    group = parser.add_argument_group("where the table is an ARXML file with AUTOSAR timing requirements")
-    group.add_argument("--events", metavar="FILE", help="lines event NAME from .. for events of which the file does not say how a log has them")
-    group.add_argument("--guarantees", action="store_true", help="take its timing guarantees too")
+    group = parser.add_argument_group("if the table is an ARXML file with AUTOSAR timing requirements")
+    group.add_argument("--events", metavar="FILE", help="a file of lines event NAME from .. for events whose source the ARXML file does not give")
+    group.add_argument("--guarantees", action="store_true", help="also take its timing guarantees")
+
+
+def positive(text: str) -> int:
+    """A number of jobs, of logs, or of bits a second."""
+    if not (text.isascii() and text.isdecimal() and len(text) < 10 and int(text) > 0):
+        raise argparse.ArgumentTypeError(f"expected a whole number of at least 1, found {text}")
+    return int(text)
+
+
+def columns(text: str) -> int:
+    """A number of columns of text, or 0."""
+    if text != "0" and not (text.isascii() and text.isdecimal() and len(text) < 6 and int(text) >= 40):
+        raise argparse.ArgumentTypeError(f"expected 0, or at least 40 columns, found {text}")
+    return int(text)
 
 
 def _encoding(text: str) -> str:
@@ -104,7 +119,7 @@ def _plain_table(given: argparse.Namespace) -> Table:
     """A table of text or bytes, which says itself where its events come from."""
     for name, option in (("--events", given.events), ("--guarantees", given.guarantees), ("--unit", given.unit)):
         if option:
-            raise LogError(name, "", f"only where the table is an ARXML file; {given.table} is none")
+            raise LogError(name, "", f"only for a table that is an ARXML file; {given.table} is not one")
     return Table.read(given.table)
 
 
@@ -118,7 +133,7 @@ def refuse_windows(table: Table, file: str, rows: Iterable[int], what: str) -> N
     """An error where one of these rows has a window, which only ``check`` takes."""
     for number in rows:
         if table.rows[number].window is not None:
-            raise LogError(file, "", f"{table.row_name(number)} has a window (while): {what}, only check does")
+            raise LogError(file, "", f"{table.row_name(number)} has a window (while): {what}; only check does")
 
 
 def policy(given: argparse.Namespace, table: Table) -> Policy:

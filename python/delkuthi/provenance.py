@@ -16,7 +16,7 @@ from .run_date import run_date
 from .table import Table
 
 #: Modules that may have read a log, and the names of their packages.
-_PACKAGES = {"can": "python-can", "canmatrix": "canmatrix", "openpyxl": "openpyxl"}
+_PACKAGES = {"can": "python-can", "canmatrix": "canmatrix", "openpyxl": "openpyxl", "asammdf": "asammdf"}
 
 
 @dataclass(frozen=True)
@@ -47,7 +47,13 @@ def provenance(table: Table, table_name: str, logs: Iterable[str | tuple[str, ..
     files += [_file("Signals", Path(path).name, path) for path in table.database_paths]
     names = [name for log in logs for name in ([log] if isinstance(log, str) else log)]
     files += [_file("Log", "standard input" if name == NAME else name, kept() if name == NAME else name) for name in dict.fromkeys(names)]
-    return Provenance(run_date().strftime("%Y-%m-%d %H:%M:%S UTC"), shlex.join(["delkuthi", *words]), tuple(files), _versions(), tuple(notes))
+    return made_by(words, notes, files)
+
+
+def made_by(words: Sequence[str], notes: Iterable[tuple[str, str]] = (), files: Iterable[File] = ()) -> Provenance:
+    """The provenance of what a command made of some files."""
+    date = run_date().strftime("%Y-%m-%d %H:%M:%S UTC")
+    return Provenance(date, shlex.join(["delkuthi", *words]), tuple(files), _versions(), tuple(notes))
 
 
 def _file(what: str, name: str, path: str) -> File:

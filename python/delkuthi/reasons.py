@@ -29,7 +29,7 @@ class Events:
         self.places.append(place)
 
     def drop(self, number: int) -> None:
-        """Forgets so many of the first."""
+        """Forgets a number of the first events."""
         del self.times[:number], self.places[:number]
 
     def __len__(self) -> int:
@@ -114,7 +114,7 @@ class Case:
 
 
 def drop_to_last(case: Case, field_name: str, number: int) -> None:
-    """Forgets all but so many of the last events of the kind that a field names."""
+    """Forgets all but a number of the last events of the kind that a field names."""
     events = case.of(case.number(field_name))
     events.drop(max(len(events) - number, 0))
 
@@ -191,12 +191,12 @@ def misplaced(case: Case, one: Blamed, first: int, last: int | None) -> Reason |
     """An event that came before or after the stretch that those before it leave."""
     time = case.time(one)
     if last is not None and last < max(first, case.time(Blamed(one.signal, one.number - 1)) + 1 if one.number else 0):
-        return plain(f"for {case.event(one)} no moment is left by the events before it", one)
+        return plain(f"for {case.event(one)} the events before it leave no moment", one)
     if time < first:
-        return plain(f"{case.event(one)} came {case.long(first - time)} too early: by the events before it it could come from "
+        return plain(f"{case.event(one)} came {case.long(first - time)} too early: given the events before it, it could come from "
                      f"{case.moment(first)} on", one)
     if last is not None and time > last:
-        return plain(f"{case.event(one)} came {case.long(time - last)} too late: by the events before it it could come up to "
+        return plain(f"{case.event(one)} came {case.long(time - last)} too late: given the events before it, it could come up to "
                      f"{case.moment(last)}", one)
     return None
 

@@ -16,7 +16,7 @@ from .units import exact
 @dataclass(frozen=True)
 class Event:
     """A kind of event with its name, and where it comes from; from a source of a coloured kind with its colour. ``numbered`` says that
-    its kind is the text's and not the tool's, ``implied`` that it has no line of its own in the text."""
+    its kind is the text's and not the tool's, ``implied`` that it has no line in the text."""
 
     name: str
     kind: int
@@ -95,7 +95,7 @@ class Row:
                 if number == 5 and lib.LAST_KIND < kind <= 255:
                     return part.name, f"found {kind}, the range is 0 to {lib.LAST_KIND}"
                 if number == 5 and kind in seen:
-                    return part.name, f"found {kind}, which stands in {seen[kind]} already"
+                    return part.name, f"found {kind}, which is already in {seen[kind]}"
                 if number == 18 and is_coloured(kind) != (part.role == "coloured"):
                     return part.name, f"found {kind}, the range is {_SORTS[part.role == 'coloured']}"
                 seen[kind] = part.name

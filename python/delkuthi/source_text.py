@@ -6,7 +6,7 @@ from typing import TYPE_CHECKING, Callable
 
 from .conditions import VALUE, WORDS, Condition
 from .library import LAST_COLOUR
-from .sources import ACTIONS, TARGETS, CanSource, ColumnSource, CsvSource, KeySource, SignalSource, Source, TaskSource
+from .sources import ACTIONS, TARGETS, CanSource, ColumnSource, CsvSource, KeySource, SignalSource, Source, TaskSource, UdpSource
 from .units import DIGITS
 
 if TYPE_CHECKING:
@@ -15,6 +15,7 @@ if TYPE_CHECKING:
 #: The grammar of a source, a line for each.
 GRAMMAR = """\
 source = "from" "can" ID ["bus" NAME] ["data" DIGITS] ["on" "change"] ["colour" COLOUR]
+       | "from" "udp" PORT ["data" DIGITS] ["on" "change"] ["colour" COLOUR]
        | "from" "signal" NAME ["bus" NAME] condition ["colour" COLOUR]
        | "from" "column" NAME condition ["colour" COLOUR]
        | "from" ("task" | "isr" | "runnable") STRING ACTION ["colour" COLOUR]
@@ -61,11 +62,27 @@ def _can(line: Line) -> CanSource:
     if identifier >= 2**29:
         raise line.error("expected an identifier of at most 29 bits, 0x1FFFFFFF", start)
     bus = _bus(line)
+    return CanSource(identifier, extended, bus, _data(line), _change(line), _colour(line))
+
+
+def _data(line: Line) -> str | None:
     data = line.take(r"[0-9A-Fa-f.]+(?!\w)", "hexadecimal digits, with . for any") if line.word("data") else None
+    return None if data is None else data.upper()
+
+
+def _change(line: Line) -> bool:
     change = line.word("on")
     if change:
         line.demand("change")
-    return CanSource(identifier, extended, bus, None if data is None else data.upper(), change, _colour(line))
+    return change
+
+
+def _udp(line: Line) -> UdpSource:
+    start = line.column
+    port = int(line.take(DIGITS, "a port from 0 to 65535") or 0)
+    if port > 65535:
+        raise line.error(f"expected a port from 0 to 65535, found {port}", start)
+    return UdpSource(port, _data(line), _change(line), _colour(line))
 
 
 def _csv(line: Line) -> CsvSource:
@@ -115,7 +132,7 @@ def _task(line: Line, target: str) -> TaskSource:
     return TaskSource(target, name, action, _colour(line))
 
 
-_READERS: dict[str, Callable[["Line"], Source]] = {"can": _can, "signal": _signal, "column": _column, "csv": _csv, "key": _key}
+_READERS: dict[str, Callable[["Line"], Source]] = {"can": _can, "udp": _udp, "signal": _signal, "column": _column, "csv": _csv, "key": _key}
 
 
 def source_text(source: Source) -> str:
@@ -134,10 +151,17 @@ def _words(source: Source) -> str:
     if isinstance(source, ColumnSource):
         name = source.column if re.fullmatch(r"\w+", source.column) else quoted(source.column)
         return f"column {name} {source.condition.text()}"
+    if isinstance(source, UdpSource):
+        return f"udp {source.port}{_data_words(source)}"
     bus = f" bus {source.bus}" if source.bus is not None else ""
     if isinstance(source, SignalSource):
         name = source.signal if re.fullmatch(r"[\w.]+", source.signal) else quoted(source.signal)
         return f"signal {name}{bus} {source.condition.text()}"
     digits = f"{source.identifier:08X}" if source.extended else f"{source.identifier:03X}"
+    return f"can 0x{digits}{bus}{_data_words(source)}"
+
+
+def _data_words(source: CanSource | UdpSource) -> str:
+    """What is asked of the data of frames or datagrams."""
     data = f" data {source.data}" if source.data is not None else ""
-    return f"can 0x{digits}{bus}{data}{' on change' if source.change else ''}"
+    return f"{data}{' on change' if source.change else ''}"

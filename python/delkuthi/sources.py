@@ -1,4 +1,4 @@
-"""Where events come from: frames, signals by name, sampled columns, what happens to tasks, texts of a CSV file, and keys."""
+"""Where events come from: frames, datagrams, signals by name, sampled columns, what happens to tasks, texts of a CSV file, and keys."""
 from __future__ import annotations
 
 from dataclasses import dataclass
@@ -18,6 +18,16 @@ class CanSource:
     identifier: int
     extended: bool = False
     bus: str | None = None
+    data: str | None = None
+    change: bool = False
+    colour: int | None = None
+
+
+@dataclass(frozen=True)
+class UdpSource:
+    """Datagrams to a UDP port that are an event, and what their data begins with (``.`` is any digit)."""
+
+    port: int
     data: str | None = None
     change: bool = False
     colour: int | None = None
@@ -70,4 +80,4 @@ class TaskSource:
     lane: int | None = None
 
 
-Source = CanSource | SignalSource | ColumnSource | TaskSource | CsvSource | KeySource
+Source = CanSource | UdpSource | SignalSource | ColumnSource | TaskSource | CsvSource | KeySource

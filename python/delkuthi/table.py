@@ -90,7 +90,7 @@ class Table:
         """:class:`ValueError` if a row has a window: neither the bytes of a table nor a monitor over all of it know of windows."""
         for number, row in enumerate(self.rows):
             if row.window is not None:
-                raise ValueError(f"{self.row_name(number)} has a window (while), which a monitor of the whole table does not take")
+                raise ValueError(f"{self.row_name(number)} has a window (while), which a monitor of the whole table does not support")
 
     @property
     def whole(self) -> bool:

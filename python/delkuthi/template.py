@@ -1,4 +1,4 @@
-"""HTML from a template file. Every value is escaped unless a template made it."""
+"""HTML from template files. Every value is escaped unless a template made it."""
 from __future__ import annotations
 
 import re
@@ -45,6 +45,6 @@ def _html(value: Value) -> str:
 
 @lru_cache(maxsize=None)
 def _parts() -> dict[str, Template]:
-    """The parts of the template, by name."""
-    _, *found = _PART.split((_FOLDER / "page.html").read_text(encoding="utf-8"))
-    return {name: Template(text.rstrip("\n")) for name, text in zip(found[::2], found[1::2])}
+    """The parts of the templates, by name."""
+    texts = [_PART.split(path.read_text(encoding="utf-8"))[1:] for path in sorted(_FOLDER.glob("*.html"))]
+    return {name: Template(text.rstrip("\n")) for found in texts for name, text in zip(found[::2], found[1::2])}

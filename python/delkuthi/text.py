@@ -2,10 +2,10 @@
 
 .. code-block:: text
 
-    table  = line*                                each statement on a line of its own; # begins a comment
-    line   = "unit" UNIT                          ns, us, ms, s, min or h: first, if times have units
-           | "dbc" STRING                         a file with the signals, DBC or ARXML, as seen from the table
-           | "event" NAME ["=" KIND] source*      KIND is 0 to 63; 48 to 63 are coloured, and their sources too
+    table  = line*                                one statement on each line; # begins a comment
+    line   = "unit" UNIT                          ns, us, ms, s, min or h; the first statement if times have units
+           | "dbc" STRING                         a DBC or ARXML file with the signals, relative to the table
+           | "event" NAME ["=" KIND] source*      KIND is 0 to 63; kinds 48 to 63 and their sources have colours
            | [STRING] TYPE form [window]          a row, with a name if it has one
 """
 from __future__ import annotations
@@ -44,7 +44,7 @@ _TYPE_WORDS = {
 }
 
 
-#: So many mistakes of a text are shown at once.
+#: The largest number of mistakes of a text that are shown at once.
 SHOWN = 20
 
 
@@ -111,7 +111,7 @@ def grammar() -> str:
              *form_lines(TYPES)]
     limited = [row_type.name for row_type in TYPES if row_type.has("limit")]
     lines.append("A kind is an event's name or its number; KINDS are two to four of them. A time is a number, with a unit")
-    lines.append(f"behind it where the table has one. An UPPER of {', '.join(limited[:-1])} and {limited[-1]} may be the word none.")
+    lines.append(f"after it if the table has a unit. An UPPER of {', '.join(limited[:-1])} and {limited[-1]} may be the word none.")
     return "\n".join(lines) + "\n"
 
 
@@ -151,7 +151,7 @@ class Line:
             number = re.search(r"[0-9]+$", before)
             part = re.match(r"[0-9]+", self.text[self.place + 1 :])
             if number and part:
-                return f" (a part is written with a point: {number[0]}.{part[0]})"
+                return f" (write a decimal point: {number[0]}.{part[0]})"
         if found.lower() in UNITS and found not in UNITS:
             return f" (the unit is written {found.lower()})"
         return ""
@@ -192,7 +192,7 @@ class Comments:
         self._before: tuple[bool, int, int, int] = (False, 0, 0, 0)
 
     def add(self, statements: tuple[bool, int, int, int] | None, above: list[str], behind: str) -> None:
-        """The comments of the last statement of so many; of the end of the text if there are none."""
+        """The comments of the last of a number of statements; of the end of the text if there are none."""
         key = ("end", 0)
         if statements is not None:
             sort = max(at for at, (one, other) in enumerate(zip(statements, self._before)) if one != other)
@@ -297,7 +297,7 @@ class _Parser:
         if self.unit is not None:
             raise line.error("a second unit: a table has one")
         if self.rows:
-            raise line.error("the unit has to stand before the first row")
+            raise line.error("the unit has to come before the first row")
         line.demand("unit")
         start = line.place
         unit = line.take(r"\w+", f"one of {', '.join(UNITS)}")
@@ -331,7 +331,7 @@ class _Parser:
             raise line.error(f"expected a kind from 0 to {lib.LAST_KIND}, found {kind}", start)
         for event in self.events:
             if event.kind == kind:
-                raise line.error(f"kind {kind} is {event.name} already", start)
+                raise line.error(f"kind {kind} is already {event.name}", start)
         return kind
 
     def row(self, line: Line, name: str | None) -> None:
@@ -415,7 +415,7 @@ class _Parser:
         try:
             time = in_unit(number, written, self.unit)
         except NotWhole as found:
-            raise line.error(f"{found} is no whole number of {self.unit or 'units'}", start) from None
+            raise line.error(f"{found} is not a whole number of {self.unit or 'units'}", start) from None
         if time >= lib.NO_LIMIT:
             raise line.error(f"expected a time up to {lib.LAST_TIME}, found {time}", start)
         return time

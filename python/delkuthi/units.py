@@ -18,7 +18,7 @@ NUMBER = rf"{DIGITS}(?:\.{DIGITS})?"
 
 
 class NotWhole(ValueError):
-    """A time that is no whole number of the unit it has to be in."""
+    """A time that is not a whole number of the unit it has to be in."""
 
 
 def unit_of(word: str) -> str | None:
@@ -48,7 +48,7 @@ def in_unit(number: str, written: str | None, unit: str | None) -> int:
 
 
 def nearest_in_unit(number: str, written: str | None, unit: str | None) -> int:
-    """As :func:`in_unit`, but a time that is no whole number of units counts as the nearest, one half way as the later."""
+    """As :func:`in_unit`, but a time that is not a whole number of units counts as the nearest, one half way as the later."""
     above, below = _ratio(number, written, unit)
     return (2 * above + below) // (2 * below)
 

@@ -6,7 +6,7 @@ from typing import Iterable
 from .logs import Log
 from .signals import parts
 from .spelling import did_you_mean, nearest
-from .sources import CanSource, ColumnSource, CsvSource, SignalSource, TaskSource
+from .sources import CanSource, ColumnSource, CsvSource, SignalSource, TaskSource, UdpSource
 from .table import Event, Table
 
 
@@ -21,6 +21,8 @@ def warnings(table: Table, log: Log, seen: Iterable[int | None]) -> list[str]:
             continue  # another lane of the same event
         why = _why(named[kind], log) if kind in named else ""
         lines.append(f"{log.path}: the log has no {table.event_name(kind)}{why and f': {why}'}")
+    if log.reader.lost:
+        lines.append(f"{log.path}: the recorder lost {log.reader.lost:,} events; rows may read differently with them")
     return list(dict.fromkeys(lines))
 
 
@@ -33,7 +35,7 @@ def _why(event: Event, log: Log) -> str:
     if not log.reader.reads_frames and not reasons:
         wanted = [event.name, *(source.text for source in event.sources if isinstance(source, CsvSource))]
         near = [name for name in (nearest(one, log.reader.others, 0.75) for one in wanted) if name]
-        reasons = [f"but it has {near[0]}, which is no event of the table"] if near else []
+        reasons = [f"but it has {near[0]}, which is not an event of the table"] if near else []
     return "; ".join(reasons)
 
 
@@ -48,7 +50,7 @@ def _of_columns(source: object, log: Log) -> str:
         names = {name for target, name in reader.targets if target in ("", source.target)}
         if source.name not in names:
             return f"no {source.target} {source.name}{did_you_mean(source.name, names)}"
-        return f"the {source.target} {source.name} came, but no {source.action} of it"
+        return f"the {source.target} {source.name} came, but not its {source.action}"
     return ""
 
 
@@ -58,6 +60,9 @@ def _of_frames(source: object, log: Log) -> str:
         layout = log.reader.mapping().layouts[source.signal]
         frame = CanSource(layout.identifier, layout.extended, source.bus)
         return _frame(frame, log, f"that has {source.signal} ", f"{source.signal} {source.condition.text()}")
+    if isinstance(source, UdpSource):
+        came = f"datagrams to the port {source.port} came, but never with data {source.data}"
+        return came if source.port in log.reader.mapping().ports else f"no datagram to the port {source.port} came"
     return _frame(source, log) if isinstance(source, CanSource) else ""
 
 
@@ -69,7 +74,7 @@ def _frame(source: CanSource, log: Log, what: str = "", never: str = "") -> str:
         other = (source.identifier, not source.extended) in met
         return f"no frame {name} {what}came" + (f", only {'standard' if source.extended else 'extended'} ones of that number" if other else "")
     if source.bus is not None and source.bus not in log.buses:
-        return f"{name} came, but on no bus {source.bus}; the log has {', '.join(sorted(log.buses)) or 'none'}"
+        return f"{name} came, but not on bus {source.bus}; the log has {', '.join(sorted(log.buses)) or 'none'}"
     if never:
         return f"{name} came, but never {never}"
     return f"{name} came, but never {_asked(source)}"

@@ -7,9 +7,9 @@ from __future__ import annotations
 import csv
 import io
 import json
-from dataclasses import asdict, dataclass, fields
+from dataclasses import dataclass, fields
 from pathlib import Path
-from typing import IO, Callable, Iterable, Iterator
+from typing import IO, Any, Callable, Iterable, Iterator
 
 from .measure import Finding, Measure, Moment
 
@@ -57,9 +57,13 @@ class Violations:
     count: int
 
     def __iter__(self) -> Iterator[Violation]:
+        return (Violation(*values) for values in self.values())
+
+    def values(self) -> Iterator[list[Any]]:
+        """The same, each as the values of its fields."""
         with open(self.path, encoding="utf-8") as file:
             for line in file:
-                yield Violation(**json.loads(line))
+                yield json.loads(line)
 
     def __len__(self) -> int:
         return self.count
@@ -76,17 +80,16 @@ class Spool:
 
     def row(self, number: int, name: str, type_name: str, measure: Measure) -> Callable[[Finding], None]:
         """What takes the violations of a row."""
+        head, between = [self.log, number, name, type_name], [measure.lower, measure.upper]
+        write, encode = self._file.write, json.JSONEncoder().encode
+
         def note(found: Finding) -> None:
             self.count += 1
-            self._file.write(json.dumps(asdict(self._violation(number, name, type_name, measure, found))) + "\n")
+            due = None if found.due is None else self._stamp(found.due)
+            write(encode([*head, found.violation, found.what, measure.quantity, found.value, *between, found.by, *self._event(found.begin),
+                          *self._event(found.end), due, self._number(found.moment[1])]) + "\n")
 
         return note
-
-    def _violation(self, number: int, name: str, type_name: str, measure: Measure, found: Finding) -> Violation:
-        begin, end = self._event(found.begin), self._event(found.end)
-        return Violation(self.log, number, name, type_name, found.violation, found.what, measure.quantity, found.value, measure.lower,
-                         measure.upper, found.by, *begin, *end, None if found.due is None else self._stamp(found.due),
-                         self._number(found.moment[1]))
 
     def _event(self, moment: Moment | None) -> tuple[int | None, str | None]:
         return (None, None) if moment is None else (self._stamp(moment[0]), self._where(moment[1]))
@@ -97,9 +100,9 @@ class Spool:
         return Violations(self.path, self.count)
 
 
-def write_violations(file: IO[bytes], suffix: str, unit: str | None, found: Iterable[Violation]) -> None:
-    """Writes violations as CSV or JSON, one after the other."""
-    text = io.TextIOWrapper(file, encoding="utf-8", errors="backslashreplace", newline="", write_through=True)
+def write_violations(file: IO[bytes], suffix: str, unit: str | None, found: Iterable[list[Any]]) -> None:
+    """Writes violations, each given as the values of its fields, as CSV or JSON."""
+    text = io.TextIOWrapper(file, encoding="utf-8", errors="backslashreplace", newline="")
     if suffix == ".csv":
         _write_csv(text, unit, found)
     else:
@@ -107,17 +110,17 @@ def write_violations(file: IO[bytes], suffix: str, unit: str | None, found: Iter
     text.detach()
 
 
-def _write_csv(text: IO[str], unit: str | None, found: Iterable[Violation]) -> None:
+def _write_csv(text: IO[str], unit: str | None, found: Iterable[list[Any]]) -> None:
     lines = csv.writer(text)
     lines.writerow([*COLUMNS, "unit"])
-    lines.writerows([*asdict(one).values(), unit or ""] for one in found)
+    lines.writerows([*values, unit or ""] for values in found)
 
 
-def _write_json(text: IO[str], unit: str | None, found: Iterable[Violation]) -> None:
+def _write_json(text: IO[str], unit: str | None, found: Iterable[list[Any]]) -> None:
     text.write('{"unit": ' + json.dumps(unit) + ', "violations": [')
     between = "\n"
-    for one in found:
-        text.write(between + json.dumps(asdict(one)))
+    for values in found:
+        text.write(between + json.dumps(dict(zip(COLUMNS, values))))
         between = ",\n"
     text.write("\n]}\n")
 

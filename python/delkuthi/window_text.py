@@ -9,7 +9,7 @@ if TYPE_CHECKING:
 
 #: The line of the grammar.
 GRAMMAR = """\
-window = "while" EVENT ".." EVENT                  behind a row: it is judged in each stretch from the first event to the second
+window = "while" EVENT ".." EVENT                  after a row; the row is judged in each stretch from the first event to the second
 """
 
 

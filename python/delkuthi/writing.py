@@ -3,8 +3,9 @@ from __future__ import annotations
 
 import os
 import sys
+from contextlib import contextmanager
 from pathlib import Path
-from typing import Iterable, TextIO
+from typing import IO, Iterable, Iterator, TextIO
 
 from .recording import Record, write_recording
 
@@ -62,10 +63,23 @@ def write(path: str | None, data: bytes | str) -> None:
 
 def write_steps(path: str, steps: Iterable[Record]) -> None:
     """Writes a recording step by step, so that its size does not matter; at an error nothing is left of it."""
+    with _whole(path) as file:
+        write_recording(file, steps)
+
+
+def write_whole(path: str, data: bytes) -> None:
+    """Writes a file that has its name only once all of it is written; at an error nothing is left of it."""
+    with _whole(path) as file:
+        file.write(data)
+
+
+@contextmanager
+def _whole(path: str) -> Iterator[IO[bytes]]:
+    """A file that gets its name at the end."""
     partial_name = f"{path}.part"
     try:
         with open(partial_name, "wb") as file:
-            write_recording(file, steps)
+            yield file
         os.replace(partial_name, path)
     except BaseException as error:
         Path(partial_name).unlink(missing_ok=True)

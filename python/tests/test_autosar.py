@@ -1,5 +1,7 @@
 """AUTOSAR timing requirements as rows: a file for each line of the tables, and files that nobody should have written."""
 import json
+import random
+import re
 import time as clock
 import tracemalloc
 
@@ -116,7 +118,8 @@ ROWS = [
      ['"x" Synchronization a c, tolerance 1 ms'], "InputSynchronization, which the library does not have yet: only the stimuli"),
     ("SYNCHRONIZATION-TIMING-CONSTRAINT", [element("EVENT-OCCURRENCE-KIND", SINGLE), chains("ab", "cb"), STIMULI, time("TOLERANCE", MS)],
      ['"x" Synchronization a c, tolerance 1 ms'], "InputSynchronization"),
-    ("SYNCHRONIZATION-TIMING-CONSTRAINT", [chains("ab", "cb"), RESPONSES, time("TOLERANCE", MS)], [], "the chains do not have one stimulus in common"),
+    ("SYNCHRONIZATION-TIMING-CONSTRAINT", [chains("ab", "cb"), RESPONSES, time("TOLERANCE", MS)], [],
+     "the chains do not have one stimulus in common"),
     ("SYNCHRONIZATION-TIMING-CONSTRAINT", [chains("ab", "cb"), time("TOLERANCE", MS)], [], "its SYNCHRONIZATION-CONSTRAINT-TYPE is missing"),
     ("SYNCHRONIZATION-TIMING-CONSTRAINT", [time("TOLERANCE", MS)], [], "it needs either SCOPE-EVENT-REFS or SCOPE-REFS"),
     ("SYNCHRONIZATION-TIMING-CONSTRAINT", [events("a", "b")], [], "it has no TOLERANCE, which such a row needs"),
@@ -135,7 +138,8 @@ ROWS = [
      "its EXECUTION-ORDER-CONSTRAINT-TYPE is HIERARCHICAL-EOC"),
     ("EXECUTION-ORDER-CONSTRAINT", [element("IGNORE-ORDER-ALLOWED", "true"), executed("Run", "Walk")], [], "it allows that the order is ignored"),
     ("EXECUTION-ORDER-CONSTRAINT", [executed("Run")], [], "it has 1 ORDERED-ELEMENTS"),
-    ("EXECUTION-ORDER-CONSTRAINT", [element("ORDERED-ELEMENTS", named("EOC-GROUP", "g"), named("EOC-GROUP", "h"))], [], "EOC-GROUP among its ORDERED"),
+    ("EXECUTION-ORDER-CONSTRAINT", [element("ORDERED-ELEMENTS", named("EOC-GROUP", "g"), named("EOC-GROUP", "h"))], [],
+     "EOC-GROUP among its ORDERED"),
     ("EXECUTION-TIME-CONSTRAINT", [RUN, NET, time("MINIMUM", MS), time("MAXIMUM", 2 * MS)], ['"x" ExecutionTime runnable "Run", 1 ms .. 2 ms'], None),
     ("EXECUTION-TIME-CONSTRAINT", [RUN, NET], [], "it has no MAXIMUM, which such a row needs"),
     ("EXECUTION-TIME-CONSTRAINT", [RUN, GROSS, time("MAXIMUM", 2 * MS)], ['"x" Delay Run_start -> Run_terminate, 0 .. 2 ms'], None),
@@ -146,23 +150,24 @@ ROWS = [
      "it holds only under the timing condition /P/night"),
     ("PERIODIC-EVENT-TRIGGERING", [event(), element("VARIATION-POINT"), coded("PERIOD", 4)], [], "it holds only in some variants"),
     ("PERIODIC-EVENT-TRIGGERING", [event(), coded("PERIOD", 4), element("PHASE", "1")], ['"x" Sporadic a, 10 ms .. 10 ms, jitter 0, minimum 0'],
-     "PHASE is not known here"),
+     "PHASE is unknown"),
     ("PERIODIC-EVENT-TRIGGERING", [event()], [], "it has no PERIOD, which such a row needs"),
     ("PERIODIC-EVENT-TRIGGERING", [coded("PERIOD", 4)], [], "it has no EVENT-REF"),
     ("PERIODIC-EVENT-TRIGGERING", [event("nowhere"), coded("PERIOD", 4)], [], "EVENT-REF names /P/T/nowhere, which is not in the file"),
-    ("PERIODIC-EVENT-TRIGGERING", [reference("EVENT-REF", "T/a"), coded("PERIOD", 4)], [], "EVENT-REF is T/a, which is no path from the root"),
+    ("PERIODIC-EVENT-TRIGGERING", [reference("EVENT-REF", "T/a"), coded("PERIOD", 4)], [], "EVENT-REF is T/a, which is not a path from the root"),
     ("PERIODIC-EVENT-TRIGGERING", [scope("ab", "EVENT-REF"), coded("PERIOD", 4)], [], "EVENT-REF names /P/T/ab, a chain where an event is expected"),
     # Times.
-    ("PERIODIC-EVENT-TRIGGERING", [event(), coded("PERIOD", 101, 2)], [], "PERIOD has the CSE-CODE 101, an angle or a count and no time"),
-    ("PERIODIC-EVENT-TRIGGERING", [event(), coded("PERIOD", 15)], [], "PERIOD has the CSE-CODE 15, which is no unit of time that is known here"),
+    ("PERIODIC-EVENT-TRIGGERING", [event(), coded("PERIOD", 101, 2)], [], "PERIOD has the CSE-CODE 101, an angle or a count, not a time"),
+    ("PERIODIC-EVENT-TRIGGERING", [event(), coded("PERIOD", 15)], [], "PERIOD has the CSE-CODE 15, which is not a known unit of time"),
     ("PERIODIC-EVENT-TRIGGERING", [event(), coded("PERIOD", 23, 500)], [], "PERIOD is 500 ps, and no row has times finer than 1 ns"),
     ("PERIODIC-EVENT-TRIGGERING", [event(), coded("PERIOD", 20, 1)], [], "PERIOD is 1 fs, and no row has times finer than 1 ns"),
     ("PERIODIC-EVENT-TRIGGERING", [event(), coded("PERIOD", 20, 7_000_000)], ['"x" Sporadic a, 7 ns .. 7 ns, jitter 0, minimum 0'], None),
     ("PERIODIC-EVENT-TRIGGERING", [event(), coded("PERIOD", 3, "0x10")], ['"x" Sporadic a, 16 ms .. 16 ms, jitter 0, minimum 0'], None),
-    ("PERIODIC-EVENT-TRIGGERING", [event(), coded("PERIOD", 3, "1.5")], [], "the CSE-CODE-FACTOR of PERIOD is 1.5, which is no whole number"),
+    ("PERIODIC-EVENT-TRIGGERING", [event(), coded("PERIOD", 3, "1.5")], [], "the CSE-CODE-FACTOR of PERIOD is 1.5, which is not a whole number"),
     ("PERIODIC-EVENT-TRIGGERING", [event(), coded("PERIOD", 3, -1)], [], "PERIOD is below 0: its CSE-CODE-FACTOR is -1"),
     ("PERIODIC-EVENT-TRIGGERING", [event(), element("PERIOD", element("CSE-CODE-FACTOR", "5"))], [], "PERIOD has no CSE-CODE"),
-    ("PERIODIC-EVENT-TRIGGERING", [event(), coded("PERIOD", 10, 10**20)], [], "PERIOD is more than 1152921504606846975 ns, the longest time of a row"),
+    ("PERIODIC-EVENT-TRIGGERING", [event(), coded("PERIOD", 10, 10**20)], [],
+     "PERIOD is more than 1152921504606846975 ns, the longest time of a row"),
 ]
 
 
@@ -253,7 +258,8 @@ def test_events_without_a_source(tmp_path):
     assert (line, above) == ("event a", "# no source in the file: /P/T/a (TD-EVENT-COMPLEX)")
     conditional = runnable_event("a", "Ra", "STARTED").replace("</TD-EVENT-SWC-INTERNAL-BEHAVIOR>",
                                                                "<OCCURRENCE-EXPRESSION/></TD-EVENT-SWC-INTERNAL-BEHAVIOR>")
-    assert source(tmp_path, conditional) == ("event a", "# /P/T/a (TD-EVENT-SWC-INTERNAL-BEHAVIOR) has an OCCURRENCE-EXPRESSION, which no source can say")
+    assert source(tmp_path, conditional) == (
+        "event a", "# /P/T/a (TD-EVENT-SWC-INTERNAL-BEHAVIOR) has an OCCURRENCE-EXPRESSION, which no source can say")
     (tmp_path / "events.txt").write_text('event a from column "brake" rises above 5 from csv "Pedal"\n')
     line, above = source(tmp_path, named("TD-EVENT-COMPLEX", "a"), events=str(tmp_path / "events.txt"))
     assert line == 'event a from column brake rises above 5 from csv "Pedal"' and above == f"# from {tmp_path}/events.txt"
@@ -261,8 +267,8 @@ def test_events_without_a_source(tmp_path):
 
 @pytest.mark.parametrize("text, said", [
     ("event pedal from key a\n", ": {file} has no event pedal"), ("event A from key a\n", ": {file} has no event A (did you mean a?)"),
-    ("unit ms\n", ": only event and dbc lines stand in a file of --events"), ("event a from nothing\n", ":1:14: expected"),
-    ("Order 1 -> 2\n", ": only event and dbc lines stand in a file of --events")])
+    ("unit ms\n", ": a file of --events has only event and dbc lines"), ("event a from nothing\n", ":1:14: expected"),
+    ("Order 1 -> 2\n", ": a file of --events has only event and dbc lines")])
 def test_wrong_lines_of_events(tmp_path, command, text, said):
     (tmp_path / "events.txt").write_text(text)
     file(tmp_path, GOOD)
@@ -350,10 +356,11 @@ def test_unknown_elements_are_named_and_counted(tmp_path, command):
     status, _, error = command("table", "timing.arxml")
     assert status == 0
     said = [line.partition(": ")[2] for line in error.splitlines()]
-    assert said == ["TIMING-CLOCKS in SWC-TIMING is not known here and was left out", "TD-HEADER in TIMING-DESCRIPTIONS is not known here and was left out",
-                    "NEW-CONSTRAINT in TIMING-REQUIREMENTS is not known here and was left out (2 times)",
-                    "PHASE in PERIODIC-EVENT-TRIGGERING is not known here and was left out (2 times)",
-                    "TIMING-REQUIREMENTS in NEW-TIMING is not known here and was left out", "constraints: 1 taken, 2 weaker, 0 left out"]
+    assert said == ["TIMING-CLOCKS in SWC-TIMING is unknown and was left out",
+                    "TD-HEADER in TIMING-DESCRIPTIONS is unknown and was left out",
+                    "NEW-CONSTRAINT in TIMING-REQUIREMENTS is unknown and was left out (2 times)",
+                    "PHASE in PERIODIC-EVENT-TRIGGERING is unknown and was left out (2 times)",
+                    "TIMING-REQUIREMENTS in NEW-TIMING is unknown and was left out", "constraints: 1 taken, 2 weaker, 0 left out"]
     line = int(error.split(":")[1])
     assert "TIMING-CLOCKS" in text.splitlines()[line - 1]
 
@@ -372,16 +379,17 @@ LAUGHS = ('<!DOCTYPE AUTOSAR [<!ENTITY a "lol">' + "".join(f'<!ENTITY {b} "{f"&{
 
 
 NONE = [
-    (WHOLE[: len(WHOLE) // 2].encode(), "not whole XML: "), (b"<", "not whole XML: "), (b"", "not whole XML: no element found"),
+    (WHOLE[: len(WHOLE) // 2].encode(), "not well-formed XML: "), (b"<", "not well-formed XML: "), (b"", "not well-formed XML: no element found"),
     (WHOLE.replace("<AUTOSAR", LAUGHS + "<AUTOSAR", 1).encode(), "a document type (DTD) is refused"),
     (WHOLE.replace("<AUTOSAR", '<!DOCTYPE AUTOSAR SYSTEM "file:///etc/passwd"><AUTOSAR', 1).encode(), "a document type (DTD) is refused"),
-    (WHOLE.replace(">good<", ">&secret;<").encode(), "not whole XML: undefined entity"),
+    (WHOLE.replace(">good<", ">&secret;<").encode(), "not well-formed XML: undefined entity"),
     (WHOLE.replace(">good<", f">{'x' * 5000}<").encode(), "a text of more than 4,000 characters"),
-    (b"<AUTOSAR>" + b"<A>" * 2000, "elements nested more than 1,000 deep"), (b"<html></html>", "expected an AUTOSAR file, whose first element is AUTOSAR, found html"),
-    (WHOLE.replace("UTF-8", "UTF-16").encode("utf-16"), None), (WHOLE.encode().replace(b"UTF-8", b"ebcdic-xy"), "not whole XML: "),
-    (WHOLE.encode().replace(b"good", b"g\xffd"), "not whole XML: not well-formed"),
+    (b"<AUTOSAR>" + b"<A>" * 2000, "elements nested more than 1,000 deep"),
+    (b"<html></html>", "expected an AUTOSAR file, whose first element is AUTOSAR, found html"),
+    (WHOLE.replace("UTF-8", "UTF-16").encode("utf-16"), None), (WHOLE.encode().replace(b"UTF-8", b"ebcdic-xy"), "not well-formed XML: "),
+    (WHOLE.encode().replace(b"good", b"g\xffd"), "not well-formed XML: not well-formed"),
     (b"<AUTOSAR/>", "it has no timing requirements"), (WHOLE.replace("/P/T/a", "/P/T/z").encode(), "no constraint of it can be taken"),
-    (b"\x00\x01\x02" * 1000, "not whole XML: "), (b"<AUTOSAR " + b"x" * (1 << 25), "one tag, comment or attribute of more than"),
+    (b"\x00\x01\x02" * 1000, "not well-formed XML: "), (b"<AUTOSAR " + b"x" * (1 << 25), "one tag, comment or attribute of more than"),
     (WHOLE.replace("<EVENT", "<PERIOD").replace("</EVENT", "</PERIOD").replace("good</SHORT-NAME>", "good</SHORT-NAME>" + "<A/>" * 100_001).encode(),
      "OFFSET-TIMING-CONSTRAINT has more than 100,000 elements"),
 ]
@@ -421,7 +429,7 @@ def test_much_nonsense_takes_little_time_and_memory(tmp_path):
 def test_options_are_for_arxml_files(tmp_path, command):
     (tmp_path / "t.txt").write_text("unit ms\nevent a\nevent b\nOrder a -> b\n")
     (tmp_path / "a.csv").write_text("time,event\n1,a\n2,b\n")
-    assert command("check", "t.txt", "a.csv", "--guarantees")[2] == "--guarantees: only where the table is an ARXML file; t.txt is none\n"
+    assert command("check", "t.txt", "a.csv", "--guarantees")[2] == "--guarantees: only for a table that is an ARXML file; t.txt is not one\n"
     assert command("check", "t.txt", "a.csv", "--unit", "ns")[0] == 2
     assert command("table", "t.txt", "--json")[2] == "t.txt: --events, --guarantees and --json are for an ARXML file\n"
 
@@ -433,7 +441,7 @@ def test_the_table_as_json_bytes_and_in_another_unit(tmp_path, command):
     assert status == 0 and [one["result"] for one in found["constraints"]] == ["taken", "taken"] and found["table"].startswith("# the timing of")
     assert "unit us\n" in command("table", "timing.arxml", "--unit", "us")[1]
     status, printed, error = command("table", "timing.arxml", "--unit", "s")
-    assert status == 2 and "10 ms is no whole number of s" in error
+    assert status == 2 and "10 ms is not a whole number of s" in error
     assert command("table", "timing.arxml", "--bytes", "-o", "table.bin")[0] == 0
     assert (tmp_path / "table.bin").read_bytes()[:1] in (b"\1", b"\2")
     assert command("table", "timing.arxml", "-o", "table.txt")[0] == 0 and (tmp_path / "table.txt").read_text().startswith("# the timing")
@@ -445,3 +453,24 @@ def test_what_the_log_cannot_have_is_said(tmp_path, command):
     (tmp_path / "drive.btf").write_text("#timeScale ns\n5,C,0,R,Ra,0,start\n")
     error = command("check", "timing.arxml", "drive.btf")[2]
     assert error.splitlines()[0] == "drive.btf: the log has no b: the table does not say what it is in such a log (from ..)"
+
+
+def test_damaged_files_are_taken_or_refused(tmp_path):
+    """Each of 500 damaged files is a table, or an error of the file with one line; whatever is taken is one that the library accepts."""
+    rng, path, refused = random.Random(9), tmp_path / "timing.arxml", 0
+    constraints = [named(kind, f"x{at}", *content) for at, (kind, content, _, _) in enumerate(ROWS)]
+    whole = arxml(package("P", extension("SWC-TIMING", "T", EVENTS, [GOOD, *constraints])))
+    words = sorted({*re.findall(r"[A-Z-]{3,}|/P/T/\w+|\d+", whole)})
+    for _ in range(500):
+        text = whole
+        for _ in range(rng.randint(1, 12)):
+            old, new = rng.choice(words), rng.choice([*words, "", "<", "&", "\u2028", "-5", "99999999999999999999999"])
+            text = text.replace(old, new, rng.choice([1, 1, 5, -1])) if rng.random() < 0.5 else text.replace(f">{old}<", f">{new}<", 2)
+        path.write_text(text, encoding="utf-8")
+        try:
+            found = take_over(str(path))
+            found.table("ns")
+            assert len(found.table().rows) == sum(len(entry.rows) for entry in found.entries)
+        except LogError as error:
+            refused += str(error).startswith(str(path))
+    assert 20 < refused < 480

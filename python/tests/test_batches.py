@@ -227,7 +227,7 @@ Delay one -> eight, 0 .. 99 us
 Repeat all span 1, 1 us .. 99 us
 Order off -> on
 """
-#: Tables that do not go by frames alone, and the logs for them.
+#: Tables that do not use frames alone, and the logs for them.
 OTHERS = {"samples.csv": (SAMPLES, as_samples), "tasks.btf": (TASKS, as_btf), "signals.log": (SIGNALS, as_candump),
           "signals.blf": (SIGNALS, as_blf), "signals.asc": (SIGNALS, as_asc)}
 
@@ -347,6 +347,8 @@ def test_measures_of_many_steps():
     for number in range(300):
         rows = [random_row(rng, rng.choice(TYPES)) for _ in range(2)]
         rows += [Row.of(name, source=0, target=1, lower=rng.choice([0, 0, 2]), upper=rng.choice([5, 9])) for name in ("Delay", "StrongDelay")]
+        rows += [Row.of("Burst", event=1, maximum=rng.choice([1, 2, 4]), length=rng.choice([0, 2]), minimum=rng.choice([0, 1])),
+                 Row.of("Order", source=0, target=1), Row.of("Sporadic", event=0, lower=1, upper=60, jitter=9, minimum=rng.choice([0, 1]))]
         rows += [Row.of("Repeat", event=0, span=rng.choice([1, 2, 3]), lower=rng.choice([0, 3]), upper=rng.choice([30, 2**64 - 1]))]
         table, steps, time, faults = Table(rows), [], 0, rng.choice([0, 0, 0.02, 0.2])
         for _ in range(rng.randint(0, 60)):

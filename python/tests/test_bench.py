@@ -161,7 +161,7 @@ def test_an_encoding_that_is_none(command, name):
 def test_the_speed_of_logs():
     """The program that measures it runs, and finds the verdicts that its drive has."""
     done = subprocess.run([sys.executable, ROOT / "python/speed.py", "2000", "1"], capture_output=True, text=True)
-    assert done.returncode == 0 and done.stdout.count("\n") == 8, done.stderr
+    assert done.returncode == 0 and done.stdout.count("\n") == 15, done.stderr
 
 
 def test_what_one_monitor_cannot_take_says_so(command, tmp_path):

@@ -1,4 +1,5 @@
 """The command: statuses, options, many logs, text and bytes, and what the program of the same name does."""
+import gzip
 import io
 import json
 import os
@@ -25,6 +26,25 @@ def kept(tmp_path):
     (tmp_path / "kept.txt").write_text(KEPT)
     (tmp_path / "kept.csv").write_text("time,event\n1,a\n3,b\n")
     return tmp_path
+
+
+def test_a_trace_that_is_packed(command, kept):
+    for name, opened in (("a.json", open), ("a.json.gz", gzip.open)):
+        assert command("check", "kept.txt", "kept.csv", "--trace", name)[0] == 0
+        with opened(kept / name, "rt", encoding="utf-8") as file:
+            assert json.load(file)["traceEvents"]
+
+
+def test_text_is_80_columns_wide(command):
+    """Messages and measures, of a log and of a part of it; with 0 each message is a line, and other widths are taken."""
+    for words in (["drive.txt", "drive.csv"], ["bench/bus.txt", "bench/bus.log"], ["bench/tasks.txt", "bench/tasks.btf"]):
+        words = ["check", *words, "--measure"]
+        for more in ([], ["--cut"], ["--from", "+50 ms", "--to", "+200 ms"]):
+            out = command(*words, *more, cwd=EXAMPLES)[1]
+            assert out and max(map(len, out.splitlines())) <= 80, out
+            assert command(*words, *more, "--width", "0", cwd=EXAMPLES)[1] == re.sub(r"\n {4,7}(?! )(?![0-9,]+ judged|least )", " ", out)
+    assert max(map(len, command(*words, "--width", "120", cwd=EXAMPLES)[1].splitlines())) > 80
+    assert command(*words, "--width", "20", cwd=EXAMPLES)[0] == 2
 
 
 def test_the_four_statuses(command, kept):
@@ -308,7 +328,7 @@ def test_the_lines_that_matter(command, tmp_path):
         f"{CSV}: lines 25 to 58 are enough, 34 of {len(lines) - 1} steps; the row's events among them, and the last:", *quoted(25, 58)]
     status, out, _ = command("shrink", TABLE, CSV, "steering reply")
     assert status == 1 and out.splitlines()[2:] == [
-        *quoted(33, 39), f'{CSV}: "steering reply" is broken by less, taken alone',
+        *quoted(33, 39), f'{CSV}: "steering reply" is also broken by fewer steps on their own',
         f"{CSV}: line 12 is enough, 1 of {len(lines) - 1} steps; the row's events among them, and the last:", *quoted(12)]
     steps = command("shrink", TABLE, EXAMPLES / "recording.bin", "7")[1].splitlines()[2:]
     assert steps[0] == "record 24: door_open 70.1 ms"
@@ -317,7 +337,7 @@ def test_the_lines_that_matter(command, tmp_path):
     assert command("shrink", TABLE, "end.csv", "cabin light")[:2] == (
         1, 'end.csv: "cabin light" is broken by the end of the log alone: no line before it breaks the row\n')
     status, _, error = command("shrink", TABLE, CSV, "nobody")
-    assert status == 2 and error.startswith("ROW: refused with 15: there is no row of that number; nobody is none of \"brake light\", ")
+    assert status == 2 and error.startswith("ROW: refused with 15: there is no row of that number; nobody is not one of \"brake light\", ")
 
 
 def test_stamps_that_may_be_late(command):

@@ -50,7 +50,8 @@ def test_microseconds_of_all_spellings(tmp_path, head):
 @pytest.mark.parametrize("head, unit", [("time [fortnights]", "fortnights"), ("time (Ms)", "Ms"), ("time_ticks", "ticks"), ("time [µS]", "µS")])
 def test_a_unit_that_is_none_is_named(tmp_path, head, unit):
     text, path = f"{head},event\n2,a\n", tmp_path / "a.csv"
-    expected = f"a.csv:2: the column {head} says that its times are in {unit}, which is no unit here: --time-unit with one of ns, us, ms, s, min, h"
+    expected = (f"a.csv:2: the column {head} says that its times are in {unit}, which is not a unit here; "
+                "--time-unit with one of ns, us, ms, s, min, h")
     assert error(path, text, MS).startswith(expected)
     with pytest.raises(Exception, match="--time-unit"):
         list(Log(path, MS).steps())
@@ -101,6 +102,7 @@ def test_asc_lines_that_are_no_frames(tmp_path):
     ("0.1 1 1A0 Rx", "expected a line of ASC"),
     ("0.1 1 1A0 Rz d 1 01", "expected a line of ASC"),
     ("0.1", "expected a line of ASC"),
+    ("0.1 1", "expected a line of ASC"),
     ("0,1 1 1A0 Rx d 1 01", "expected a line of ASC"),
     ("x0.1 1 1A0 Rx d 1 01", "expected a line of ASC"),
     ("0.1 1 EngineData Rx d 1 01", "expected the number of an identifier, found EngineData; a log with the symbolic names of frames"),
@@ -120,7 +122,7 @@ def test_a_damaged_line_of_asc(tmp_path, line, said):
 
 @pytest.mark.parametrize("text, line", [("", 1), ("// only a note\n", 1), ("date Mon\nno internal events logged\n", 2)])
 def test_a_file_that_is_no_asc(tmp_path, text, line):
-    assert error(tmp_path / "a.asc", text).startswith(f"a.asc:{line}: this is no ASC file")
+    assert error(tmp_path / "a.asc", text).startswith(f"a.asc:{line}: this is not an ASC file")
     assert error(tmp_path / "a.asc", "Dear Sir or Madam,\n").startswith("a.asc:1: expected a line of ASC")
 
 
@@ -133,7 +135,7 @@ def test_a_line_in_another_encoding(tmp_path, before):
     path, lines = tmp_path / "a.csv", "".join(f"{number},a\n" for number in range(before))
     for rest in ("", "99999,a\n"):
         text = f"time,event\n{lines}{before},Tür\n{rest}".encode("cp1252")
-        expected = f"a.csv:{before + 2}: byte {len(str(before)) + 3} of the line, 0xFC, is not text in utf-8: --encoding says what the log is"
+        expected = f"a.csv:{before + 2}: byte {len(str(before)) + 3} of the line, 0xFC, is not text in utf-8; give the encoding of the log with"
         assert error(path, text, MS).startswith(expected)
         with pytest.raises(Exception) as found:
             list(Log(path, MS).steps())
@@ -312,7 +314,7 @@ def test_a_task_and_a_signal_that_are_not_there(tmp_path):
     (tmp_path / "a.btf").write_text("#timeScale us\n1,C,0,T,T10,0,start\n2,C,0,T,T10,0,preempt\n")
     assert check(table, str(tmp_path / "a.btf")).warnings == [
         f"{tmp_path}/a.btf: the log has no a: no task T1O (did you mean T10?)",
-        f"{tmp_path}/a.btf: the log has no b: the task T10 came, but no terminate of it"]
+        f"{tmp_path}/a.btf: the log has no b: the task T10 came, but not its terminate"]
     (tmp_path / "a.dbc").write_text(DBC)
     text = 'unit us\ndbc "a.dbc"\nevent a from signal State rises above 99\nevent b from can 0x200\nOrder a -> b\n'
     signals = Table.from_text(text, str(tmp_path / "t.txt"))

@@ -96,7 +96,7 @@ def test_a_bus_is_what_the_log_says(tmp_path):
         outcome = check(table, str(path), Policy(round=True))
         assert outcome.counts.events == 1 and outcome.rows[0].events == 1, path
         there = "can0" if path.suffix == ".log" else "1"
-        assert f"{path}: the log has no b: 0x101 came, but on no bus 2; the log has {there}" in outcome.warnings
+        assert f"{path}: the log has no b: 0x101 came, but not on bus 2; the log has {there}" in outcome.warnings
         assert f"{path}: the log has no c: no frame 0x102 came" in outcome.warnings
 
 
@@ -108,15 +108,15 @@ def test_why_an_event_never_came(tmp_path):
     path.write_text("(1.0) can0 101#0203\n(1.1) can1 102#\n(1.2) can0 103#\n(1.3) can0 101#01\n")
     assert [line.replace(f"{path}: ", "") for line in check(table, str(path)).warnings] == [
         "the log has no a: no frame 0x100 came", "the log has no b: 0x101 came, but never with data 01..",
-        "the log has no c: 0x102 came, but on no bus can3; the log has can0, can1",
+        "the log has no c: 0x102 came, but not on bus can3; the log has can0, can1",
         "the log has no d: no frame 0x00000103 came, only standard ones of that number"]
     table = Table.from_text('unit us\nevent tyre_pressure = 0\nevent door = 1 from csv "Door open"\nevent x = 2\nOrder 0 -> 1\nOrder 0 -> x\n')
     path = tmp_path / "a.csv"
     for text in ("time,event\n1,Tyre_Presure\n2,door open\n3,nothing alike\n", 'time,event\n1,"Tyre_Presure"\n2,door open\n3,\n'):
         path.write_text(text)
         assert [line.replace(f"{path}: ", "") for line in check(table, str(path)).warnings] == [
-            "the log has no tyre_pressure: but it has Tyre_Presure, which is no event of the table",
-            "the log has no door: but it has door open, which is no event of the table", "the log has no x"]
+            "the log has no tyre_pressure: but it has Tyre_Presure, which is not an event of the table",
+            "the log has no door: but it has door open, which is not an event of the table", "the log has no x"]
 
 
 TRC = {
@@ -151,7 +151,7 @@ def test_trc_of_every_version(tmp_path, version):
     (";$FILEVERSION=9.9\n", ":1: expected a version of TRC, one of 1.0, 1.1"), (";$COLUMNS=N,O\n", ":1: expected columns such as N,O,T"),
     (";$FILEVERSION=2.1\nx y z\n", ":2: expected the number of the line"), ("1) 5.5\n", ":1: expected the number of the line"),
     ("1) 5 0100 3 01 02\n", ":1: expected 3 bytes of data, found 01 02"), ("1) 5 0100 x 01\n", ":1: expected a number, found x"),
-    ("1) 5 01G0 1 01\n", ":1: expected a hexadecimal number, found 01G0"), ("1) 5.0000001 0100 0\n", ":1: the stamp 5.0000001 ms is no whole"),
+    ("1) 5 01G0 1 01\n", ":1: expected a hexadecimal number, found 01G0"), ("1) 5.0000001 0100 0\n", ":1: the stamp 5.0000001 ms is not a whole"),
 ])
 def test_trc_errors(tmp_path, text, said):
     path = tmp_path / "a.trc"
@@ -181,7 +181,7 @@ def test_blf_stamps_are_exact(tmp_path):
 def test_stamps_finer_than_the_unit_are_not_rounded_in_silence(tmp_path):
     path = written_blf(tmp_path / "a.blf", (0.0, 0.0000015, 0.25))
     table = Table.from_text("unit us\nevent a = 0 from can 0x100\n")
-    with pytest.raises(LogError, match=r"frame 2: the stamp 1\d{3} ns is no whole number of us: take a finer unit in the table, or --round"):
+    with pytest.raises(LogError, match=r"frame 2: the stamp 1\d{3} ns is not a whole number of us: use a finer unit in the table, or --round"):
         list(Log(path, table).steps())
     log = Log(path, table, Policy(round=True))
     assert [step.time for step in log.steps()] == [0, 2, 250_000] or [step.time for step in log.steps()] == [0, 1, 250_000]

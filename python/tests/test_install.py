@@ -1,4 +1,4 @@
-"""The library installed by make and the package by pip, without a network, in an environment of its own."""
+"""The library installed by make and the package by pip, without a network, in a separate environment."""
 import os
 import subprocess
 
@@ -14,7 +14,7 @@ def environment(tmp_path_factory):
     """What the manual says a newcomer does, line by line, in an empty home; gives what runs a command of the environment."""
     home = tmp_path_factory.mktemp("home")
     manual = (ROOT / "python/README.md").read_text(encoding="utf-8")
-    lines = [line.strip() for line in manual.split("with one for both:\n\n")[1].split("\n\n")[0].splitlines()]
+    lines = [line.strip() for line in manual.split("into one environment:\n\n")[1].split("\n\n")[0].splitlines()]
     make_environment, make_install, pip_install, first_check = lines
     readme = (ROOT / "README.md").read_text(encoding="utf-8")
     assert all(f"    {line.split('  ')[0]}\n" in readme for line in lines[:3]), "the README says the same"

@@ -73,7 +73,7 @@ def test_csv_errors(tmp_path):
     assert error(path, "time,event\n,pedal\n") == "a.csv:2: expected a time, found nothing"
     assert error(path, f"time,event\n{'9' * 5000},pedal\n").startswith("a.csv:2: expected a time, found 999")
     assert error(path, "time,event\n- 1,pedal\n") == "a.csv:2: expected a time, found - 1"
-    assert error(path, "time,event\n0.5,pedal\n").startswith("a.csv:2: the stamp 0.5 us is no whole number of us: take a finer unit")
+    assert error(path, "time,event\n0.5,pedal\n").startswith("a.csv:2: the stamp 0.5 us is not a whole number of us: use a finer unit")
     path.write_bytes(b"time,event\n1,\xff\n")
     with pytest.raises(LogError, match="a.csv:2: byte 3 of the line, 0xFF, is not text in utf-8"):
         steps(path)
@@ -159,7 +159,7 @@ def test_what_python_can_cannot_read(tmp_path):
 def test_equal_stamps(tmp_path):
     path = tmp_path / "a.csv"
     text = "time,event\n5,light\n5,pedal\n5,pedal\n5,light\n6,pedal\n"
-    assert error(path, text) == ("a.csv:4: a second pedal at 5 us; a finer unit tells them apart, --equal drop leaves it out, "
+    assert error(path, text) == ("a.csv:4: a second pedal at 5 us; a finer unit separates them, --equal drop leaves it out, "
                                  "--equal later gives it the next time")
     assert steps(path, text, equal="drop") == [(1, 5, 2), (0, 5, 3), (0, 6, 6)]
     assert steps(path, text, equal="later") == [(1, 5, 2), (0, 5, 3), (0, 6, 4), (1, 6, 5), (0, 7, 6)]

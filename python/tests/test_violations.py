@@ -11,12 +11,15 @@ from delkuthi.check import check
 from delkuthi.command import main
 from delkuthi.fifo import KEPT, Fifo
 from delkuthi.library import NO_LIMIT
+from delkuthi.logs import Policy
 from delkuthi.measure import measure_noting
 from delkuthi.rowtypes import TYPES
+from delkuthi.scope import Edge, Scope
 from delkuthi.signals import colours
 from delkuthi.violations import COLUMNS
 
 from conftest import EXAMPLES, ROOT
+from formats import drive_in_all_formats
 from test_measure import random_row, random_steps
 
 
@@ -284,3 +287,19 @@ def test_nothing_is_left_behind(tmp_path, monkeypatch):
 def test_the_manual_names_each_column():
     manual = (ROOT / "python/README.md").read_text(encoding="utf-8").split("**Every violation.**")[1].split("\n\n")[0]
     assert all(f"`{name}`" in manual for name in [*COLUMNS, "unit"])
+
+
+def test_the_same_violations_in_every_format(tmp_path):
+    """One drive in each format that is read: the same list, but for the places; and the same in a part of it."""
+    table, found = Table.read(EXAMPLES / "drive.txt"), {}
+    paths = drive_in_all_formats(tmp_path)
+    for scope in (Scope(), Scope(edges="cut"), Scope(Edge("100 ms", time=100_000), Edge("door_open", kind=table.kind("door_open")))):
+        for path in paths:
+            outcome = check(table, str(path), Policy(scope=scope, round=True), violations=str(tmp_path / "spool"))
+            assert outcome.error is None, outcome.error
+            found.setdefault(str(scope), []).append((
+                [(row.verdict, row.not_yet_due, row.left_out, row.instances, row.violations) for row in outcome.rows],
+                [(one.row, one.violation, one.what, one.value, one.by, one.begin, one.end, one.due) for one in outcome.violations]))
+    for several in found.values():
+        assert len(several) == len(paths) > 3 and all(one == several[0] for one in several)
+    assert len({json.dumps(several[0]) for several in found.values()}) == 3

@@ -1,6 +1,7 @@
 """A live bus: python-can's virtual one; ticks by the clock; markers and their withdrawal."""
 import io
 import os
+import pickle
 import signal
 import subprocess
 import sys
@@ -112,7 +113,7 @@ def clock_of(monitor):
 
 
 class SleepyBus:
-    """A bus and a clock: frames come at their moments, and whoever waits sleeps until one does or the time is over."""
+    """A bus and a clock: frames come at their moments, and a reader that waits sleeps until one comes or the time is over."""
 
     def __init__(self, frames):
         self.frames, self.now, self.waits = list(frames), 0.0, 0
@@ -231,7 +232,7 @@ def test_a_bus_that_fails(monkeypatch, capsys, tmp_path):
     assert main(["watch", str(tmp_path / "a.txt"), "virtual:x"]) == 2
     said = capsys.readouterr()
     assert "virtual:x: 2 rows, " in said.out and "2 frames" in said.out
-    assert said.err.endswith("virtual:x: the bus failed, and what came before is checked: bus off\n")
+    assert said.err.endswith("virtual:x: the bus failed; what came before was checked: bus off\n")
 
 
 def test_a_table_without_a_unit():
@@ -300,6 +301,24 @@ def test_what_is_said_is_said_of_the_whole_watch(drawn):
                 with mock.patch.object(explain, "FORGET_AFTER", 10**9):
                     why = reasons_of(TABLE, taken, {row: watch.number}, lambda place: f"step {place}", watch.time_format, False)[row]
                 assert text.endswith(f": {why.text}")
+
+
+def test_a_run_that_never_ends_is_not_waited_for_without_end():
+    """What comes after a break is not gathered, whether the answer has come or never comes."""
+    table = Table.from_text("unit us\nevent a = 0\nevent b = 1\nevent c = 2\nevent d = 3\n"
+                            "ExecutionTime a -> b, preempt c, resume d, 0 us .. 5 us\nStrongSynchronization a b, tolerance 1 us\n")
+    for answer in (False, True):
+        said = []
+        watch = Watch(table, said.append, io.BytesIO(), False)
+        watch.event(0, 10)
+        watch.tick(20)
+        if answer:
+            watch.event(1, 30)
+        with mock.patch.object(explain, "WAITED_FOR", 50):
+            for number in range(2000):
+                watch.event((0, 2, 3)[number % 3], 40 + number)
+        kept = [len(pickle.dumps([(events.times, events.places) for events in history._case.events.values()])) for history in watch._histories]
+        assert len(said) == (4 if answer else 2) and max(kept) < 3000
 
 
 def resident():
@@ -396,4 +415,4 @@ def test_a_row_that_is_whole_again():
     watch.marker(1, 5)
     assert watch.withdraw() and not watch.withdraw()
     assert said == ["b at 5 ms", "row 0 (StrongDelay) broken at 5 ms: the b at 5 ms (step 1) has no a that it could belong to",
-                    "row 0 is not broken any more"]
+                    "row 0 is no longer broken"]

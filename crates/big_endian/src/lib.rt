@@ -1,4 +1,4 @@
-// Big-endian numbers of two and eight bytes: read from a slice, and written to one.
+// Reads and writes big-endian numbers of two and eight bytes.
 ghost use mathlib.Core.Path.{_≡_};
 ghost use Prim.Native.Nat.{_≤_};
 ghost use lib.Seq.{sets};

@@ -1,5 +1,5 @@
-// The clock of a recording: its time, its count and the first free time of each stream, with the questions of a step but 12. Records are read over
-// it one by one, with no row stepped.
+// The clock of a recording: its time, its count and the first free time of each stream, with all questions of a step except 12. Records are read one
+// by one, and no row is stepped.
 use constraint::Call;
 use row_type::parts::plus;
 ghost use mathlib.Core.Path.{_≡_};

@@ -1,4 +1,4 @@
--- The rows' questions are put row by row, so their answer goes by the first row's answer and that of the others.
+-- The questions are asked row by row, so the answer follows from the first row's answer and that of the other rows.
 use Rattle.constraint.proofs.Names.{AcceptedIn, Answer, Constraint, Judged, List, Question, Refused, Taken, [], _++_, _+_, _<_, _∷_, _≡_, _≤_}
 use Rattle.constraint.proofs.Names.{ap, arith, drop, drop-cons, filler, getElem?, length, refl, rowLimit, rowQuestionsIn, rowsQuestions, some}
 use Rattle.constraint.proofs.Names.{subst, suc, zero, ℕ}
@@ -56,7 +56,7 @@ module _ (edition : ℕ) where
       row-accepted (i + 1) rows
       (judged-parts (rowQuestionsIn edition d) (rowsQuestions edition (i + 1) rows []) (judged-all 3 (i < rowLimit) _ judged .1) .1) j c there
 
-  -- so it is accepted as a table of its own
+  -- so it is accepted as a table by itself
   pub alone-accepted : (rows : List Constraint) → AcceptedIn edition rows → (j : ℕ) (c : Constraint) → getElem? rows j ≡ some c
       → AcceptedIn edition (c ∷ [])
   unfolding rowsQuestions

@@ -1,4 +1,5 @@
--- Questions have one answer, since each is answered "yes" or "no"; and the answer to a list of questions goes by the answers to its parts.
+-- Questions have one answer, since each is answered "yes" or "no"; and the answers to the parts of a list of questions determine the answer to the
+-- list.
 use Rattle.constraint.proofs.Names.{Answer, Bool, Decides, Judged, List, Question, Refused, Taken, [], _++_, _<_, _∙_, _∷_, _≡_, _≤_, arith}
 use Rattle.constraint.proofs.Names.{eqb, eqb-false, eqb-true, false, inl, inr, leb, leb-false, leb-true, ltb, ltb-false, ltb-true, not}
 use Rattle.constraint.proofs.Names.{not-false, refl, subst⁻¹, sym, true, ℕ}

@@ -1,4 +1,4 @@
--- The lengths of rows, and which editions have their types: each is read off a list, and what is so of every number in a list is so at each place.
+-- The lengths of rows, and which editions have their types: each is read off a list, and what holds for every number in a list holds at each place.
 use Rattle.constraint.proofs.Names.{Bool, Constraint, List, List·getD-eq-default, ShapeFits, [], _+_, _-_, _<_, _∷_, _≡_, _≤_, add-zero, ap}
 use Rattle.constraint.proofs.Names.{arith, at, cond, false, lastType, lastTypes, length, lengthOf, lengths, ne-eqb, refl, rowBody, suc}
 use Rattle.constraint.proofs.Names.{takesCount, true, typeOf, zero, ℕ}
@@ -37,7 +37,10 @@ row-fits edition c known =
 
 -- of a number that is no type's, and of every type that has no n
 pub length-unknown : (t n : ℕ) → length lengths ≤ t → lengthOf t n ≡ 0
+-- begin length unknown: made by release/row-types.py
 length-unknown t n past = rw (List·getD-eq-default lengths 0 {n = t} past, ne-eqb t 7 (λ e. omega arith), ne-eqb t 11 (λ e. omega arith))
+
+-- end length unknown
 
 pub length-plain : (t n : ℕ) → takesCount t ≡ false → lengthOf t n ≡ at lengths t
 length-plain t n other = rw other (add-zero (at lengths t))

@@ -1,4 +1,5 @@
--- Laws of tests and of lists of times: what holds of each, and lists that rise strictly. They go by cases on the test and by recursion on the list.
+-- Laws of tests and of lists of times: what holds of each, and lists that rise strictly. The proofs are by cases on the test and by recursion on the
+-- list.
 use Rattle.constraint.proofs.Names.{Bool, List, List·getD-append, [], _++_, _+_, _<_, _||_, _∙_, _∷_, _≡_, _≤_, _⊎_, add-zero, arith, at}
 use Rattle.constraint.proofs.Names.{false, getD, getD-append-add, inl, inr, length, refl, subst, suc, sym, true, zero, ℕ}
 

@@ -18,7 +18,7 @@ but-last steps s =
 abbrev pub Begins : List Step → List Step → Type 0
 Begins steps all = (later : List Step) × (all ≡ steps ++ later)
 
--- the first so many of a list, and no fewer than its beginning has, begin with it
+-- if the first n of a list are at least as many as a beginning has, they start with that beginning
 take-begins : (n : ℕ) (first later : List Step) → length first ≤ n → Begins first (take n (first ++ later))
 take-begins n [] later h = (take n later, refl)
 take-begins zero (x ∷ first) later h = absurd (omega (arith, h))

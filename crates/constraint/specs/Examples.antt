@@ -18,7 +18,7 @@ pub record Example : Type 0 where
   pub answers : List Answer
   pub verdict : Verdict
 
--- one of calls that are all taken
+-- an example in which every call is taken
 abbrev pub reads : Constraint → List Call → Verdict → Example
 reads c calls v = record { constraint = c; requests = map asks calls; answers = map (λ call. Taken) calls; verdict = v }
 

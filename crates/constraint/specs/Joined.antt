@@ -20,7 +20,7 @@ timeOf (event s t) = t
 timeOf (tick t) = t
 timeOf close = 0
 
--- §13.1; CR 8: records stand by time; at equal times those of the first come first
+-- §13.1; CR 8: the records of both, ordered by time. At equal times the records of the first recording come first
 unfoldable pub merged : List Step → List Step → List Step
 merged [] second = second
 merged (a ∷ first) [] = a ∷ first
@@ -32,7 +32,7 @@ isDropped now (event s t) = false
 isDropped now (tick t) = leb t now
 isDropped now close = false
 
--- §13.2; CR 8: the records that are not dropped, from a clock on
+-- §13.2; CR 8: the records that are not dropped, if the clock starts at `now`
 unfoldable pub undropped : ℕ → List Step → List Step
 undropped now [] = []
 undropped now (s ∷ steps) = cond (isDropped now s) (undropped now steps) (s ∷ undropped (timeOf s) steps)
@@ -45,30 +45,30 @@ joined first second = undropped 0 (merged first second)
 abbrev pub eventBytes : ℕ → ℕ → List ℕ
 eventBytes kind t = 0 ∷ 9 ∷ kind ∷ bytesOf 8 t
 
--- §7.2; CR 6: of an event with a colour
+-- §7.2; CR 6: the bytes of a coloured event
 abbrev pub colouredBytes : ℕ → ℕ → ℕ → List ℕ
 colouredBytes kind colour t = 0 ∷ 10 ∷ kind ∷ colour ∷ bytesOf 8 t
 
--- §7.2; 01, recording: of a tick
+-- §7.2; 01, recording: the bytes of a tick
 abbrev pub tickBytes : ℕ → List ℕ
 tickBytes t = 0 ∷ 8 ∷ bytesOf 8 t
 
--- §7.2, §13.3; 01, recording; CR 6: of a record
+-- §7.2, §13.3; 01, recording; CR 6: the bytes of a record
 unfoldable pub stepBytes : Step → List ℕ
 stepBytes (event s t) = cond (ltb s firstColoured) (eventBytes s t) (colouredBytes (kindOf s) ((s - firstColoured) % 8) t)
 stepBytes (tick t) = tickBytes t
 stepBytes close = []
 
--- §7.1; 01, recording: of records one after the other
+-- §7.1; 01, recording: the bytes of several records in order
 unfoldable pub stepsBytes : List Step → List ℕ
 stepsBytes [] = []
 stepsBytes (s ∷ steps) = stepBytes s ++ stepsBytes steps
 
--- §7.1, §13.3; 01, recording; CR 6: the version byte, then the records
+-- §7.1, §13.3; 01, recording; CR 6: the bytes of a recording: the version byte, then the records
 abbrev pub recordingBytes : ℕ → List Step → List ℕ
 recordingBytes version steps = version ∷ stepsBytes steps
 
--- §13.3; CR 8: the version is the higher one
+-- §13.3; CR 8: the bytes of the joined recording. Its version is the higher of the two
 abbrev pub joinedBytes : List ℕ → List ℕ → List Step → List Step → List ℕ
 joinedBytes one two first second = recordingBytes (max (at one 0) (at two 0)) (joined first second)
 
@@ -79,23 +79,23 @@ kindsOf (event s t ∷ steps) = kindOf s ∷ kindsOf steps
 kindsOf (tick t ∷ steps) = kindsOf steps
 kindsOf (close ∷ steps) = kindsOf steps
 
--- §8.20; CR 8: a step is an event of one of these kinds
+-- §8.20; CR 8: the step is an event of one of these kinds
 abbrev pub ofKinds : List ℕ → Step → Bool
 ofKinds kinds (event s t) = among (kindOf s) kinds
 ofKinds kinds (tick t) = false
 ofKinds kinds close = false
 
--- §8.20; CR 8: no kind is found in both, whatever the colours
+-- §8.20; CR 8: no kind occurs in both recordings, whatever its colour
 unfoldable pub NoneInCommon : List Step → List Step → Type 0
 NoneInCommon first second = (k : ℕ) → among k (kindsOf first) ≡ true → among k (kindsOf second) ≡ false
 
--- §8.20, §13.6; CR 8: the place of the first record, from a place on, that is of one of these kinds
+-- §8.20, §13.6; CR 8: the place of the first record of one of these kinds, from a place on
 pub data FirstOf (kinds : List ℕ) (bytes : List ℕ) : ℕ → ℕ → Type 0 where
   here : {place : ℕ} → place < length bytes → ofKinds kinds (stepFor (callAt bytes place)) ≡ true → FirstOf kinds bytes place place
   later : {place found : ℕ} → place < length bytes → ofKinds kinds (stepFor (callAt bytes place)) ≡ false
       → FirstOf kinds bytes (place + 2 + lengthAt bytes place) found → FirstOf kinds bytes place found
 
--- §8.16, §8.20, §13.4 to §13.8; CR 8: the answer to a join, and what is then in the buffer
+-- §8.16, §8.20, §13.4 to §13.8; CR 8: the answer to a join, and what the buffer holds afterwards
 pub data AnswersJoin (one two before : List ℕ) : JoinAnswer → List ℕ → Type 0 where
   no-first : (n place : ℕ) → ReadsInOrder one (recording-refused n place) → AnswersJoin one two before (JoinAnswer.FirstRefused n place) before
   no-second : (first : List Step) (n place : ℕ) → ReadsInOrder one (recording-of first) → ReadsInOrder two (recording-refused n place)

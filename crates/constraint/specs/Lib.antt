@@ -1,4 +1,4 @@
--- The contract (docs/CONTRACT.md) in definitions, in its order as far as one rests on another. §5.1 is its clause 5.1; "01, row 3" is the place in
+-- The contract (docs/CONTRACT.md) in definitions, in its order where dependencies allow. §5.1 is its clause 5.1; "01, row 3" is the place in
 -- the scope that it renders, "CR 3" the change request (docs/history/REQUESTS.md); docs/READING.md leads from each clause to its definition, theorem
 -- and function. The signs:
 --   (i : ℕ) → P i          for every whole number i, from 0 on, P i

@@ -1,4 +1,4 @@
--- What each row asks of all events together, some of the clock too (§2.2, §5.1 to §5.11; 01, rows 1 to 7; CR 1, 2, 3, 6, 10).
+-- What each row asks of all events together. Some rows also ask something of the clock (§2.2, §5.1 to §5.11; 01, rows 1 to 7; CR 1, 2, 3, 6, 10).
 use Prim.Native.Nat.{ℕ, _+_, _-_, _≤_, _<_}
 use mathlib.Core.Path.{_≡_}
 use mathlib.Core.List.{List, [], _∷_}
@@ -9,28 +9,32 @@ use Rattle.constraint.specs.Limits.{lastColour, noLimit}
 use Rattle.constraint.specs.Streams.{stream}
 use Rattle.constraint.specs.Steps.{Step, at, times, own, clock}
 use Rattle.constraint.specs.declared.Constraint.{Constraint}
+-- begin imports: made by release/row-types.py
 use Rattle.constraint.specs.declared.Constraint.the-variants.{Delay, StrongDelay, Repeat, Sporadic, Burst, Order, StrongSynchronization2}
 use Rattle.constraint.specs.declared.Constraint.the-variants.{StrongSynchronization3, StrongSynchronization4, ExecutionTime, Reaction}
 use Rattle.constraint.specs.declared.Constraint.the-variants.{Repetition, Synchronization2, Synchronization3, Synchronization4}
+
+-- end imports
 
 -- §5.2; 01, row 2: y is lower to upper after x, both ends included
 abbrev pub Between : ℕ → ℕ → ℕ → ℕ → Type 0
 Between lower upper x y = (x + lower ≤ y) × (y ≤ x + upper)
 
--- §4.7; 01, table; CR 1: y is at most upper after x, or however late where upper is the mark for no limit
+-- §4.7; 01, table; CR 1: y is at most upper after x, or upper is the mark for no limit
 abbrev pub NotLater : ℕ → ℕ → ℕ → Type 0
 NotLater upper x y = (upper ≡ noLimit) ⊎ (y ≤ x + upper)
 
--- §5.1; 01, row 1; CR 1: y is lower to upper after x, where upper may be the mark; `inInterval` tests it (`answered-true`, `answered-by`)
+-- §5.1; 01, row 1; CR 1: y is lower to upper after x, where upper may be the mark for no limit. `inInterval` tests it (`answered-true`,
+-- `answered-by`)
 abbrev pub Apart : ℕ → ℕ → ℕ → ℕ → Type 0
 Apart lower upper x y = (x + lower ≤ y) × NotLater upper x y
 
--- §5.1, §5.1.6; 01, row 1; CR 1: each source has a target lower to upper after it, or however late where upper is the mark
+-- §5.1, §5.1.6; 01, row 1; CR 1: each source has a target lower to upper after it, or at least lower after it if upper is the mark for no limit
 unfoldable pub MeetsDelay : ℕ → ℕ → List ℕ → List ℕ → Type 0
 MeetsDelay lower upper sources targets =
     (i : ℕ) → i < length sources → (j : ℕ) × (j < length targets) × Apart lower upper (at sources i) (at targets j)
 
--- §5.2; 01, row 2: sources and targets are equal in number, and each target is lower to upper after the source of its place
+-- §5.2; 01, row 2: there are as many targets as sources, and the i-th target is lower to upper after the i-th source
 unfoldable pub MeetsStrongDelay : ℕ → ℕ → List ℕ → List ℕ → Type 0
 MeetsStrongDelay lower upper sources targets =
     (length targets ≡ length sources) × ((i : ℕ) → i < length sources → Between lower upper (at sources i) (at targets i))
@@ -39,44 +43,45 @@ MeetsStrongDelay lower upper sources targets =
 unfoldable pub SpansApart : ℕ → ℕ → ℕ → List ℕ → Type 0
 SpansApart span lower upper events = (i : ℕ) → i + span < length events → Apart lower upper (at events i) (at events (i + span))
 
--- §5.3; 01, row 3; CR 3: so it is in a Repeat; and an event that has none span places after it is at most upper before the clock now
+-- §5.3; 01, row 3; CR 3: the events of a Repeat are `SpansApart`. An event with no event span places after it is at most upper before the clock `now`
 unfoldable pub MeetsRepeat : ℕ → ℕ → ℕ → List ℕ → ℕ → Type 0
 MeetsRepeat span lower upper events now =
     SpansApart span lower upper events × ((i : ℕ) → i < length events → length events ≤ i + span → NotLater upper (at events i) now)
 
--- §5.4, §5.5; 01, rows 4 and 5: neighbours are at least minimum apart
+-- §5.4, §5.5; 01, rows 4 and 5: consecutive events are at least minimum apart
 abbrev pub AtLeastApart : ℕ → List ℕ → Type 0
 AtLeastApart minimum events = SpansApart 1 minimum noLimit events
 
--- §5.4, §5.10; 01, row 4; CR 10: a point for each event, at most jitter before it; they rise, and those span places apart are lower to upper apart
+-- §5.4, §5.10; 01, row 4; CR 10: a point for each event, at most jitter before it. The points rise, and points span places apart are lower to upper
+-- apart
 pub record HiddenPoints (span lower upper jitter : ℕ) (events points : List ℕ) : Type 0 where
   pub one-each : length points ≡ length events
   pub near : (i : ℕ) → i < length events → Between 0 jitter (at points i) (at events i)
   pub rise : (i : ℕ) → i + 1 < length events → at points i < at points (i + 1)
   pub apart : (i : ℕ) → i + span < length events → Apart lower upper (at points i) (at points (i + span))
 
--- §5.4; CR 3: the last point, where there is one, is at most upper and jitter before the clock now
+-- §5.4; CR 3: the last point, if there is one, is at most upper + jitter before the clock `now`
 abbrev pub LastNotLater : ℕ → ℕ → List ℕ → ℕ → Type 0
 LastNotLater upper jitter points now = (i : ℕ) → i + 1 ≡ length points → NotLater upper (at points i + jitter) now
 
--- §5.4; 01, row 4; CR 3: the same points, of span 1, do both, and neighbours among the events are at least minimum apart
+-- §5.4; 01, row 4; CR 3: one list of points of span 1 satisfies both, and consecutive events are at least minimum apart
 unfoldable pub MeetsSporadic : ℕ → ℕ → ℕ → ℕ → List ℕ → ℕ → Type 0
 MeetsSporadic lower upper jitter minimum events now =
     ((points : List ℕ) × HiddenPoints 1 lower upper jitter events points × LastNotLater upper jitter points now) × AtLeastApart minimum events
 
--- §5.10; CR 10: there are points of the span
+-- §5.10; CR 10: there are hidden points of the span
 unfoldable pub MeetsRepetition : ℕ → ℕ → ℕ → ℕ → List ℕ → Type 0
 MeetsRepetition span lower upper jitter events = (points : List ℕ) × HiddenPoints span lower upper jitter events points
 
--- §5.5; 01, row 5: events maximum places apart are at least len apart, and neighbours at least minimum
+-- §5.5; 01, row 5: events maximum places apart are at least len apart, and consecutive events are at least minimum apart
 unfoldable pub MeetsBurst : ℕ → ℕ → ℕ → List ℕ → Type 0
 MeetsBurst maximum len minimum events = SpansApart maximum len noLimit events × AtLeastApart minimum events
 
--- §5.6; 01, row 6: sources and targets are equal in number, and no source is after the target of its place
+-- §5.6; 01, row 6: there are as many targets as sources, and the i-th source is not after the i-th target
 unfoldable pub MeetsOrder : List ℕ → List ℕ → Type 0
 MeetsOrder sources targets = (length targets ≡ length sources) × ((i : ℕ) → i < length sources → at sources i ≤ at targets i)
 
--- §5.7; 01, row 7: any two of the kinds have equally many events, and those of one place are at most tolerance apart
+-- §5.7; 01, row 7: any two of the kinds have equally many events, and their i-th events are at most tolerance apart
 unfoldable pub MeetsStrongSynchronization : List ℕ → ℕ → List Step → Type 0
 MeetsStrongSynchronization kinds tolerance steps =
     (j k : ℕ) → j < length kinds → k < length kinds →
@@ -101,8 +106,8 @@ MeetsSynchronization kinds tolerance steps =
     (j s : ℕ) → j < length kinds → Recorded kinds steps j s → Covered (Recorded kinds steps) (length kinds) tolerance s
 
 module _ (start stop preempt resume lower upper : ℕ) where
-  -- §5.8; CR 2: the row's events from the time `free` on, between two executions or in one that started at s and was preempted for so long: no
-  -- event; a start; a preempt and its resume; a stop that is lower to upper after the start, the time preempted not counted
+  -- §5.8; CR 2: the row's events from the time `free` on, either between two executions or within one that started at s and was preempted for the
+  -- time `preempted`: no event; a start; a preempt and its resume; a stop lower to upper after the start, where preempted time does not count
   pub data Executes : Option (ℕ × ℕ) → ℕ → List (ℕ × ℕ) → Type 0 where
     no-event : {free : ℕ} → Executes none free []
     started : {free : ℕ} {later : List (ℕ × ℕ)} (s : ℕ) → free ≤ s → Executes (some (s, 0)) (s + 1) later → Executes none free ((start, s) ∷ later)
@@ -115,12 +120,12 @@ module _ (start stop preempt resume lower upper : ℕ) where
 unfoldable pub MeetsExecutionTime : ℕ → ℕ → ℕ → ℕ → ℕ → ℕ → List (ℕ × ℕ) → Type 0
 MeetsExecutionTime start stop preempt resume lower upper events = Executes start stop preempt resume lower upper none 0 events
 
--- §5.9; CR 6: of one colour: each stimulus has a response, and the first response of all is minimum to maximum after it
+-- §5.9; CR 6: for one colour: if there is a stimulus there is a response, and the first response is minimum to maximum after every stimulus
 unfoldable pub MeetsReaction : ℕ → ℕ → List ℕ → List ℕ → Type 0
 MeetsReaction minimum maximum stimuli responses =
     (i : ℕ) → i < length stimuli → (0 < length responses) × Between minimum maximum (at stimuli i) (at responses 0)
 
--- §2.1, §2.2, §5.9; 01, rows; CR 3: what a row asks of all events together, with the clock that they close at
+-- §2.1, §2.2, §5.9; 01, rows; CR 3: what a row asks of all events together and of the clock after them
 unfoldable pub Meets : Constraint → List Step → Type 0
 Meets (Delay source target lower upper) steps = MeetsDelay lower upper (times source steps) (times target steps)
 Meets (StrongDelay source target lower upper) steps = MeetsStrongDelay lower upper (times source steps) (times target steps)

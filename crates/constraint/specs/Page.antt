@@ -13,11 +13,11 @@ use Rattle.constraint.specs.declared.Verdict.the-variants.{Open, Kept, B
 
 -- ---- a line
 
--- §7.16; CR 5: text to the left of a width: blanks behind it
+-- §7.16; CR 5: text left-aligned in a width, with blanks after it
 abbrev pub leftIn : ℕ → List ℕ → List ℕ
 leftIn width text = text ++ replicate (width - length text) blank
 
--- §7.16; CR 5: and to its right: blanks before it
+-- §7.16; CR 5: text right-aligned in a width, with blanks before it
 abbrev pub rightIn : ℕ → List ℕ → List ℕ
 rightIn width text = replicate (width - length text) blank ++ text
 
@@ -35,18 +35,18 @@ verdictWord Open = openWord
 verdictWord Kept = keptWord
 verdictWord (Broken n) = brokenWord
 
--- §7.16; CR 5: the step of a row that is broken; nothing for any other
+-- §7.16; CR 5: the step that broke the row; no text for any other verdict
 abbrev pub stepText : Verdict → List ℕ
 stepText Open = []
 stepText Kept = []
 stepText (Broken n) = decimal n
 
--- §7.15; CR 5: the bytes of a line before its end
+-- §7.15; CR 5: the number of bytes in a line, without its end
 abbrev pub pageWidth : ℕ
 pageWidth = 72
 
--- §7.16; CR 5: a row's line by columns: the number in 3 to the right, two blanks, the name in 24 and the verdict in 8 to the left, the step in
--- 20 to the right, and blanks up to 72
+-- §7.16; CR 5: the columns of a row's line: the number right-aligned in 3, two blanks, the name left-aligned in 24, the verdict left-aligned in 8,
+-- the step right-aligned in 20, and blanks up to 72
 unfoldable pub lineText : ℕ → ℕ → Verdict → List ℕ
 lineText i type v =
     leftIn pageWidth
@@ -62,20 +62,20 @@ pageLine i type v = lineText i type v ++ lineEnd ∷ []
 unfoldable pub hyphens : List ℕ
 hyphens = replicate pageWidth 45 ++ lineEnd ∷ []
 
--- §7.17; CR 5: how many rows a heading stands before
+-- §7.17; CR 5: the number of rows under one heading
 abbrev pub pageGroup : ℕ
 pageGroup = 16
 
--- §7.17; CR 5: what stands before row i's line: a heading before every sixteenth row, from row 0 on
+-- §7.17; CR 5: the text before row i's line: a heading before every sixteenth row, starting with row 0
 abbrev pub heading : ℕ → List ℕ
 heading i = cond (eqb (i % pageGroup) 0) hyphens []
 
--- §7.17; CR 5: the lines of the first n rows, whose types and verdicts are given by their numbers
+-- §7.17; CR 5: the lines of the first n rows. `types` and `verdicts` give each row's type and verdict by its number
 unfoldable pub pageLines : (ℕ → ℕ) → (ℕ → Verdict) → ℕ → List ℕ
 pageLines types verdicts zero = []
 pageLines types verdicts (suc i) = pageLines types verdicts i ++ heading i ++ pageLine i (types i) (verdicts i)
 
--- §7.14, §7.17; CR 5: the page of n rows; of none, one heading
+-- §7.14, §7.17; CR 5: the page of n rows. With no rows it is one heading
 abbrev pub pageText : (ℕ → ℕ) → (ℕ → Verdict) → ℕ → List ℕ
 pageText types verdicts zero = hyphens
 pageText types verdicts (suc n) = pageLines types verdicts (suc n)
@@ -91,7 +91,7 @@ pub data PageOf (rows : List Constraint) (steps : List Step) : List ℕ → Type
   page-of : (verdicts : List Verdict) → EachReads steps rows verdicts
       → PageOf rows steps (pageText (at (map typeOf rows)) (verdictAt verdicts) (length rows))
 
--- §7.19; CR 5: in a buffer that is too short nothing is written, and 0 is answered; bytes behind the page stay
+-- §7.19; CR 5: the answer is the page's length, and bytes after the page stay. If the buffer is too short, the answer is 0 and nothing is written
 pub data Pages (rows : List Constraint) (steps : List Step) (before : List ℕ) : ℕ → List ℕ → Type 0 where
   page-written : (page : List ℕ) → PageOf rows steps page → length page ≤ length before
       → Pages rows steps before (length page) (page ++ drop (length page) before)

@@ -1,5 +1,5 @@
--- What the code's tests and records say: a test of a question, the rows of a table record, one row more, and a row's fields as numbers. No
--- definition of the contract rests on these.
+-- What the code's tests and records mean: the test of a question, the rows of a table record, adding a row, and a row's fields as numbers. No
+-- definition of the contract uses these.
 use Prim.Native.Nat.{ℕ, _+_, _≤_, _<_, max}
 use mathlib.Core.Path.{_≡_}
 use mathlib.Core.Bool.{Bool, true, false, cond, _||_}
@@ -19,27 +19,27 @@ use Rattle.constraint.specs.declared.fields.Fields.{Fields}
 
 -- A test
 
--- §9.1: a test that answers one question: true where it is answered "yes"
+-- §9.1: the test answers one question: true means "yes"
 abbrev pub Decides : Type 0 → Bool → Type 0
 Decides asked true = asked
 Decides asked false = ¬ asked
 
 -- The rows of a table record
 
--- the row of an entry that no row was put in
+-- the row in an entry that is not in use
 abbrev pub filler : Constraint
 filler = Order 0 0
 
--- the first `count` entries; behind the 32 entries stand copies of the filler, so a count above 32 is a table of more than 32 rows
+-- the first `count` entries. Copies of the filler follow the 32 entries, so a count above 32 is a table of more than 32 rows
 unfoldable pub rowsOf : Table → List Constraint
 rowsOf table = take (table .count) (map (λ entry. entry .constraint) (table .rows) ++ replicate (table .count) filler)
 
--- r is the table with one row more; one for which there is no entry makes the count at least 33, so that the table is refused with 3
+-- r is the table with one more row. If there is no entry for it, the count becomes at least 33, so that the table is refused with 3
 pub record Adds (table : Table) (c : Constraint) (r : Table) : Type 0 where
   pub room : table .count < rowLimit → rowsOf r ≡ rowsOf table ++ (c ∷ [])
   pub full : rowLimit ≤ table .count → r ≡ record { rows = table .rows; count = max (table .count) (rowLimit + 1) }
 
--- A row's fields as numbers: values, and the numbers of their roles, of which 0 is no field
+-- A row's fields as numbers: values, and the numbers of their roles. Role 0 means no field
 
 -- the role of a field of one byte
 abbrev pub byteRole : ℕ → ByteRole
@@ -75,7 +75,7 @@ fieldsAs field [] values = []
 fieldsAs field (r ∷ roles) [] = []
 fieldsAs field (r ∷ roles) (x ∷ values) = fieldAt field r x ++ fieldsAs field roles values
 
--- those of one byte, from the i-th place on
+-- the fields of one byte, from the i-th place on
 abbrev pub bytesFrom : List ℕ → List ℕ → ℕ → List Field
 bytesFrom roles values i = fieldsAs byteField (drop i roles) (drop i values)
 
@@ -100,14 +100,14 @@ unfoldable pub timesBytes : List ℕ → List ℕ
 timesBytes [] = []
 timesBytes (x ∷ xs) = bytesOf 8 x ++ timesBytes xs
 
--- the numbers are those of a row, and stand first in their arrays
+-- the numbers are the fields of a row, at the front of their arrays
 pub record HoldsRow (c : Constraint) (fields : Fields) : Type 0 where
   pub typed : fields .line .tag ≡ typeOf c
   pub all : bytesFrom (fields .line .bytes) (fields .bytes) 0 ++ timesFrom (fields .line .times) (fields .times) 0 ≡ fieldsOf c
   pub bytes : take (length (bytesIn (fieldsOf c))) (fields .bytes) ≡ bytesIn (fieldsOf c)
   pub times : take (length (timesIn (fieldsOf c))) (fields .times) ≡ timesIn (fieldsOf c)
 
--- a kind is none of the list
+-- the kind is not in the list
 abbrev pub Absent : ℕ → List ℕ → Type 0
 Absent k [] = Unit
 Absent k (j ∷ ks) = (k ≢ j) × Absent k ks

@@ -17,15 +17,15 @@ unfoldable pub digits : ℕ → ℕ → List ℕ
 digits zero x = []
 digits (suc n) x = cond (ltb x 10) [] (digits n (x / 10)) ++ ((48 + x % 10) ∷ [])
 
--- §7.7; 01, report: in ASCII, with no zero in front. Every number of a report is below 10 ^ 20
+-- §7.7; 01, report: a number in ASCII, without leading zeros. Every number in a report is below 10 ^ 20
 abbrev pub decimal : ℕ → List ℕ
 decimal x = digits 20 x
 
--- §7.7; 01, report: what stands between the parts of a line
+-- §7.7; 01, report: the byte between the parts of a line
 abbrev pub blank : ℕ
 blank = 32
 
--- §7.7; 01, report: and at its end
+-- §7.7; 01, report: the byte at the end of a line
 abbrev pub lineEnd : ℕ
 lineEnd = 10
 
@@ -45,22 +45,22 @@ brokenWord = 98 ∷ 114 ∷ 111 ∷ 107 ∷ 101 ∷ 110 ∷ []
 abbrev pub refusedWord : List ℕ
 refusedWord = 114 ∷ 101 ∷ 102 ∷ 117 ∷ 115 ∷ 101 ∷ 100 ∷ []
 
--- §7.4; 01, report: kept, or broken and the step; at the close no row is open
+-- §7.4; 01, report: kept, or broken and the step. After the close no row is open
 abbrev pub verdictText : Verdict → List ℕ
 verdictText Open = []
 verdictText Kept = keptWord
 verdictText (Broken n) = brokenWord ++ blank ∷ decimal n
 
--- §7.4; 01, report: a line for each row, its number and its verdict
+-- §7.4; 01, report: a line for each row: its number and its verdict
 unfoldable pub rowLines : ℕ → List Verdict → List ℕ
 rowLines i [] = []
 rowLines i (v ∷ verdicts) = decimal i ++ blank ∷ verdictText v ++ lineEnd ∷ rowLines (i + 1) verdicts
 
--- §7.4; 01, report: the number of steps, then the rows' lines
+-- §7.4; 01, report: the report on an accepted recording: the number of steps, then the rows' lines
 abbrev pub closedText : ℕ → List Verdict → List ℕ
 closedText count verdicts = closedWord ++ blank ∷ decimal count ++ lineEnd ∷ rowLines 0 verdicts
 
--- §7.5; 01, report: the refusal's number and its place
+-- §7.5; 01, report: the report on a refusal: its number and its place
 abbrev pub refusedText : ℕ → ℕ → List ℕ
 refusedText n place = refusedWord ++ blank ∷ decimal n ++ blank ∷ decimal place ++ lineEnd ∷ []
 
@@ -70,7 +70,7 @@ pub data EachReads (after : List Step) : List Constraint → List Verdict → Ty
   row-reads : {c : Constraint} {rows : List Constraint} {v : Verdict} {verdicts : List Verdict} → Reads c after v → EachReads after rows verdicts
       → EachReads after (c ∷ rows) (v ∷ verdicts)
 
--- §7.3, §9.10; 01, report: the report's text, where tables are taken up to the newest edition
+-- §7.3, §9.10; 01, report: the report's text, if the call takes tables up to the edition `newest`
 pub data ReportOfUpTo (newest : ℕ) (table recording : List ℕ) : List ℕ → Type 0 where
   no-table : (n place : ℕ) → ReadsTableUpTo newest table (table-refused n place) → ReportOfUpTo newest table recording (refusedText n place)
   no-recording : (rows : List Constraint) (n place : ℕ) → ReadsTableUpTo newest table (table-of rows)
@@ -79,17 +79,17 @@ pub data ReportOfUpTo (newest : ℕ) (table recording : List ℕ) : List ℕ →
       → ReadsRecording rows recording (recording-of accepted) → EachReads (accepted ++ (close ∷ [])) rows verdicts
       → ReportOfUpTo newest table recording (closedText (length (accepted ++ (close ∷ []))) verdicts)
 
--- §7.8, §16.3; 01, report: the answer, and what is then in the buffer
+-- §7.8, §16.3; 01, report: the answer, and what the buffer holds afterwards
 pub data ReportsUpTo (newest : ℕ) (table recording before : List ℕ) : ℕ → List ℕ → Type 0 where
   written : (text : List ℕ) → ReportOfUpTo newest table recording text → length text ≤ length before
       → ReportsUpTo newest table recording before (length text) (text ++ drop (length text) before)
   too-short : (text : List ℕ) → ReportOfUpTo newest table recording text → length before < length text
       → ReportsUpTo newest table recording before 0 before
 
--- §7.3, §7.9, §9.10; 01, report: of a table of the first edition
+-- §7.3, §7.9, §9.10; 01, report: the report's text for a table of the first edition
 abbrev pub ReportOf : List ℕ → List ℕ → List ℕ → Type 0
 ReportOf = ReportOfUpTo 1
 
--- §7.3, §7.8; 01, report
+-- §7.3, §7.8; 01, report: the answer and the buffer for a table of the first edition
 abbrev pub Reports : List ℕ → List ℕ → List ℕ → ℕ → List ℕ → Type 0
 Reports = ReportsUpTo 1

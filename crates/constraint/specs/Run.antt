@@ -16,22 +16,23 @@ use Rattle.constraint.specs.declared.Answer.the-variants.{Taken, Refused
 use Rattle.constraint.specs.declared.Call.{Call}
 use Rattle.constraint.specs.declared.Constraint.{Constraint}
 
--- §3.3; 01, time; CR 6: the step that a call is once it is accepted
+-- §3.3; 01, time; CR 6: the step that an accepted call makes
 abbrev pub stepFor : Call → Step
 stepFor (Call.Event k t) = event k t
 stepFor (Call.ColouredEvent k c t) = event (stream k c) t
 stepFor (Call.Tick t) = tick t
 stepFor Call.Close = close
 
--- §6.5, §8.12; 01, questions: each row that is open then has at most 64 waiting
+-- §6.5, §8.12; 01, questions: every row that is open after the steps has at most 64 waiting
 unfoldable pub Room : List Constraint → List Step → Type 0
 Room rows steps = (i : ℕ) (c : Constraint) → getElem? rows i ≡ some c → Open c steps → waiting c steps ≤ waitingLimit
 
--- §8.10 to §8.12; 01, questions: what is asked of an event of a stream in the end
+-- §8.10 to §8.12; 01, questions: the last questions about an event of a stream
 abbrev pub eventQuestions : List Constraint → List Step → ℕ → ℕ → List Question
 eventQuestions rows steps s t = (10, t ≤ lastTime) ∷ (11, EventInOrder steps s t) ∷ (12, Room rows (steps ++ (event s t ∷ []))) ∷ []
 
--- §8.9 to §8.12, §8.19; 01, questions; CR 6: and of a call; a plain event has a plain kind, one with a colour a coloured kind and one of the colours
+-- §8.9 to §8.12, §8.19; 01, questions; CR 6: the questions about one kind of call. A plain event has a plain kind. A coloured event has a coloured
+-- kind and one of the colours
 abbrev pub callQuestions : List Constraint → List Step → Call → List Question
 callQuestions rows steps (Call.Event k t) = (9, k ≤ lastKind) ∷ (19, k < firstColoured) ∷ eventQuestions rows steps k t
 callQuestions rows steps (Call.ColouredEvent k c t) =
@@ -39,11 +40,11 @@ callQuestions rows steps (Call.ColouredEvent k c t) =
 callQuestions rows steps (Call.Tick t) = (10, t ≤ lastTime) ∷ (11, clock steps < t) ∷ (12, Room rows (steps ++ (tick t ∷ []))) ∷ []
 callQuestions rows steps Call.Close = []
 
--- §1.4, §3.3, §8.8 to §8.11, §8.19, §8.24, §9.5; 01, questions; CR 12: the questions of a call, over the steps accepted before
+-- §1.4, §3.3, §8.8 to §8.11, §8.19, §8.24, §9.5; 01, questions; CR 12: all questions about a call, after the steps accepted before
 unfoldable pub questions : List Constraint → List Step → Call → List Question
 questions rows steps call = (8, closed steps ≡ false) ∷ (24, length steps < lastCount) ∷ callQuestions rows steps call
 
--- §3.12; CR 9: what a monitor is asked: a call, or to withdraw the last step
+-- §3.12; CR 9: a request to a monitor: a call, or to withdraw the last step
 pub data Request : Type 0 where
   asks : Call → Request
   withdraws : Request
@@ -53,7 +54,7 @@ pub record Left : Type 0 where
   pub steps : List Step
   pub may : Bool
 
--- §3.2; 01, time: before any request
+-- §3.2; 01, time: what is left before any request: no step
 abbrev pub noneLeft : Left
 noneLeft = record { steps = []; may = false }
 
@@ -63,21 +64,20 @@ requestQuestions rows left (asks call) = questions rows (left .steps) call
 requestQuestions rows left withdraws = (21, left .may ≡ true) ∷ []
 
 -- §1.7, §3.3, §3.9, §3.12; 01, time; CR 9:
--- what is left once the request has its answer. A refusal changes nothing; a step that is taken may be withdrawn; one
--- that
--- is withdrawn is struck out, and the one before it stays. `take n steps` are the first n
+-- what is left after a request and its answer. A refusal changes nothing. A step that is taken may be withdrawn. A withdrawal removes the last step,
+-- and the step before it cannot be withdrawn. `take n steps` are the first n steps
 abbrev pub leftBy : Left → Request → Answer → Left
 leftBy left r (Refused n) = left
 leftBy left (asks call) Taken = record { steps = left .steps ++ (stepFor call ∷ []); may = true }
 leftBy left withdraws Taken = record { steps = take (length (left .steps) - 1) (left .steps); may = false }
 
--- §3.3, §3.13; 01, time; CR 9: the requests one after the other, from what was left before to what is left in the end
+-- §3.3, §3.13; 01, time; CR 9: the requests in order, from what was left before them to what is left after them
 pub data Run (rows : List Constraint) : Left → List Request → List Answer → Left → Type 0 where
   done : {left : Left} → Run rows left [] [] left
   request : {left end : Left} {requests : List Request} {answers : List Answer} (r : Request) (a : Answer)
       → Judged (requestQuestions rows left r) a → Run rows (leftBy left r a) requests answers end → Run rows left (r ∷ requests) (a ∷ answers) end
 
--- §3.15; CR 9: none of the first n steps is withdrawn: so many are left after each request
+-- §3.15; CR 9: none of the first n steps is withdrawn: at least n steps are left after each request
 abbrev pub Keeps : ℕ → {rows : List Constraint} {left end : Left} {requests : List Request} {answers : List Answer}
     → Run rows left requests answers end → Type 0
 Keeps n done = Unit {0}

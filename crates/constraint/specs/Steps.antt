@@ -5,13 +5,14 @@ use mathlib.Core.List.{List, [], _∷_}
 use lib.ListN.{getD}
 use lib.Dec.{eqb}
 
--- §1.3 to §1.5, §1.9; 01, time; CR 6: an event of a stream at a time, a tick to a time, the close. `event 0 10` is 0@10, of the plain kind 0
+-- §1.3 to §1.5, §1.9; 01, time; CR 6: a step: an event of a stream at a time; a tick, which moves the clock to a time; or the close. `event 0 10` is
+-- 0@10, of the plain kind 0
 pub data Step : Type 0 where
   event : ℕ → ℕ → Step
   tick : ℕ → Step
   close : Step
 
--- the i-th of a list of numbers, counted from 0 (0 behind its end)
+-- the i-th number of a list, counted from 0; past the end it is 0
 abbrev pub at : List ℕ → ℕ → ℕ
 at list i = getD list i 0
 
@@ -34,18 +35,18 @@ own ks (event k t ∷ steps) = cond (among k ks) ((k, t) ∷ own ks steps) (own 
 own ks (tick t ∷ steps) = own ks steps
 own ks (close ∷ steps) = own ks steps
 
--- §1.3 to §1.5; 01, time: the clock after the steps, from the clock before them; the close leaves it where it is
+-- §1.3 to §1.5; 01, time: the clock after the steps, given the clock before them. The close does not move it
 unfoldable pub clockFrom : ℕ → List Step → ℕ
 clockFrom now [] = now
 clockFrom now (event k t ∷ steps) = clockFrom t steps
 clockFrom now (tick t ∷ steps) = clockFrom t steps
 clockFrom now (close ∷ steps) = clockFrom now steps
 
--- §1.6; 01, time: from a clock of 0 on
+-- §1.6; 01, time: the clock after the steps, which starts at 0
 abbrev pub clock : List Step → ℕ
 clock steps = clockFrom 0 steps
 
--- §1.5, §8.8; 01, time: there was a close
+-- §1.5, §8.8; 01, time: the close is one of the steps
 unfoldable pub closed : List Step → Bool
 closed [] = false
 closed (event k t ∷ steps) = closed steps

@@ -1,10 +1,10 @@
--- Streams: what times rise strictly within (§1.9; CR 6).
+-- Streams: times rise strictly within a stream (§1.9; CR 6).
 use Prim.Native.Nat.{ℕ, _+_, _*_, _-_, _/_}
 use mathlib.Core.Bool.{cond}
 use lib.Dec.{ltb}
 use Rattle.constraint.specs.Limits.{firstColoured}
 
--- §1.9; CR 6: the stream of a coloured kind and a colour; a plain kind is a stream by itself
+-- §1.9; CR 6: the stream of a coloured kind and a colour. A plain kind is a stream by itself
 abbrev pub stream : ℕ → ℕ → ℕ
 stream kind colour = firstColoured + 8 * (kind - firstColoured) + colour
 

@@ -25,36 +25,36 @@ pub record Stretch : Type 0 where
 abbrev pub stretchOf : ℕ → ℕ → Stretch
 stretchOf first size = record { first = first; size = size }
 
--- §14.2; CR 11: a fresh monitor over some rows takes each of these records: its questions over those before it are all answered "yes" (§9.5)
+-- §14.2; CR 11: a fresh monitor over the rows takes each of these records: all its questions are answered "yes" after the records before it (§9.5)
 pub data TakesEach (rows : List Constraint) : List Step → Type 0 where
   takes-none : TakesEach rows []
   takes-more : {records : List Step} (s : Call) → TakesEach rows records → Judged (questions rows records s) Taken
       → TakesEach rows (records ++ (stepFor s ∷ []))
 
--- §14.2; CR 11: over the row alone it takes every record, and no continuation is left then
+-- §14.2; CR 11: the records break the row: a monitor over this row alone takes every record, and then no continuation is left
 abbrev pub Breaks : Constraint → List Step → Type 0
 Breaks c records = TakesEach (c ∷ []) records × (¬ Open c records)
 
--- §14.3; CR 11: as many stretches of one length as `left` says, from a start on
+-- §14.3; CR 11: the next `left` stretches of one length, from a start on
 unfoldable pub starts : ℕ → ℕ → ℕ → List Stretch
 starts zero first size = []
 starts (suc left) first size = stretchOf first size ∷ starts left (first + 1) size
 
--- §14.3; CR 11: and for as many lengths as `left` says, from one on, all stretches of n records that have it
+-- §14.3; CR 11: for the next `left` lengths, from a length on, all stretches of n records that have that length
 unfoldable pub sizes : ℕ → ℕ → ℕ → List Stretch
 sizes zero n size = []
 sizes (suc left) n size = starts (n + 1 - size) 0 size ++ sizes left n (size + 1)
 
--- §14.3; CR 11: the stretches of n records by length, and then by start
+-- §14.3; CR 11: all stretches of n records, ordered by length and then by start
 abbrev pub stretches : ℕ → List Stretch
 stretches n = sizes n n 1
 
--- §14.4; CR 11: one of the list has a property
+-- §14.4; CR 11: a stretch of the list has the property
 abbrev pub Some : (Stretch → Type 0) → List Stretch → Type 0
 Some P [] = ⊥
 Some P (s ∷ later) = P s ⊎ Some P later
 
--- §14.4; CR 11: s is the first of the list that has a property, and this is its place, counted from 1
+-- §14.4; CR 11: s is the first stretch of the list that has the property, and this is its place, counted from 1
 pub record FirstAt (P : Stretch → Type 0) (list : List Stretch) (s : Stretch) (place : ℕ) : Type 0 where
   pub before : List Stretch
   pub later : List Stretch
@@ -67,24 +67,24 @@ pub record FirstAt (P : Stretch → Type 0) (list : List Stretch) (s : Stretch) 
 abbrev pub Breaking : Constraint → List Step → Stretch → Type 0
 Breaking c steps s = Breaks c (take (s .size) (drop (s .first) steps))
 
--- §14.1; CR 11: how many records a recording may have
+-- §14.1; CR 11: the largest number of records in a recording
 abbrev pub recordLimit : ℕ
 recordLimit = 256
 
--- §8.22, §8.23, §14.5; CR 11: after those of table and recording, 22, 15 (§8.15), and 23
+-- §8.22, §8.23, §14.5; CR 11: the questions after those of the table and the recording: 22, 15 (§8.15) and 23
 abbrev pub stretchQuestions : List Constraint → List Step → ℕ → List Question
 stretchQuestions rows steps i =
     (22, length steps ≤ recordLimit) ∷ (15, i < length rows)
     ∷ (23, (c : Constraint) × (getElem? rows i ≡ some c) × Some (Breaking c steps) (stretches (length steps))) ∷ []
 
--- §14.4, §14.5; CR 11: the answer for row i of some rows, after the steps of a recording; 22, 15 and 23 have the place 0
+-- §14.4, §14.5; CR 11: the answer for row i after the steps of a recording. Refusals 22, 15 and 23 have the place 0
 pub data AnswersRow (rows : List Constraint) (steps : List Step) (i : ℕ) : StretchAnswer → Type 0 where
   no-stretch : (n : ℕ) → Judged (stretchQuestions rows steps i) (Refused n) → AnswersRow rows steps i (StretchAnswer.Refused n 0)
   found : (c : Constraint) (first size tried : ℕ) → Judged (stretchQuestions rows steps i) Taken → getElem? rows i ≡ some c
       → FirstAt (Breaking c steps) (stretches (length steps)) (stretchOf first size) tried
       → AnswersRow rows steps i (StretchAnswer.Found first size tried)
 
--- §14.5, §16.3; CR 11: and of a table and a recording, which are asked first
+-- §14.5, §16.3; CR 11: the answer for a table and a recording, whose own questions come first
 pub data AnswersStretchUpTo (newest : ℕ) (table recording : List ℕ) (i : ℕ) : StretchAnswer → Type 0 where
   no-table : (n place : ℕ) → ReadsTableUpTo newest table (table-refused n place)
       → AnswersStretchUpTo newest table recording i (StretchAnswer.Refused n place)
@@ -93,6 +93,6 @@ pub data AnswersStretchUpTo (newest : ℕ) (table recording : List ℕ) (i : ℕ
   answers : (rows : List Constraint) (steps : List Step) {answer : StretchAnswer} → ReadsTableUpTo newest table (table-of rows)
       → ReadsInOrder recording (recording-of steps) → AnswersRow rows steps i answer → AnswersStretchUpTo newest table recording i answer
 
--- §14.5; CR 11: where the table is one of the first edition
+-- §14.5; CR 11: the answer for a table of the first edition
 abbrev pub AnswersStretch : List ℕ → List ℕ → ℕ → StretchAnswer → Type 0
 AnswersStretch = AnswersStretchUpTo 1

@@ -1,5 +1,6 @@
--- The table of types (§4.4 to §4.7; 01, table): the types, their fields in order, and what each field says, and back from the values to the row
--- (`regular` and `read-back`: each way is the other's inverse). What is asked of a row, its bytes and its numbers in a monitor are read off it.
+-- The table of types (§4.4 to §4.7; 01, table): the types, their fields in order and the role of each field. It also leads back from the values to
+-- the row; `regular` and `read-back` show that the two directions are inverse. The questions about a row, its bytes and its numbers in a monitor
+-- follow from it.
 use Prim.Native.Nat.{ℕ, _+_}
 use mathlib.Core.Bool.{Bool, _||_, cond}
 use mathlib.Core.List.{List, [], _∷_}
@@ -7,25 +8,28 @@ use lib.Dec.{eqb}
 use Rattle.constraint.specs.Limits.{spanLimit, repetitionSpanLimit}
 use Rattle.constraint.specs.Steps.{at}
 use Rattle.constraint.specs.declared.Constraint.{Constraint}
+-- begin imports: made by release/row-types.py
 use Rattle.constraint.specs.declared.Constraint.the-variants.{Delay, StrongDelay, Repeat, Sporadic, Burst, Order, StrongSynchronization2}
 use Rattle.constraint.specs.declared.Constraint.the-variants.{StrongSynchronization3, StrongSynchronization4, ExecutionTime, Reaction}
 use Rattle.constraint.specs.declared.Constraint.the-variants.{Repetition, Synchronization2, Synchronization3, Synchronization4}
 
--- §4.4, §4.6; 01, table; CR 6, 10: what a byte says: a kind is a plain one or a coloured one; a span or maximum has its own limit
+-- end imports
+
+-- §4.4, §4.6; 01, table; CR 6, 10: the role of a byte. A kind is plain or coloured. A span or maximum has its own limit
 pub data ByteRole : Type 0 where
   kind : ByteRole
   coloured : ByteRole
   count : ByteRole
   span : ℕ → ByteRole
 
--- §4.4; 01, table: what a time says that is neither a lower nor an upper
+-- §4.4; 01, table: the role of a time that is neither a lower nor an upper
 pub data Plain : Type 0 where
   jitter : Plain
   minimum : Plain
   len : Plain
   tolerance : Plain
 
--- §4.4, §4.7; 01, table; CR 1: what a time says; an `upper-or-none` may be the mark for no limit
+-- §4.4, §4.7; 01, table; CR 1: the role of a time. An `upper-or-none` may be the mark for no limit
 pub data TimeRole : Type 0 where
   lower : TimeRole
   upper : TimeRole
@@ -39,7 +43,7 @@ pub data Field : Type 0 where
 
 -- §4.5; 01, table; CR 2, 6, 10: a line for each type: its number, and its fields in their order
 abbrev pub typeLine : Constraint → ℕ × List Field
--- Made by release/row-types.py, to the end of the list.
+-- begin lines: made by release/row-types.py
 typeLine (Delay source target low high) = (1, byte kind source ∷ byte kind target ∷ time lower low ∷ time upper-or-none high ∷ [])
 typeLine (StrongDelay source target low high) = (2, byte kind source ∷ byte kind target ∷ time lower low ∷ time upper high ∷ [])
 typeLine (Repeat event number low high) = (3, byte kind event ∷ byte (span spanLimit) number ∷ time lower low ∷ time upper-or-none high ∷ [])
@@ -61,15 +65,17 @@ typeLine (Synchronization3 a b c apart) = (11, byte count 3 ∷ byte kind a ∷ 
 typeLine (Synchronization4 a b c d apart) =
     (11, byte count 4 ∷ byte kind a ∷ byte kind b ∷ byte kind c ∷ byte kind d ∷ time (plain tolerance) apart ∷ [])
 
--- §4.5; 01, table: the number of the type
+-- end lines
+
+-- §4.5; 01, table: the number of a row's type
 abbrev pub typeOf : Constraint → ℕ
 typeOf c = typeLine c .0
 
--- §4.5, §5.9.6; 01, table: the fields
+-- §4.5, §5.9.6; 01, table: the fields of a row
 abbrev pub fieldsOf : Constraint → List Field
 fieldsOf c = typeLine c .1
 
--- Made by release/row-types.py.
+-- begin groups: made by release/row-types.py
 
 -- §4.5; 01, table: the StrongSynchronization of as many kinds as its first byte says
 unfoldable pub strongSynchronizationRead : List ℕ → ℕ → Constraint
@@ -85,11 +91,11 @@ synchronizationRead b apart =
     (cond (eqb (at b 0) 3) (Synchronization3 (at b 1) (at b 2) (at b 3) apart)
     (Synchronization4 (at b 1) (at b 2) (at b 3) (at b 4) apart))
 
--- End of what is made.
+-- end groups
 
--- §4.5; 01, table; CR 2, 6, 10: back: the row of a type's number, of the values b of its fields of one byte, and of its times x
+-- §4.5; 01, table; CR 2, 6, 10: the row that has a type number, the values b of its one-byte fields and its times x
 unfoldable pub rowRead : ℕ → List ℕ → List ℕ → Constraint
--- Made by release/row-types.py, to the end of the list.
+-- begin read: made by release/row-types.py
 rowRead t b x =
     cond (eqb t 1) (Delay (at b 0) (at b 1) (at x 0) (at x 1))
     (cond (eqb t 2) (StrongDelay (at b 0) (at b 1) (at x 0) (at x 1))
@@ -103,35 +109,46 @@ rowRead t b x =
     (cond (eqb t 11) (synchronizationRead b (at x 0))
     (strongSynchronizationRead b (at x 0)))))))))))
 
--- §4.5; 01, table; CR 2, 6, 10: the lengths, by the type byte; to a type's with an n its n is added
+-- end read
+
+-- §4.5; 01, table; CR 2, 6, 10: the lengths by the type byte. A type with an n adds its n
 abbrev pub lengths : List ℕ
+-- begin lengths: made by release/row-types.py
 lengths = 0 ∷ 19 ∷ 19 ∷ 19 ∷ 34 ∷ 19 ∷ 3 ∷ 10 ∷ 21 ∷ 19 ∷ 27 ∷ 10 ∷ []
 
--- §16.2: the last type of each edition of the table, by its version byte; no other number is an edition's
+-- end lengths
+
+-- §16.2: the last type of each edition of the table, by its version byte. No other number is an edition
 abbrev pub lastTypes : List ℕ
+-- begin last types: made by release/row-types.py
 lastTypes = 0 ∷ 10 ∷ 11 ∷ []
 
--- §16.2: the last type of an edition; 0, which is no type's, where there is no such edition
+-- end last types
+
+-- §16.2: the last type of an edition. If there is no such edition it is 0, which is not a type
 abbrev pub lastType : ℕ → ℕ
 lastType edition = at lastTypes edition
 
--- §4.5; 01, table: the types whose first field is n, the number of the kinds behind it
+-- §4.5; 01, table: the types whose first field is n, the number of the kinds that follow it
 abbrev pub takesCount : ℕ → Bool
+-- begin types with an n: made by release/row-types.py
 takesCount t = eqb t 7 || eqb t 11
 
--- §4.5; 01, table: the length of a type, and of its n where it has one
+-- end types with an n
+
+-- §4.5; 01, table: the length of a row by its type, and by its n if the type has one
 abbrev pub lengthOf : ℕ → ℕ → ℕ
 lengthOf t n = at lengths t + cond (takesCount t) n 0
 
--- what stands for a number that is no type's, which no table has: Unknown
+-- the name of a number that is not a type; no table has one: Unknown
 abbrev pub unknownName : List ℕ
 unknownName = 85 ∷ 110 ∷ 107 ∷ 110 ∷ 111 ∷ 119 ∷ 110 ∷ []
 
--- §7.16; CR 5: the names of the types, as TADL2 has them without their last word, by the number of the type, a line for each; 0 is no type's
+-- §7.16; CR 5: the names of the types by their numbers, as TADL2 has them without the last word. 0 is not a type
 abbrev pub typeNames : List (List ℕ)
 typeNames =
-    -- Made by release/row-types.py, to the end of the list.
     unknownName
+    -- begin names: made by release/row-types.py
     -- 1 Delay
     ∷ (68 ∷ 101 ∷ 108 ∷ 97 ∷ 121 ∷ [])
     -- 2 StrongDelay
@@ -154,4 +171,5 @@ typeNames =
     ∷ (82 ∷ 101 ∷ 112 ∷ 101 ∷ 116 ∷ 105 ∷ 116 ∷ 105 ∷ 111 ∷ 110 ∷ [])
     -- 11 Synchronization
     ∷ (83 ∷ 121 ∷ 110 ∷ 99 ∷ 104 ∷ 114 ∷ 111 ∷ 110 ∷ 105 ∷ 122 ∷ 97 ∷ 116 ∷ 105 ∷ 111 ∷ 110 ∷ [])
+    -- end names
     ∷ []

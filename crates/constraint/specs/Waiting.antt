@@ -7,11 +7,14 @@ use lib.Dec.{leb, eqb}
 use Rattle.constraint.specs.Limits.{noLimit}
 use Rattle.constraint.specs.Steps.{Step, times}
 use Rattle.constraint.specs.declared.Constraint.{Constraint}
+-- begin imports: made by release/row-types.py
 use Rattle.constraint.specs.declared.Constraint.the-variants.{Delay, StrongDelay, Repeat, Sporadic, Burst, Order, StrongSynchronization2}
 use Rattle.constraint.specs.declared.Constraint.the-variants.{StrongSynchronization3, StrongSynchronization4, ExecutionTime, Reaction}
 use Rattle.constraint.specs.declared.Constraint.the-variants.{Repetition, Synchronization2, Synchronization3, Synchronization4}
 
--- §6.1: the test that t is lower to upper after s, where upper may be the mark: it says what `Apart` says (`answered-true`, `answered-by`)
+-- end imports
+
+-- §6.1: tests whether t is lower to upper after s, where upper may be the mark for no limit. It agrees with `Apart` (`answered-true`, `answered-by`)
 abbrev pub inInterval : ℕ → ℕ → ℕ → ℕ → Bool
 inInterval lower upper s t = leb (s + lower) t && (eqb upper noLimit || leb t (s + upper))
 
@@ -20,7 +23,7 @@ unfoldable pub answered : ℕ → ℕ → ℕ → List ℕ → Bool
 answered lower upper s [] = false
 answered lower upper s (t ∷ ts) = inInterval lower upper s t || answered lower upper s ts
 
--- §6.1; 01, what waits; CR 1: the sources that have no target in their interval so far
+-- §6.1; 01, what waits; CR 1: the number of sources that have no target in their interval so far
 unfoldable pub unanswered : ℕ → ℕ → List ℕ → List ℕ → ℕ
 unanswered lower upper [] targets = 0
 unanswered lower upper (s ∷ ss) targets = cond (answered lower upper s targets) 0 1 + unanswered lower upper ss targets
@@ -30,24 +33,25 @@ unfoldable pub largest : List ℕ → ℕ
 largest [] = 0
 largest (x ∷ xs) = max x (largest xs)
 
--- §6.3: the least of them
+-- §6.3: the smallest of some numbers
 unfoldable pub least : List ℕ → ℕ
 least [] = 0
 least (x ∷ []) = x
 least (x ∷ (y ∷ ys)) = min x (least (y ∷ ys))
 
--- §6.3; 01, what waits: as many groups are begun as the kind with the most events has, and as many complete as the kind with the fewest has
+-- §6.3; 01, what waits: the groups that are begun and not complete. The kind with the most events gives how many are begun, the kind with the fewest
+-- how many are complete
 unfoldable pub begunIncomplete : List ℕ → List Step → ℕ
 begunIncomplete kinds steps = let counts : List ℕ = map (λ k. length (times k steps)) kinds in largest counts - least counts
 
--- §5.9.7, §6.1 to §6.4; 01, what waits; CR 2, 6, 10: how many wait, by the type
+-- §5.9.7, §6.1 to §6.4; 01, what waits; CR 2, 6, 10: how many wait in a row, by its type: the sources, or the begun groups, that still need an event
 unfoldable pub waiting : Constraint → List Step → ℕ
 waiting (Delay source target lower upper) steps = unanswered lower upper (times source steps) (times target steps)
 waiting (StrongDelay source target lower upper) steps = length (times source steps) - length (times target steps)
 waiting (StrongSynchronization2 a b tolerance) steps = begunIncomplete (a ∷ b ∷ []) steps
 waiting (StrongSynchronization3 a b c tolerance) steps = begunIncomplete (a ∷ b ∷ c ∷ []) steps
 waiting (StrongSynchronization4 a b c d tolerance) steps = begunIncomplete (a ∷ b ∷ c ∷ d ∷ []) steps
--- Made by release/row-types.py, to the end of the list.
+-- begin nothing waits: made by release/row-types.py
 waiting (Repeat event span lower upper) steps = 0
 waiting (Sporadic event lower upper jitter minimum) steps = 0
 waiting (Burst event maximum length minimum) steps = 0
@@ -58,3 +62,5 @@ waiting (Repetition event span lower upper jitter) steps = 0
 waiting (Synchronization2 first second tolerance) steps = 0
 waiting (Synchronization3 first second third tolerance) steps = 0
 waiting (Synchronization4 first second third fourth tolerance) steps = 0
+
+-- end nothing waits

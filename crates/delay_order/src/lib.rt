@@ -1,4 +1,4 @@
-// Rows of a source kind and a target kind.
+// Delay, StrongDelay and Order: rows of a source kind and a target kind.
 pub mod delay;
 pub mod order;
 pub mod strong_delay;

@@ -1,4 +1,4 @@
--- The report's text goes by what reading the table and the recording gave, and there is room for all of it.
+-- The report's text follows from what reading the table and the recording gave, and there is room for all of it.
 use Rattle.delkuthi.proofs.Names.{BeginsUpTo, Call, Constraint, Contains, Copied, EachReads, HoldsMonitor, LeftBy, List, Monitor, ReadAnswer}
 use Rattle.delkuthi.proofs.Names.{ReadsRecording, ReadsTableUpTo, RecordingTakenAs, ReportOfUpTo, ReportsOf, ReportsOnUpTo, ReportsSteps}
 use Rattle.delkuthi.proofs.Names.{ReportsUpTo, Step, Summary, TakesRecords, Text, Verdict, Words, [], _%_, _*_, _++_, _+_, _/_, _<_, _∙_, _∷_}

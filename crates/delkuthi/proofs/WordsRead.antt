@@ -1,4 +1,4 @@
--- What is read of the words of a lent monitor is what the monitor that lies there says: each of its numbers has a place of its own.
+-- What is read of the words of a lent monitor is what the monitor that lies there says: each of its numbers has its own place.
 use Rattle.delkuthi.proofs.Names.{HoldsMonitor, Lent, List, Monitor, Request, Shaped, Stepped, Steps, Takes, Words, [], _-_, _<_, _∙_, _≡_}
 use Rattle.delkuthi.proofs.Names.{answerFrom, ap, arith, getD, heldRows, keptAt, leaves, length, min, noRow, number-at, numberWords}
 use Rattle.delkuthi.proofs.Names.{place-small, placeOf, refl, resultOf, row-lies, rowAt, rowLimit, rowWords, steppedFrom, subst, sym}

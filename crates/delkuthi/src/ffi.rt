@@ -1,4 +1,4 @@
-// The monitor lent to a host in C: functions on numbers, bytes and references alone. The numbers are those of specs/Lent.antt.
+// The monitor for a host in C: functions on numbers, bytes and references only. specs/Lent.antt defines the numbers.
 use constraint::Verdict;
 use in_place::Words;
 use in_place::calls;
@@ -15,13 +15,13 @@ ghost use Rattle.in_place.specs.Contract.{Takes, HoldsMonitor, ReadOff};
 ghost use Rattle.fresh.specs.Fresh.{BeginsUpTo, Begins};
 ghost use Rattle.delkuthi.specs.Lent.{KnownWord, WordOfVerdict, StepOfVerdict, NumberOfRows, version, monitorSize};
 
-// The version of the library: 0.6.1 as major * 1,000,000 + minor * 1,000 + patch.
+// The library's version: 0.6.1 as major * 1,000,000 + minor * 1,000 + patch.
 pub const VERSION: u32 = 6001;
-// The bytes of a monitor.
+// The size of a monitor in bytes.
 pub const MONITOR_SIZE: u64 = 35840;
 
 // §11.6
-// The version of the library, for a host to compare with that of its header.
+// Returns the version of the library. The host compares it with the version of its header.
 #[no_mangle]
 pub extern "C" fn delkuthi_version() -> u32
     ensures { λ r. ⌜ r ≡ version ⌝ }
@@ -30,7 +30,7 @@ pub extern "C" fn delkuthi_version() -> u32
 }
 
 // §11.6
-// The bytes of a monitor, for a host to compare with the size that it lends.
+// Returns the size of a monitor in bytes. The host compares it with the size that it lends.
 #[no_mangle]
 pub extern "C" fn delkuthi_monitor_size() -> u64
     ensures { λ r. ⌜ r ≡ monitorSize ⌝ }
@@ -39,8 +39,8 @@ pub extern "C" fn delkuthi_monitor_size() -> u64
 }
 
 // §11.2, §11.5, §16.5, §16.6
-// Makes the monitor fresh over a table's bytes and answers 0; on a refusal answers 256 times its place and its number, and leaves the monitor as it
-// was.
+// Makes the monitor fresh over a table's bytes and returns 0. On a refusal it returns 256 times the place plus the number, and leaves the monitor as
+// it was.
 #[no_mangle]
 pub extern "C" fn delkuthi_fresh(m: &mut Words, table: &[u8]) -> u64
     ensures { λ r. ⌜ Begins (now (table .entry)) (now (m .entry)) r (now (m .exit)) ⌝ }
@@ -49,7 +49,7 @@ pub extern "C" fn delkuthi_fresh(m: &mut Words, table: &[u8]) -> u64
 }
 
 // §16.1 to §16.3, §16.6, §16.7
-// The same over a table of either edition.
+// Does the same for a table of either edition.
 #[no_mangle]
 pub extern "C" fn delkuthi_fresh_2(m: &mut Words, table: &[u8]) -> u64
     ensures { λ r. ⌜ BeginsUpTo 2 (now (table .entry)) (now (m .entry)) r (now (m .exit)) ⌝ }
@@ -57,7 +57,7 @@ pub extern "C" fn delkuthi_fresh_2(m: &mut Words, table: &[u8]) -> u64
     fresh::fresh(2, m, table)
 }
 
-// The word for each verdict, and the one for "there is no row of that number".
+// The number for each verdict, and the number for "there is no such row".
 pub const OPEN: u8 = 0;
 
 pub const KEPT: u8 = 1;
@@ -66,7 +66,7 @@ pub const BROKEN: u8 = 2;
 
 pub const NO_ROW: u8 = 15;
 
-// What a row reads, by the monitor that is lent.
+// Returns what a row of the lent monitor reads.
 fn read(m: &Words, row: u64) -> RowVerdict
     ensures { λ r. ⌜ ((n : Monitor) → HoldsMonitor (now (m .entry)) n → Reading n row (verdictIn r)) ⌝ }
 {
@@ -76,7 +76,7 @@ fn read(m: &Words, row: u64) -> RowVerdict
 }
 
 // §3.4, §11.2, §11.5
-// An event of a kind at a time: 0 if it is taken, else the number of its refusal.
+// Takes an event of a kind at a time. Returns 0 if it is taken, else the number of its refusal.
 #[no_mangle]
 pub extern "C" fn delkuthi_event(m: &mut Words, kind: u8, time: u64) -> u8
     ensures { λ r. ⌜ Takes (now (m .entry)) (asks (Call.Event kind time)) r (now (m .exit)) ⌝ }
@@ -85,7 +85,7 @@ pub extern "C" fn delkuthi_event(m: &mut Words, kind: u8, time: u64) -> u8
 }
 
 // §11.2
-// An event of a coloured kind and a colour at a time: 0 if it is taken, else the number of its refusal.
+// Takes an event of a coloured kind and a colour at a time. Returns 0 if it is taken, else the number of its refusal.
 #[no_mangle]
 pub extern "C" fn delkuthi_coloured_event(m: &mut Words, kind: u8, colour: u8, time: u64) -> u8
     ensures { λ r. ⌜ Takes (now (m .entry)) (asks (Call.ColouredEvent kind colour time)) r (now (m .exit)) ⌝ }
@@ -94,7 +94,7 @@ pub extern "C" fn delkuthi_coloured_event(m: &mut Words, kind: u8, colour: u8, t
 }
 
 // §3.4, §11.2
-// A tick to a time: 0 if it is taken, else the number of its refusal.
+// Takes a tick to a time. Returns 0 if it is taken, else the number of its refusal.
 #[no_mangle]
 pub extern "C" fn delkuthi_tick(m: &mut Words, time: u64) -> u8
     ensures { λ r. ⌜ Takes (now (m .entry)) (asks (Call.Tick time)) r (now (m .exit)) ⌝ }
@@ -103,7 +103,7 @@ pub extern "C" fn delkuthi_tick(m: &mut Words, time: u64) -> u8
 }
 
 // §3.4, §11.2
-// The close: 0 if it is taken, else the number of its refusal.
+// Takes the close. Returns 0 if it is taken, else the number of its refusal.
 #[no_mangle]
 pub extern "C" fn delkuthi_close(m: &mut Words) -> u8
     ensures { λ r. ⌜ Takes (now (m .entry)) (asks Call.Close) r (now (m .exit)) ⌝ }
@@ -112,7 +112,7 @@ pub extern "C" fn delkuthi_close(m: &mut Words) -> u8
 }
 
 // §3.12, §3.14, §8.21, §11.2, §11.5
-// The last step is withdrawn: 0, or 21 where nothing may be withdrawn.
+// Withdraws the last step. Returns 0, or 21 if no step may be withdrawn.
 #[no_mangle]
 pub extern "C" fn delkuthi_withdraw(m: &mut Words) -> u8
     ensures { λ r. ⌜ Takes (now (m .entry)) withdraws r (now (m .exit)) ⌝ }
@@ -121,7 +121,7 @@ pub extern "C" fn delkuthi_withdraw(m: &mut Words) -> u8
 }
 
 // §3.5, §8.15, §11.2, §11.5
-// The word for what a row reads: OPEN, KEPT, BROKEN, or NO_ROW, whatever was lent.
+// Returns what a row reads: OPEN, KEPT, BROKEN or NO_ROW, whatever the monitor's memory holds.
 #[no_mangle]
 pub extern "C" fn delkuthi_row_verdict(m: &Words, row: u64) -> u8
     ensures { λ r. ⌜ (KnownWord r × ReadOff (now (m .entry)) (λ n. WordOfVerdict n row) r) ⌝ }
@@ -137,7 +137,7 @@ pub extern "C" fn delkuthi_row_verdict(m: &Words, row: u64) -> u8
 }
 
 // §3.5, §11.2, §11.5
-// The step that broke a row: 0 where none did, and where there is no row of that number.
+// Returns the step that broke a row. It is 0 if no step did, or if there is no such row.
 #[no_mangle]
 pub extern "C" fn delkuthi_row_step(m: &Words, row: u64) -> u64
     ensures { λ r. ⌜ ReadOff (now (m .entry)) (λ n. StepOfVerdict n row) r ⌝ }
@@ -153,7 +153,7 @@ pub extern "C" fn delkuthi_row_step(m: &Words, row: u64) -> u64
 }
 
 // §3.5, §11.2, §11.5
-// The number of rows, at most 32 whatever was lent.
+// Returns the number of rows. It is at most 32, whatever the monitor's memory holds.
 #[no_mangle]
 pub extern "C" fn delkuthi_rows(m: &Words) -> u64
     ensures { λ r. ⌜ ((r ≤ 32) × ReadOff (now (m .entry)) NumberOfRows r) ⌝ }

@@ -1,4 +1,4 @@
-// The report on a recording: what the rows of a table read after it. It is also offered to a host in C.
+// The C interface that steps, reports and writes. This file has the report on a recording: what the rows of a table read after it.
 pub mod ffi;
 pub mod joining;
 pub mod printed;
@@ -17,13 +17,13 @@ ghost use Rattle.delkuthi.specs.Program.{Prints};
 ghost use Rattle.delkuthi.specs.Summary.{Tells};
 ghost use Rattle.delkuthi.specs.Reporting.{ReportsOnUpTo, ReportsOn, ReportsOf};
 
-// How many bytes a table file has at most.
+// The largest size of a table file in bytes.
 pub const TABLE_SIZE_LIMIT: usize = 2048;
-// How many bytes a recording file has at most.
+// The largest size of a recording file in bytes.
 pub const RECORDING_SIZE_LIMIT: usize = 61440;
 
 // §7.10, §8.17, §9.9
-// What the program prints for its two files: the report, or "refused 17 0" where one of them is too large.
+// Returns what the program prints for its two files: the report, or "refused 17 0" if one of them is too large.
 pub fn program_text(table: &[u8], recording: &[u8]) -> Text
     ensures { λ r. ⌜ Tells (Prints (now (table .entry)) (now (recording .entry))) r ⌝ }
 {
@@ -36,8 +36,8 @@ pub fn program_text(table: &[u8], recording: &[u8]) -> Text
 }
 
 // §7.3, §7.8, §7.9
-// Writes the report on a recording under a table to a lent buffer and answers the number of bytes written; where the buffer is too short, answers 0
-// and leaves it as it was.
+// Writes the report on a recording under a table to the buffer. Returns the number of bytes written. If the buffer is too short, returns 0 and leaves
+// it as it was.
 #[no_mangle]
 pub extern "C" fn delkuthi_report(table: &[u8], recording: &[u8], buffer: &mut [u8]) -> usize
     ensures { λ r. ⌜ Reports (now (table .entry)) (now (recording .entry)) (now (buffer .entry)) r (now (buffer .exit)) ⌝ }
@@ -55,8 +55,8 @@ pub extern "C" fn delkuthi_report_2(table: &[u8], recording: &[u8], buffer: &mut
 }
 
 // §7.22
-// Writes the report on a recording under a table to a lent buffer, on a monitor that is lent: the number of bytes written, or 0 where the buffer is
-// too short, which then stays as it was.
+// Writes the report on a recording under a table to the buffer, and uses the monitor that the caller lends. Returns the number of bytes written. If
+// the buffer is too short, returns 0 and leaves it as it was.
 #[no_mangle]
 pub extern "C" fn delkuthi_report_on(
     m: &mut Words,
@@ -86,8 +86,8 @@ pub extern "C" fn delkuthi_report_on_2(
 }
 
 // §7.23
-// Writes the report of a monitor that was stepped call by call to a lent buffer: the number of bytes written, or 0 where the buffer is too short or
-// the monitor is not closed, and then the buffer stays as it was. Whatever was lent, nothing else is written but the bytes answered for.
+// Writes the report of a monitor that was stepped call by call to the buffer. Returns the number of bytes written. If the buffer is too short or the
+// monitor is not closed, returns 0 and leaves the buffer as it was. Whatever the monitor's memory holds, it writes only the bytes that it returns.
 #[no_mangle]
 pub extern "C" fn delkuthi_report_of(m: &Words, buffer: &mut [u8]) -> usize
     ensures { λ r. ⌜ (WritesText (now (buffer .entry)) r (now (buffer .exit))

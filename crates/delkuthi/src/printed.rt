@@ -5,8 +5,8 @@ ghost use Rattle.in_place.specs.Contract.{ReadOff};
 ghost use Rattle.delkuthi.specs.Printed.{WritesText, WritesPage};
 
 // §7.14, §7.19
-// Writes the page of a monitor that is lent to the front of a buffer and answers its length; where the buffer is too short, answers 0 and leaves it
-// as it was. Whatever was lent, nothing else is written but the bytes answered for.
+// Writes the page of the lent monitor to the front of the buffer and returns its length. If the buffer is too short, returns 0 and leaves it as it
+// was. Whatever the monitor's memory holds, it writes only the bytes that it returns.
 #[no_mangle]
 pub extern "C" fn delkuthi_page(m: &Words, buffer: &mut [u8]) -> usize
     ensures { λ r. ⌜ (WritesText (now (buffer .entry)) r (now (buffer .exit))

@@ -1,4 +1,4 @@
-// Takes a recording: call by call, those of its records and then the close, on one monitor where it lies.
+// Takes a recording call by call on one lent monitor: the calls of its records, then the close.
 use constraint::Call;
 use in_place::Words;
 use in_place::calls;
@@ -8,7 +8,7 @@ ghost use Rattle.monitor.specs.declared.Monitor.{Monitor};
 ghost use Rattle.in_place.specs.Contract.{Takes, HoldsMonitor};
 ghost use Rattle.delkuthi.specs.Taking.{TakesRecords};
 
-// A call on a monitor that is lent: 0 if it is taken, else the number of its refusal.
+// Takes a call on a lent monitor. Returns 0 if it is taken, else the number of its refusal.
 fn take(m: &mut Words, call: Call) -> u8
     ensures { λ r. ⌜ Takes (now (m .entry)) (asks call) r (now (m .exit)) ⌝ }
 {
@@ -21,8 +21,7 @@ fn take(m: &mut Words, call: Call) -> u8
 }
 
 // §7.1, §7.6, §9.4
-// Puts a whole recording to a fresh monitor that is lent, which takes each call where it lies: accepted where every record was
-// taken, and the close.
+// Takes a whole recording on a fresh lent monitor. It is accepted if the monitor takes every record and the close.
 pub(crate) fn take_recording(m: &mut Words, bytes: &[u8]) -> ReadAnswer
     requires { ⌜ ((fresh : Monitor) × HoldsMonitor (now m) fresh) ⌝ }
     ensures { λ r. ⌜ TakesRecords (now (m .entry)) (now (bytes .entry)) r (now (m .exit)) ⌝ }

@@ -1,4 +1,4 @@
-// The report and the page of a monitor: its summary is gathered where it lies, and then written.
+// The report of a monitor and the summary that report and page need. The summary is read from the lent words.
 use crate::records::take_recording;
 use in_place::COUNT;
 use in_place::NUMBERS;
@@ -19,7 +19,7 @@ ghost use Rattle.in_place.specs.Contract.{HoldsMonitor};
 ghost use Rattle.delkuthi.specs.Reporting.{LeftBy, ReportsOnUpTo};
 ghost use Rattle.delkuthi.specs.Summary.{refusalOf, summaryOf, reportText};
 
-// The refusal that a number other than 0 stands for.
+// Returns the refusal that a number other than 0 stands for.
 fn refusal_of(number: u64) -> ReadAnswer
     ensures { λ r. ⌜ r ≡ refusalOf number ⌝ }
 {
@@ -29,7 +29,7 @@ fn refusal_of(number: u64) -> ReadAnswer
     }
 }
 
-// The answer to a recording under a table of an edition up to the newest, on a monitor that is lent, which takes it.
+// Returns the answer to a recording under a table of an edition up to `newest`. The lent monitor takes the recording.
 pub(crate) fn answer_on(newest: u8, m: &mut Words, table: &[u8], recording: &[u8]) -> ReadAnswer
     ensures { λ r. ⌜ LeftBy newest (now (m .entry)) (now (table .entry)) (now (recording .entry)) r (now (m .exit)) ⌝ }
 {
@@ -40,7 +40,7 @@ pub(crate) fn answer_on(newest: u8, m: &mut Words, table: &[u8], recording: &[u8
     refusal_of(number)
 }
 
-// The summary of a monitor that is lent: nothing of it is copied but numbers.
+// Returns the summary of a lent monitor. It copies only numbers.
 pub(crate) fn summary_of(m: &Words) -> Summary
     ensures { λ r. ⌜ ((n : Monitor) → HoldsMonitor (now (m .entry)) n → r ≡ summaryOf n) ⌝ }
 {
@@ -61,7 +61,7 @@ pub(crate) fn summary_of(m: &Words) -> Summary
     }
 }
 
-// The text with the lines of the first rows behind it, by the steps that broke them and the mark of the close.
+// Appends the lines of the first `rows` rows to the text. `steps` are the steps that broke them, `closed` is 1 after the close.
 fn row_lines(text: Text, steps: &[u64], rows: usize, closed: u64) -> Text
     requires { ⌜ rows ≤ length (now steps) ⌝ }
     ensures { λ r. ⌜ r ≡ extended (rowLines 0 (map (verdictFor closed) (take rows (now (steps .entry))))) text ⌝ }
@@ -76,7 +76,7 @@ fn row_lines(text: Text, steps: &[u64], rows: usize, closed: u64) -> Text
     lines
 }
 
-// The text of the report: "closed N" and the lines of the rows, or "refused N P".
+// Returns the text of the report: "closed N" and the lines of the rows, or "refused N P".
 pub(crate) fn text_of(answer: ReadAnswer, summary: Summary) -> Text
     ensures { λ r. ⌜ Contains r (reportText answer summary) ⌝ }
 {
@@ -94,7 +94,7 @@ pub(crate) fn text_of(answer: ReadAnswer, summary: Summary) -> Text
     }
 }
 
-// Writes the report to the front of a buffer and answers its length; where the buffer is too short, answers 0 and leaves it as it was.
+// Writes the report to the front of the buffer and returns its length. If the buffer is too short, returns 0 and leaves it as it was.
 pub(crate) fn write(answer: ReadAnswer, summary: Summary, buffer: &mut [u8]) -> usize
     ensures { λ r. ⌜ Copied (reportText answer summary) (now (buffer .entry)) r (now (buffer .exit)) ⌝ }
 {
@@ -102,7 +102,7 @@ pub(crate) fn write(answer: ReadAnswer, summary: Summary, buffer: &mut [u8]) -> 
 }
 
 // §7.3, §7.22, §9.10
-// Writes the report on a recording under a table of an edition up to the newest, which a monitor takes that is lent.
+// Writes the report on a recording under a table of an edition up to `newest`. The lent monitor takes the recording.
 pub(crate) fn report_on(
     newest: u8,
     m: &mut Words,
@@ -118,7 +118,7 @@ pub(crate) fn report_on(
     write(answer, summary, buffer)
 }
 
-// The same on a monitor of its own.
+// Does the same with a monitor on the stack.
 pub(crate) fn report(newest: u8, table: &[u8], recording: &[u8], buffer: &mut [u8]) -> usize
     ensures { λ r. ⌜ ReportsUpTo newest (now (table .entry)) (now (recording .entry)) (now (buffer .entry)) r (now (buffer .exit)) ⌝ }
 {

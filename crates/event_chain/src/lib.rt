@@ -1,2 +1,2 @@
-// Rows of coloured kinds: chains of a stimulus and its response.
+// Reaction: rows of two coloured kinds, a stimulus and its response.
 pub mod reaction;

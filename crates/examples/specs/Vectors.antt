@@ -183,7 +183,7 @@ long-clocks =
 abbrev pub crowdedRows : List Constraint
 crowdedRows = Delay 0 1 0 noLimit ∷ Repeat 2 1 0 64 ∷ []
 
--- so many sources, one at each time from a first on
+-- n sources, one at each time from a first time on
 abbrev pub sources : ℕ → ℕ → List Call
 sources zero t = []
 sources (suc n) t = Event 0 t ∷ sources n (t + 1)

@@ -1,1 +1,1 @@
-// The contract's examples as theorems over the monitor: no code.
+// The contract's examples as theorems about the monitor. This crate has no code.

@@ -1,2 +1,2 @@
-// Rows of four kinds whose events come in phases: ExecutionTime.
+// ExecutionTime: rows of four kinds, start, stop, preempt and resume.
 pub mod execution_time;

@@ -1,5 +1,5 @@
--- The fresh monitor over an accepted table has its rows in its first places, and its words say what is so of it: the lists of all kinds stand one
--- after the other among the entries, where there is room for them, and nothing waits in a row but the words that a Reaction has from the start.
+-- The fresh monitor over an accepted table has its rows in its first places, and its words agree with it: the lists of all kinds stand one after the
+-- other among the entries, where there is room for them, and nothing waits in a row but the words that a Reaction has from the start.
 use Rattle.fresh.proofs.Names.{Accepted, RowUndo, Bool, Constraint, Each, Indexes, Lent, List, List·getD-append, Monitor, RestZero, HintSound}
 use Rattle.fresh.proofs.Names.{Row}
 use Rattle.fresh.proofs.Names.{RowsPut, Parameters, Shaped, SoundNumbers, SoundRows, Words, [], _%_, _++_, _+_, _-_, _<_, _∙_, _∷_, _≡_, _≤_}
@@ -161,7 +161,7 @@ either : (b : Bool) (x y : ℕ) → x ≤ waitingLimit → y ≤ waitingLimit �
 either true x y p q = p
 either false x y p q = q
 
--- ---- its words say what is so of it
+-- ---- its words agree with it
 
 length-is : (rows : List Constraint) → length rows ≤ rowLimit → length (after rows [] .rows) ≡ rowLimit
 unfolding after play monitorOf

@@ -29,7 +29,7 @@ unfoldable pub endsTo : Monitor → ℕ → ℕ → List ℕ
 endsTo m rows zero = []
 endsTo m rows (suc kind) = endsTo m rows kind ++ (length (listedTo m rows (suc kind)) ∷ [])
 
--- a list in so many places, and zeros behind it
+-- a list in a number of places, with zeros after it
 unfoldable pub padded : ℕ → List ℕ → List ℕ
 padded places list = take places (list ++ replicate places 0)
 

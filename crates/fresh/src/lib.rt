@@ -1,4 +1,5 @@
-// A monitor made fresh where it lies: a table's bytes are judged first, and then its rows are read again one by one and stored.
+// Makes a fresh monitor in the words that the host lends. It first validates the table's bytes. If they are accepted it clears all words, and reads
+// and stores the rows one by one.
 use in_place::ENTRIES;
 use in_place::NUMBERS;
 use in_place::OPEN;
@@ -17,13 +18,13 @@ ghost use Rattle.in_place.specs.Steps.{Updates};
 ghost use Rattle.in_place.specs.Contract.{numbers, isOf};
 ghost use Rattle.fresh.specs.Fresh.{withLists, oneIf, BeginsUpTo, Validates, noWords, StoresRows, StoresAll, Enters, Enlists};
 
-// The number that answers to a table's bytes: 0, or 256 times the place and the number of the refusal; and how many rows they hold.
+// The result of validating a table's bytes: the answer, 0 or 256 times the place plus the number of the refusal; and the number of rows.
 pub struct Validated {
     pub number: u64,
     pub rows: usize,
 }
 
-// The answer to the bytes of a table of an edition up to the newest, as a number.
+// Validates the bytes of a table of an edition up to `newest`.
 fn validate(newest: u8, table: &[u8]) -> Validated
     ensures { λ r. ⌜ Validates newest (now (table .entry)) r ⌝ }
 {
@@ -41,7 +42,7 @@ fn validate(newest: u8, table: &[u8]) -> Validated
     }
 }
 
-// Every word is 0.
+// Sets every word to 0.
 fn clear(blocks: &mut [[[u64; 64]; 2]])
     ensures { λ _. ⌜ now (blocks .exit) ≡ replicate (length (now (blocks .entry))) noWords ⌝ }
 {
@@ -52,7 +53,8 @@ fn clear(blocks: &mut [[[u64; 64]; 2]])
     }
 }
 
-// Each row of an accepted table, before any step; behind the last one no row is read but the filler, and it fills the other places.
+// Stores each row of an accepted table in its state before any step. After the last row the reader gives the filler row, which fills the other
+// places.
 fn put_rows(m: &mut Words, table: &[u8])
     ensures { λ _. ⌜ StoresRows (now (table .entry)) (now (m .entry)) (now (m .exit)) ⌝ }
 {
@@ -67,7 +69,7 @@ fn put_rows(m: &mut Words, table: &[u8])
     }
 }
 
-// Every word but those of the lists, which are 0, over the n rows of a table.
+// Stores every word of a monitor over the n rows of a table, except the lists, which stay 0.
 fn begin(m: &mut Words, table: &[u8], n: usize)
     ensures { λ _. ⌜ StoresAll (now (table .entry)) n (now (m .exit)) ⌝ }
 {
@@ -77,7 +79,7 @@ fn begin(m: &mut Words, table: &[u8], n: usize)
     put_rows(m, table);
 }
 
-// Another entry.
+// Stores an entry.
 fn put_entry(m: &mut Words, place: usize, i: usize)
     ensures { λ _. ⌜ Updates (now (m .entry)) (λ h. withLists h (h .ends) (set (h .entries) place i)) (now (m .exit)) ⌝ }
 {
@@ -86,7 +88,7 @@ fn put_entry(m: &mut Words, place: usize, i: usize)
     }
 }
 
-// Another end of a kind's rows.
+// Stores the end of a kind's rows.
 fn put_end(m: &mut Words, kind: usize, place: usize)
     requires { ⌜ kind < 64 ⌝ }
     ensures { λ _. ⌜ Updates (now (m .entry)) (λ h. withLists h (set (h .ends) kind place) (h .entries)) (now (m .exit)) ⌝ }
@@ -94,7 +96,7 @@ fn put_end(m: &mut Words, kind: usize, place: usize)
     m[NUMBERS][1][kind] = place as u64;
 }
 
-// Whether a kind concerns row i.
+// Returns whether a kind concerns row i.
 fn is_of(m: &Words, i: usize, kind: usize) -> bool
     requires { ⌜ i < 32 ⌝ }
     ensures { λ r. ⌜ ((h : Lent) → now (m .entry) ≡ wordsOfLent h → Shaped h → r ≡ isOf (h .monitor) kind i) ⌝ }
@@ -102,7 +104,7 @@ fn is_of(m: &Words, i: usize, kind: usize) -> bool
     concerns(parameters_at(&m[i][1]), kind as u64)
 }
 
-// Row i, entered at a place if a kind concerns it: the place behind.
+// Enters row i at a place if a kind concerns it. Returns the next free place.
 fn enter(m: &mut Words, kind: usize, i: usize, place: usize) -> usize
     requires { ⌜ (i < 32) × (place ≤ 4096) ⌝ }
     ensures { λ r. ⌜ ((r ≤ place + 1) × Enters place (now (m .entry)) (λ h. oneIf (isOf (h .monitor) kind i) i) r (now (m .exit))) ⌝ }
@@ -114,7 +116,7 @@ fn enter(m: &mut Words, kind: usize, i: usize, place: usize) -> usize
     place
 }
 
-// Those of the first n rows that a kind concerns, entered from a place on: the place behind them.
+// Enters those of the first n rows that a kind concerns, from a place on. Returns the next free place.
 fn enlist_kind(m: &mut Words, kind: usize, n: usize, first: usize) -> usize
     requires { ⌜ (n ≤ 32) × (first ≤ 2048) ⌝ }
     ensures { λ r. ⌜ ((r ≤ first + n) × Enters first (now (m .entry)) (λ h. numbers (isOf (h .monitor) kind) n) r (now (m .exit))) ⌝ }
@@ -128,7 +130,7 @@ fn enlist_kind(m: &mut Words, kind: usize, n: usize, first: usize) -> usize
     place
 }
 
-// The lists over n rows, kind after kind.
+// Builds the lists over n rows, kind by kind.
 fn enlist(m: &mut Words, n: usize)
     requires { ⌜ n ≤ 32 ⌝ }
     ensures { λ _. ⌜ Enlists n (now (m .entry)) (now (m .exit)) ⌝ }
@@ -142,8 +144,8 @@ fn enlist(m: &mut Words, n: usize)
     }
 }
 
-// Makes a lent monitor fresh over the bytes of a table of an edition up to the newest, in place: 0, or 256 times the place and the number of the
-// refusal, and all as it was.
+// Makes a lent monitor fresh over the bytes of a table of an edition up to `newest`. Returns 0, or 256 times the place plus the number of the
+// refusal; then all words stay as they were.
 pub fn fresh(newest: u8, m: &mut Words, table: &[u8]) -> u64
     ensures { λ r. ⌜ BeginsUpTo newest (now (table .entry)) (now (m .entry)) r (now (m .exit)) ⌝ }
 {

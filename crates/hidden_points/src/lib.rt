@@ -1,2 +1,2 @@
-// Rows of one kind whose events have hidden points: Sporadic.
+// Sporadic: rows of one kind whose events have hidden points.
 pub mod sporadic;

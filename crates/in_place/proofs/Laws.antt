@@ -1,5 +1,5 @@
--- What a call and a withdrawal leave of the words of a monitor is what the monitor's step makes of it, and of that the words say what is so: by
--- the kind of the call, where no question refuses it.
+-- What a call and a withdrawal leave of the words of a monitor is what the monitor's step makes of it, and the words agree with it: by the kind of
+-- the call, where no question refuses it.
 use Rattle.in_place.proofs.Names.{Bool, Call, Indexes, Lent, List, Monitor, StepInput, Request, Steps, Stores, Takes, Words, _<_, _≡_}
 use Rattle.in_place.proofs.Names.{answerTo}
 use Rattle.in_place.proofs.Names.{ap, ap₂, arith, asks, closeAt, cond, eventAt, false, firstColoured, lastColour, lastCount, lastKind, leaves}

@@ -172,7 +172,7 @@ begun-alone h s t =
 
 -- ---- each part keeps its size, and in each row what its type never stores is 0
 
--- it hangs on the rows, and on how long the lists are
+-- it depends on the rows and on the lengths of the lists
 pub shaped-same : (h x : Lent) → x .monitor .rows ≡ h .monitor .rows → x .monitor .before ≡ h .monitor .before
     → length (x .monitor .next) ≡ streamCount → length (x .ends) ≡ 64 → length (x .entries) ≡ 128 → Shaped h → Shaped x
 shaped-same h x rows kept next ends entries s =
@@ -252,7 +252,7 @@ ended-ends : (h : Lent) (n : ℕ) (o : StepInput) (number : ℕ) → clockApplie
 ended-ends h zero o number = refl
 ended-ends h (suc n) o number = ended-ends h n o number
 
--- where the rows of a kind begin, and how many they are, hangs on the ends alone
+-- where the rows of a kind begin, and how many there are, depends only on the ends
 pub same-rows : (x h : Lent) → x .ends ≡ h .ends → (kind : ℕ) → (startOf x kind ≡ startOf h kind) × (rowCount x kind ≡ rowCount h kind)
 same-rows x h e zero = (refl, ap (λ (l : List ℕ). min (getD l 0 0) 128 - 0) e)
 same-rows x h e (suc kind) = (

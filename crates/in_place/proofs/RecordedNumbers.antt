@@ -70,6 +70,6 @@ all-rows m f s whole =
 
 -- ---- the answer
 
--- the answer is the monitor's and what is left says what is so of the monitor after it
+-- the answer is the monitor's, and the words that are left agree with the monitor after it
 abbrev pub Answered : Lent → Call → ℕ → Lent → Type 0
 Answered h call number x = (steppedFrom number (x .monitor) ≡ steppedBy (h .monitor) call 0) × Indexes x

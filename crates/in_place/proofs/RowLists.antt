@@ -255,7 +255,7 @@ module _ (c : Lent) (ix : Indexes c) (o : StepInput) (above : 0 < c .monitor .co
         (λ _ _. some-late) (λ _ e. not-late (soonestAll c) going e (soonest-least (m .rows) n)) refl)
         (λ _ e. not-late (c .soonest) going e (ix .no-sooner)) refl
 
-  -- ---- the words say what is so of the monitor after the step
+  -- ---- the words agree with the monitor after the step
   module _ (x : Lent) (wide : Shaped x) (st : Stepped x) (hint : ℕ) (less : hint ≤ c .hint)
       (fits : (i : ℕ) → i < n → slotsTaken (rowAt m i .parameters) (step (rowAt m i) .now .len) + hint ≤ waitingLimit) where
     held-is : heldRows (x .monitor) ≡ n

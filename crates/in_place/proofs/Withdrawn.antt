@@ -75,7 +75,7 @@ module _ (P : State → Type 0) (number : ℕ) where
   rows-then (suc n) (r ∷ rows) (b ∷ kept) zero then none = kept-state P number b then none
   rows-then (suc n) (r ∷ rows) (b ∷ kept) (suc i) then none = rows-then n rows kept i then none
 
--- ---- the words say what is so of the monitor after it
+-- ---- the words agree with the monitor after it
 
 module _ (m : Monitor) where
   same-rules : (i : ℕ) → rowAt (withdrawn m) i .parameters ≡ rowAt m i .parameters

@@ -27,7 +27,7 @@ answerFrom (suc n) = Refused (suc n)
 abbrev pub steppedFrom : ℕ → Monitor → Stepped
 steppedFrom number m = record { answer = answerFrom number; monitor = m }
 
--- ---- the words say what is so of the monitor
+-- ---- the words agree with the monitor
 
 -- the rows that n entries name, from one on
 abbrev pub namedRows : Lent → ℕ → ℕ → List ℕ
@@ -47,7 +47,7 @@ numbers test (suc n) = numbers test n ++ cond (test n) (n ∷ []) []
 abbrev pub isOf : Monitor → ℕ → ℕ → Bool
 isOf m kind i = concerns (rowAt m i .parameters) kind
 
--- how many places are taken in a row of a constraint's numbers that keeps so many times
+-- how many places are taken in a row, by its constraint's numbers and how many times it keeps
 abbrev pub slotsTaken : Parameters → ℕ → ℕ
 slotsTaken parameters len = slotsUsedBy (parameters .tag) (parameters .span) len
 
@@ -90,7 +90,7 @@ pub record Takes (entry : Words) (r : Request) (number : ℕ) (exit : Words) : T
 
 -- ---- what lies in the words
 
--- the words are those of a monitor, and say what is so of it
+-- the words are those of a monitor, and agree with it
 pub record HoldsMonitor (words : Words) (m : Monitor) : Type 0 where
   pub lent : Lent
   pub words-are : words ≡ wordsOfLent lent

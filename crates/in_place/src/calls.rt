@@ -1,4 +1,4 @@
-// The calls on a lent monitor: 0 where one is taken, else the number of its refusal.
+// The calls on a lent monitor. Each returns 0 if the call is taken, else the number of its refusal.
 use crate::CLOCK;
 use crate::COUNT;
 use crate::FREE_SLOT_HINT;
@@ -40,10 +40,10 @@ ghost use Rattle.constraint.specs.Streams.{stream};
 ghost use Rattle.in_place.specs.Steps.{Updates, Computes, ColourKnown, freeSlotFound, rowsExpired, deadlinesChecked, AsksOverflow, OnStream};
 ghost use Rattle.in_place.specs.Steps.{refusalIn, Stores};
 
-// How many wait in a row at most, as a word.
+// The largest number that may wait in a row, as a word.
 const WAITING_LIMIT: u64 = Monitor::WAITING_LIMIT as u64;
 
-// The rows to which the clock goes, where one may be overdue: they see nothing else of the step yet.
+// Applies the clock to every row that is overdue at `time`. The rows see nothing else of the step yet.
 fn expire_rows(m: &mut Words, time: u64)
     ensures { λ _. ⌜ Updates (now (m .entry)) (λ h. rowsExpired h (tickAt time)) (now (m .exit)) ⌝ }
 {
@@ -64,7 +64,7 @@ fn expire_rows(m: &mut Words, time: u64)
     put_soonest(m, soonest);
 }
 
-// The same, if the soonest due time says so.
+// Calls `expire_rows` if the soonest deadline is before `time`.
 fn check_deadlines(m: &mut Words, time: u64)
     ensures { λ _. ⌜ Updates (now (m .entry)) (λ h. deadlinesChecked h (tickAt time)) (now (m .exit)) ⌝ }
 {
@@ -73,7 +73,7 @@ fn check_deadlines(m: &mut Words, time: u64)
     }
 }
 
-// 1 where a place is found free in every row: looked for at every 32nd step.
+// Returns 1 if every row has a free place. It looks only at every 32nd step.
 fn free_slot_found(m: &Words) -> u64
     ensures { λ r. ⌜ ((h : Lent) → now (m .entry) ≡ wordsOfLent h → Shaped h → r ≡ freeSlotFound h) ⌝ }
 {
@@ -83,7 +83,8 @@ fn free_slot_found(m: &Words) -> u64
     0
 }
 
-// Whether an event crowds a row of its kind: the rows are asked only where no room is marked, and where none is crowded the mark is set anew.
+// Returns whether an event would leave too many waiting in a row of its kind. It asks the rows only if the hint for a free place is not set, and it
+// updates the hint if no row overflows.
 fn event_would_overflow(m: &mut Words, kind: usize, stream: usize, time: u64) -> bool
     requires { ⌜ kind < 64 ⌝ }
     ensures { λ r. ⌜ AsksOverflow (now (m .entry)) kind stream time r (now (m .exit)) ⌝ }
@@ -98,7 +99,7 @@ fn event_would_overflow(m: &mut Words, kind: usize, stream: usize, time: u64) ->
     false
 }
 
-// An event of a stream that is answered with no number but 12.
+// Takes an event of a stream that only question 12 can still refuse.
 fn event_on(m: &mut Words, kind: usize, stream: usize, time: u64) -> u8
     requires { ⌜ (kind < 64) × (stream < 176) ⌝ }
     ensures { λ r. ⌜ OnStream (now (m .entry)) kind stream time r (now (m .exit)) ⌝ }
@@ -112,7 +113,7 @@ fn event_on(m: &mut Words, kind: usize, stream: usize, time: u64) -> u8
     0
 }
 
-// All questions but 12 of an event of a plain kind: the number of the first "no", or 0.
+// Asks all questions about an event of a plain kind except 12. Returns the number of the first "no", or 0.
 pub fn event_refusal(m: &Words, kind: u8, time: u64) -> u8
     ensures { λ r. ⌜ ((r ≡ 0 → kind < 48) × ((h : Lent) → now (m .entry) ≡ wordsOfLent h → Shaped h → r ≡ refusalIn h (Call.Event kind time))) ⌝ }
 {
@@ -129,7 +130,7 @@ pub fn event_refusal(m: &Words, kind: u8, time: u64) -> u8
     time_refusal(time, m[NUMBERS][0][CLOCK], free_at(m, kind as usize))
 }
 
-// An event of a plain kind.
+// Takes an event of a plain kind.
 pub fn event(m: &mut Words, kind: u8, time: u64) -> u8
     ensures { λ r. ⌜ Stores (now (m .entry)) (asks (Call.Event kind time)) r (now (m .exit)) ⌝ }
 {
@@ -140,7 +141,7 @@ pub fn event(m: &mut Words, kind: u8, time: u64) -> u8
     event_on(m, kind as usize, kind as usize, time)
 }
 
-// The stream of a coloured kind's events of a colour.
+// Returns the stream of a coloured kind and a colour.
 fn stream_of(kind: u8, colour: u8) -> usize
     requires { ⌜ ColourKnown kind colour ⌝ }
     ensures { λ r. ⌜ ((r ≡ stream kind colour) × (r < 176)) ⌝ }
@@ -148,7 +149,7 @@ fn stream_of(kind: u8, colour: u8) -> usize
     48 + 8 * (kind as usize - 48) + colour as usize
 }
 
-// All questions but 12 of an event of a coloured kind.
+// Asks all questions about an event of a coloured kind except 12. Returns the number of the first "no", or 0.
 fn coloured_refusal(m: &Words, kind: u8, colour: u8, time: u64) -> u8
     ensures { λ r. ⌜ ((r ≡ 0 → ColourKnown kind colour) × Computes (now (m .entry)) (λ h. refusalIn h (Call.ColouredEvent kind colour time)) r) ⌝ }
 {
@@ -169,7 +170,7 @@ fn coloured_refusal(m: &Words, kind: u8, colour: u8, time: u64) -> u8
     time_refusal(time, m[NUMBERS][0][CLOCK], free_at(m, stream))
 }
 
-// An event of a coloured kind.
+// Takes an event of a coloured kind.
 pub fn coloured_event(m: &mut Words, kind: u8, colour: u8, time: u64) -> u8
     ensures { λ r. ⌜ Stores (now (m .entry)) (asks (Call.ColouredEvent kind colour time)) r (now (m .exit)) ⌝ }
 {
@@ -181,7 +182,7 @@ pub fn coloured_event(m: &mut Words, kind: u8, colour: u8, time: u64) -> u8
     event_on(m, kind as usize, stream, time)
 }
 
-// All questions of a tick.
+// Asks all questions about a tick. Returns the number of the first "no", or 0.
 fn tick_refusal(m: &Words, time: u64) -> u8
     ensures { λ r. ⌜ ((h : Lent) → now (m .entry) ≡ wordsOfLent h → Shaped h → r ≡ refusalIn h (Call.Tick time)) ⌝ }
 {
@@ -198,7 +199,7 @@ fn tick_refusal(m: &Words, time: u64) -> u8
     0
 }
 
-// A tick to a time.
+// Takes a tick, which moves the clock to a time.
 pub fn tick(m: &mut Words, time: u64) -> u8
     ensures { λ r. ⌜ Stores (now (m .entry)) (asks (Call.Tick time)) r (now (m .exit)) ⌝ }
 {
@@ -211,7 +212,7 @@ pub fn tick(m: &mut Words, time: u64) -> u8
     0
 }
 
-// The close.
+// Takes the close.
 pub fn close(m: &mut Words) -> u8
     ensures { λ r. ⌜ Stores (now (m .entry)) (asks Call.Close) r (now (m .exit)) ⌝ }
 {
@@ -234,7 +235,7 @@ pub fn close(m: &mut Words) -> u8
     0
 }
 
-// The last step is withdrawn: 0, or 21 where nothing may be withdrawn.
+// Withdraws the last step. Returns 0, or 21 if no step may be withdrawn.
 pub fn withdraw(m: &mut Words) -> u8
     ensures { λ r. ⌜ Stores (now (m .entry)) withdraws r (now (m .exit)) ⌝ }
 {

@@ -1,4 +1,4 @@
-// A monitor lent by its owner: 35 blocks of two arrays of 64 words, stepped where they lie.
+// The monitor in memory that the host lends: 35 blocks of two arrays of 64 words. Every call changes these words in place.
 ghost use Prim.Native.Nat.{_-_, _≤_};
 ghost use mathlib.Core.Path.{_≡_};
 ghost use Rattle.in_place.specs.Layout.{Lent, wordsOfLent, Shaped, heldRows};
@@ -8,10 +8,10 @@ pub mod calls;
 mod numbers;
 mod rows;
 
-// The words of a monitor.
+// The words of a monitor: a block for each of 32 rows, and three for numbers and lists.
 pub type Words = [[[u64; 64]; 2]; 35];
 
-// The block of the numbers beside the rows, and where each stands in its first array.
+// The block of the monitor's own numbers, and the index of each in its first array.
 pub const NUMBERS: usize = 32;
 
 pub const CLOCK: usize = 0;
@@ -37,14 +37,14 @@ pub const UNDO_COUNT: usize = 9;
 pub const UNDO_CLOSED: usize = 10;
 
 pub const FREE_SLOT_HINT: usize = 11;
-// The first free times of the plain kinds stand behind them.
+// The first free times of the plain kinds follow them.
 pub const PLAIN: usize = 16;
 // The entries of the lists, and the first free times of the coloured streams.
 pub const ENTRIES: usize = 33;
 
 pub const COLOURED: usize = 34;
 
-// How many rows there are.
+// Returns the number of rows, at most 32 for any contents.
 pub fn held(m: &Words) -> usize
     ensures { λ r. ⌜ ((r ≤ 32) × ((h : Lent) → now (m .entry) ≡ wordsOfLent h → Shaped h → r ≡ heldRows (h .monitor))) ⌝ }
 {
@@ -52,7 +52,7 @@ pub fn held(m: &Words) -> usize
     if n < 32 { n as usize } else { 32 }
 }
 
-// 1 once the recording is closed, else 0.
+// Returns 1 once the recording is closed, else 0.
 pub fn closed(m: &Words) -> u64
     ensures { λ r. ⌜ ((h : Lent) → now (m .entry) ≡ wordsOfLent h → Shaped h → r ≡ 1 - (1 - h .monitor .closed)) ⌝ }
 {

@@ -1,4 +1,4 @@
-// The numbers of a lent monitor beside its rows: the questions that they answer, and what a step stores.
+// The numbers of a lent monitor outside its rows: the questions that they answer, and what a step stores in them.
 use crate::CLOCK;
 use crate::COLOURED;
 use crate::COUNT;
@@ -25,7 +25,7 @@ ghost use Rattle.in_place.specs.Steps.{Updates, UpdatesOpen, Computes, R
 ghost use Rattle.in_place.specs.Steps.{withNext, withClosed};
 ghost use Rattle.in_place.specs.Steps.{recordedMonitor, recordedOn, recordedTo};
 
-// The first free time of a stream.
+// Returns the first free time of a stream.
 pub(crate) fn free_at(m: &Words, stream: usize) -> u64
     requires { ⌜ stream < 176 ⌝ }
     ensures { λ r. ⌜ ((h : Lent) → now (m .entry) ≡ wordsOfLent h → Shaped h → r ≡ getD (h .monitor .next) stream 0) ⌝ }
@@ -37,7 +37,7 @@ pub(crate) fn free_at(m: &Words, stream: usize) -> u64
     m[COLOURED][place / 64][place % 64]
 }
 
-// Another first free time of a stream.
+// Stores a new first free time of a stream.
 pub(crate) fn put_free(m: &mut Words, stream: usize, time: u64)
     requires { ⌜ stream < 176 ⌝ }
     ensures { λ _. ⌜ Updates (now (m .entry)) (λ h. withNext h (set (h .monitor .next) stream time)) (now (m .exit)) ⌝ }
@@ -50,7 +50,7 @@ pub(crate) fn put_free(m: &mut Words, stream: usize, time: u64)
     m[COLOURED][place / 64][place % 64] = time;
 }
 
-// Questions 8 and 24, which every call is asked first: the number of the first "no", or 0.
+// Asks questions 8 and 24, which come first in every call. Returns the number of the first "no", or 0.
 pub(crate) fn first_refusal(m: &Words) -> u8
     ensures { λ r. ⌜ Computes (now (m .entry)) firstRefusal r ⌝ }
 {
@@ -63,21 +63,21 @@ pub(crate) fn first_refusal(m: &Words) -> u8
     0
 }
 
-// Another soonest time to look.
+// Stores a new soonest deadline.
 pub(crate) fn put_soonest(m: &mut Words, time: u64)
     ensures { λ _. ⌜ Updates (now (m .entry)) (λ h. withSoonest h time) (now (m .exit)) ⌝ }
 {
     m[NUMBERS][0][SOONEST] = time;
 }
 
-// Another mark for whether there is room.
+// Stores a new hint for whether every row has a free place.
 pub(crate) fn put_free_slot_hint(m: &mut Words, hint: u64)
     ensures { λ _. ⌜ Updates (now (m .entry)) (λ h. withHint h hint) (now (m .exit)) ⌝ }
 {
     m[NUMBERS][0][FREE_SLOT_HINT] = hint;
 }
 
-// One step more, to a time, with a stream and its first free time as they were.
+// Counts one more step, to a time, and saves a stream and its first free time for a withdrawal.
 fn record_step(n: &mut [[u64; 64]; 2], stream: u64, free: u64, time: u64)
     ensures { λ _. ⌜ RecordsStep (λ m. recordedMonitor m stream free time 0) (now (n .entry)) (now (n .exit)) ⌝ }
 {
@@ -93,7 +93,7 @@ fn record_step(n: &mut [[u64; 64]; 2], stream: u64, free: u64, time: u64)
     n[0][UNDO_CLOSED] = 0;
 }
 
-// The numbers after an event of a stream.
+// Updates the numbers for an event of a stream.
 pub(crate) fn record_event(m: &mut Words, stream: usize, time: u64)
     requires { ⌜ stream < 176 ⌝ }
     ensures { λ _. ⌜ UpdatesOpen (now (m .entry)) (λ h. recordedOn h stream time) (now (m .exit)) ⌝ }
@@ -103,7 +103,7 @@ pub(crate) fn record_event(m: &mut Words, stream: usize, time: u64)
     record_step(&mut m[NUMBERS], stream as u64, free, time);
 }
 
-// The numbers after a tick.
+// Updates the numbers for a tick.
 pub(crate) fn record_tick(m: &mut Words, time: u64)
     ensures { λ _. ⌜ ((h : Lent) → now (m .entry) ≡ wordsOfLent h → Shaped h → h .monitor .closed ≡ 0
         → now (m .exit) ≡ wordsOfLent (recordedTo h time 0)) ⌝ }
@@ -112,14 +112,14 @@ pub(crate) fn record_tick(m: &mut Words, time: u64)
     record_step(&mut m[NUMBERS], 0, free, time);
 }
 
-// The recording is closed.
+// Marks the recording as closed.
 pub(crate) fn mark_closed(m: &mut Words)
     ensures { λ _. ⌜ Updates (now (m .entry)) (λ h. withClosed h 1) (now (m .exit)) ⌝ }
 {
     m[NUMBERS][0][OPEN] = 0;
 }
 
-// The numbers as they were before the last step; nothing may be withdrawn then, and every row is to be looked at.
+// Restores the numbers from before the last step. After that no step may be withdrawn, and the next step checks every row's deadline.
 pub(crate) fn restore_counters(n: &mut [[u64; 64]; 2])
     ensures { λ _. ⌜ RestoresCounters (now (n .entry)) (now (n .exit)) ⌝ }
 {

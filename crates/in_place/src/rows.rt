@@ -1,4 +1,4 @@
-// The rows of a lent monitor, one after the other: those of a kind after an event, all of them after the clock, the close and a withdrawal.
+// Loops over the rows of a lent monitor: the rows of a kind after an event, and all rows after the clock, the close and a withdrawal.
 use crate::COUNT;
 use crate::ENTRIES;
 use crate::FREE_SLOT_HINT;
@@ -17,7 +17,7 @@ ghost use Rattle.row.specs.Machine.{eventAt};
 ghost use Rattle.in_place.specs.Layout.{Lent, wordsOfLent, Shaped, rowNamed, startOf, endOf};
 ghost use Rattle.in_place.specs.Steps.{Updates, appliedOn, kindApplied, clockApplied, soonestOf, crowded, maxSlotsUsed, rowsUndone, rowCount};
 
-// The row that an entry names, whatever the word is.
+// Returns the row that an entry names, clamped to a row number.
 fn entry_row(m: &Words, place: usize) -> usize
     requires { ⌜ place < 128 ⌝ }
     ensures { λ r. ⌜ ((r < 32) × ((h : Lent) → now (m .entry) ≡ wordsOfLent h → Shaped h → r ≡ rowNamed h place)) ⌝ }
@@ -28,7 +28,7 @@ fn entry_row(m: &Words, place: usize) -> usize
     m[ENTRIES][1][place - 64] as usize % 32
 }
 
-// Where the rows of a kind end among the entries.
+// Returns the end of a kind's rows among the entries.
 fn end_of(m: &Words, kind: usize) -> usize
     requires { ⌜ kind < 64 ⌝ }
     ensures { λ r. ⌜ ((r ≤ 128) × ((h : Lent) → now (m .entry) ≡ wordsOfLent h → Shaped h → r ≡ endOf h kind)) ⌝ }
@@ -37,7 +37,7 @@ fn end_of(m: &Words, kind: usize) -> usize
     if end < 128 { end as usize } else { 128 }
 }
 
-// Where they begin.
+// Returns the start of a kind's rows among the entries.
 fn start_of(m: &Words, kind: usize) -> usize
     requires { ⌜ kind < 64 ⌝ }
     ensures { λ r. ⌜ ((r ≤ 128) × ((h : Lent) → now (m .entry) ≡ wordsOfLent h → Shaped h → r ≡ startOf h kind)) ⌝ }
@@ -48,7 +48,7 @@ fn start_of(m: &Words, kind: usize) -> usize
     end_of(m, kind - 1)
 }
 
-// The rows that the entries from a first to an end name, after an event that concerns them, which is the step of that number.
+// Applies an event, which is the step of that number, to the rows that the entries from `first` to `end` name.
 fn dispatch_entries(m: &mut Words, first: usize, end: usize, stream: u64, t: u64, number: u64)
     requires { ⌜ end ≤ 128 ⌝ }
     ensures { λ _. ⌜ Updates (now (m .entry)) (λ h. appliedOn h first (end - first) (eventAt stream t) number) (now (m .exit)) ⌝ }
@@ -67,7 +67,7 @@ fn dispatch_entries(m: &mut Words, first: usize, end: usize, stream: u64, t: u64
     m[NUMBERS][0][FREE_SLOT_HINT] = hint;
 }
 
-// The rows of a kind after an event of it, which is the step that the count says.
+// Applies an event to the rows of its kind. The step's number is the count.
 pub(crate) fn dispatch_event(m: &mut Words, kind: usize, stream: u64, t: u64)
     requires { ⌜ kind < 64 ⌝ }
     ensures { λ _. ⌜ Updates (now (m .entry)) (kindApplied kind stream t) (now (m .exit)) ⌝ }
@@ -78,7 +78,7 @@ pub(crate) fn dispatch_event(m: &mut Words, kind: usize, stream: u64, t: u64)
     dispatch_entries(m, first, end, stream, t, number);
 }
 
-// Whether an event crowds one of the rows that the entries from a first to an end name, which it concerns.
+// Returns whether an event would leave too many waiting in one of the rows that the entries from `first` to `end` name.
 fn entries_overflow(m: &Words, first: usize, end: usize, stream: u64, t: u64) -> bool
     requires { ⌜ end ≤ 128 ⌝ }
     ensures { λ r. ⌜ ((h : Lent) → now (m .entry) ≡ wordsOfLent h → Shaped h → r ≡ crowded h first (end - first) stream t) ⌝ }
@@ -94,7 +94,7 @@ fn entries_overflow(m: &Words, first: usize, end: usize, stream: u64, t: u64) ->
     false
 }
 
-// Whether an event crowds a row of its kind.
+// Returns whether an event would leave too many waiting in a row of its kind.
 pub(crate) fn kind_overflows(m: &Words, kind: usize, stream: u64, t: u64) -> bool
     requires { ⌜ kind < 64 ⌝ }
     ensures { λ r. ⌜ ((h : Lent) → now (m .entry) ≡ wordsOfLent h → Shaped h → r ≡ crowded h (startOf h kind) (rowCount h kind) stream t) ⌝ }
@@ -102,7 +102,7 @@ pub(crate) fn kind_overflows(m: &Words, kind: usize, stream: u64, t: u64) -> boo
     entries_overflow(m, start_of(m, kind), end_of(m, kind), stream, t)
 }
 
-// How many places are taken in the fullest of the first n rows.
+// Returns how many places are taken in the fullest of the first n rows.
 pub(crate) fn max_slots_used(m: &Words, n: usize) -> u64
     requires { ⌜ n ≤ 32 ⌝ }
     ensures { λ r. ⌜ ((h : Lent) → now (m .entry) ≡ wordsOfLent h → Shaped h → r ≡ maxSlotsUsed (h .monitor) n) ⌝ }
@@ -116,7 +116,7 @@ pub(crate) fn max_slots_used(m: &Words, n: usize) -> u64
     most
 }
 
-// The soonest due time of the first n rows.
+// Returns the earliest deadline of the first n rows.
 pub(crate) fn soonest(m: &Words, n: usize) -> u64
     requires { ⌜ n ≤ 32 ⌝ }
     ensures { λ r. ⌜ ((h : Lent) → now (m .entry) ≡ wordsOfLent h → Shaped h → r ≡ soonestOf (h .monitor .rows) n) ⌝ }
@@ -130,7 +130,7 @@ pub(crate) fn soonest(m: &Words, n: usize) -> u64
     time
 }
 
-// The first n rows, where the clock or the close alone goes to them.
+// Applies the clock or the close alone to each of the first n rows that it concerns.
 pub(crate) fn apply_clock_all(m: &mut Words, n: usize, o: StepInput, number: u64)
     requires { ⌜ n ≤ 32 ⌝ }
     ensures { λ _. ⌜ Updates (now (m .entry)) (λ h. clockApplied h n o number) (now (m .exit)) ⌝ }
@@ -142,7 +142,7 @@ pub(crate) fn apply_clock_all(m: &mut Words, n: usize, o: StepInput, number: u64
     }
 }
 
-// The first n rows without the step of that number.
+// Withdraws the step of that number from the first n rows.
 pub(crate) fn undo_rows(m: &mut Words, n: usize, number: u64)
     requires { ⌜ n ≤ 32 ⌝ }
     ensures { λ _. ⌜ Updates (now (m .entry)) (λ h. rowsUndone h n number) (now (m .exit)) ⌝ }

@@ -64,7 +64,7 @@ pub record Nexts (one two : List ℕ) (place other : ℕ) (r : Next) : Type 0 wh
   pub ends : r .there ≡ false → (first second : List Step) → Records one place first → Records two other second → merged first second ≡ []
   pub less : r .there ≡ true → (length one - r .first) + (length two - r .second) < (length one - place) + (length two - other)
 
--- the walk over both: the joined recording is stored in front as far as there is room, and is so long; or it is longer than the limit
+-- the walk over both: the joined recording is stored in front as far as there is room, and this is its length; or it is longer than the limit
 pub record Walks (one two before : List ℕ) (limit : ℕ) (r : Walked) (after : List ℕ) : Type 0 where
   pub fits : r .fits ≡ true → (first second : List Step) → Records one 1 first → Records two 1 second
       → (r .size ≡ length (joinedBytes one two first second)) × (r .size ≤ limit) × (after ≡ sets before 0 (joinedBytes one two first second))

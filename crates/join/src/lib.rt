@@ -1,5 +1,5 @@
-// Two recordings joined: records by time, at equal times those of the first before those of the second, without the ticks that are not later
-// than the joined clock.
+// Joins two recordings. Records are ordered by time; at equal times those of the first recording come first. Ticks that are not later than the joined
+// clock are left out.
 use clock::Clock;
 use constraint::Call;
 use constraint::JoinAnswer;

@@ -1,4 +1,4 @@
--- A call's answer goes by the number of its first "no" but 12: refused by it, or crowded, or taken.
+-- The number of the first "no" except 12 determines a call's answer: refused with it, or refused with 12, or taken.
 use Rattle.monitor.proofs.Names.{Call, Monitor, _<_, _≡_, _≤_, crowds, false, le-ltb, lt-ltb, refuses, steppedBy, takenCall, takes, true, ℕ}
 
 module _ (m : Monitor) (call : Call) (number : ℕ) where

@@ -1,5 +1,5 @@
--- Rows that are independent of each other (§3.10, §3.11), in the buyers' words: what a row reads depends on the events of its own
--- kinds, the clock and the close alone, so two tables that share a row may differ in all others.
+-- Rows that are independent of each other (§3.10, §3.11), in the buyers' words: what a row reads depends only on the events of its kinds, the clock
+-- and the close, so two tables that share a row may differ in all others.
 use Rattle.monitor.proofs.Names.{Accepted, Answer, Beside, Call, Constraint, Delay, EachBeside, Judged, Left, List, NoneFull, OwnStream, Reads}
 use Rattle.monitor.proofs.Names.{Refused, Run, Sound, Step, TakesAll, Verdict, [], _↔_, _∙_, _∷_, _≡_, after, allTaken, answersTo, ap, ap₂}
 use Rattle.monitor.proofs.Names.{arith, asks, close, done, event, getElem?, judged-but-last, judged-once, leftBy, map, never, no-more}

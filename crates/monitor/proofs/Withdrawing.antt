@@ -1,5 +1,5 @@
--- §3.13 to §3.15: a call's answer and what it does to a monitor go by all but what may be withdrawn, and a withdrawal gives back the monitor that
--- the last step found, but for that. So after any requests the monitor is the one after the steps that are left.
+-- §3.13 to §3.15: a call's answer and what it does to a monitor depend on everything except what may be withdrawn, and a withdrawal gives back the
+-- monitor that the last step found, but for that. So after any requests the monitor is the one after the steps that are left.
 use Rattle.monitor.proofs.Names.{Accepted, Answer, RowUndo, Bool, Call, Constraint, Exact, Judged, Keeps, Left, List, Monitor, StepInput}
 use Rattle.monitor.proofs.Names.{Promise, Reading, ReadsRow, Refused, Remains, Request, Row, Run, SameBare, Sound, Step, Stepped, Steps, Taken}
 use Rattle.monitor.proofs.Names.{TakesAll, Verdict, [], _++_, _+_, _<_, _∙_, _∷_, _≡_, _≤_, _⊎_, accepts-taken, after, allTaken, ap}

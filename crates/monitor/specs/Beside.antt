@@ -1,4 +1,4 @@
--- Lists of steps that one row cannot tell apart (§3.10, §3.11).
+-- Lists of steps that look the same to one row (§3.10, §3.11).
 use Prim.Native.Nat.{ℕ, _<_}
 use mathlib.Core.Path.{_≡_}
 use mathlib.Core.Bool.{Bool}

@@ -1,4 +1,4 @@
-// The monitor: a table's rows, stepped by events, ticks and the close.
+// The monitor by value: a table's rows, and how events, ticks and the close step them.
 use constraint::Answer;
 use constraint::Call;
 use constraint::Table;

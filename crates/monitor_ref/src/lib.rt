@@ -1,4 +1,4 @@
-// One step on a monitor that is lent by reference, over the step by value.
+// One step on a monitor that is passed by reference. It uses the step by value.
 use constraint::Answer;
 use constraint::Call;
 use monitor::Monitor;

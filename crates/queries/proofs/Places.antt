@@ -13,7 +13,7 @@ pub record RowLies (words : Words) (m : Monitor) (i : ℕ) : Type 0 where
   pub broken-is : getD (getD (getD words i []) 1 []) 19 0 ≡ rowAt m i .now .broken
 
 module _ (words : Words) (m : Monitor) (holds : HoldsMonitor words m) where
-  -- what is said of the monitor whose words they are is so of the one that lies in them
+  -- what is said of the monitor whose words they are holds for the one stored in them
   pub said : (P : Monitor → Type 0) → ((h : Lent) → words ≡ wordsOfLent h → Shaped h → P (h .monitor)) → P m
   said P so = subst P (holds .monitor-is) (so (holds .lent) (holds .words-are) (holds .indexes .shaped))
 

@@ -11,7 +11,7 @@ use Rattle.constraint.specs.Steps.{Step, tick, clock, closed}
 use Rattle.constraint.specs.Continuation.{Open}
 use Rattle.constraint.specs.declared.Constraint.{Constraint}
 
--- what is so of each tick to a time after the clock and up to the last time
+-- what holds for each tick to a time after the clock and up to the last time
 abbrev pub EachTick : List Step → (ℕ → List Step → Type 0) → Type 0
 EachTick steps P = (t : ℕ) → clock steps < t → t ≤ lastTime → P t (steps ++ (tick t ∷ []))
 

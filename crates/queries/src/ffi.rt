@@ -1,4 +1,4 @@
-// What a host asks of a monitor, read off its words where they lie.
+// What a host can ask of a lent monitor. These calls only read its words.
 use crate::deadline_by;
 use crate::waiting_by;
 use constraint::NO_LIMIT;
@@ -31,7 +31,7 @@ ghost use Rattle.queries.specs.Contract.{AsksClock, AsksSteps, AsksClose
 ghost use Rattle.queries.specs.Contract.{AsksRowDeadline, AsksDeadline, AsksCrowdedRow};
 
 // §15.1
-// The clock.
+// Returns the clock.
 #[no_mangle]
 pub extern "C" fn delkuthi_clock(m: &Words) -> u64
     ensures { λ r. ⌜ ReadOff (now (m .entry)) AsksClock r ⌝ }
@@ -40,7 +40,7 @@ pub extern "C" fn delkuthi_clock(m: &Words) -> u64
 }
 
 // §15.2
-// How many steps were taken, the close included.
+// Returns the number of steps taken, including the close.
 #[no_mangle]
 pub extern "C" fn delkuthi_steps(m: &Words) -> u64
     ensures { λ r. ⌜ ReadOff (now (m .entry)) AsksSteps r ⌝ }
@@ -49,7 +49,7 @@ pub extern "C" fn delkuthi_steps(m: &Words) -> u64
 }
 
 // §15.3, §15.13
-// 1 once the recording is closed, else 0: one of the two whatever was lent.
+// Returns 1 once the recording is closed, else 0. It returns no other number, whatever the monitor's memory holds.
 #[no_mangle]
 pub extern "C" fn delkuthi_closed(m: &Words) -> u8
     ensures { λ r. ⌜ ((r ≤ 1) × ReadOff (now (m .entry)) AsksClosed r) ⌝ }
@@ -57,7 +57,7 @@ pub extern "C" fn delkuthi_closed(m: &Words) -> u8
     if 0 < closed(m) { 1 } else { 0 }
 }
 
-// The deadline of a row that is there.
+// Returns the deadline of a row that exists.
 fn deadline_at(m: &Words, i: usize) -> u64
     requires { ⌜ i < 32 ⌝ }
     ensures { λ r. ⌜ ((n : Monitor) → HoldsMonitor (now (m .entry)) n → r ≡ deadlineBy (n .closed) (rowAt n i .now .broken) (rowAt n i .now .due)) ⌝ }
@@ -66,7 +66,7 @@ fn deadline_at(m: &Words, i: usize) -> u64
 }
 
 // §15.8
-// The deadline of a row: the largest number where it has none.
+// Returns the deadline of a row, or the largest number if it has none.
 #[no_mangle]
 pub extern "C" fn delkuthi_row_deadline(m: &Words, row: u64) -> u64
     ensures { λ r. ⌜ ReadOff (now (m .entry)) (λ monitor. AsksRowDeadline monitor row) r ⌝ }
@@ -78,7 +78,7 @@ pub extern "C" fn delkuthi_row_deadline(m: &Words, row: u64) -> u64
 }
 
 // §15.9
-// The least of the rows' deadlines.
+// Returns the earliest of the rows' deadlines.
 #[no_mangle]
 pub extern "C" fn delkuthi_deadline(m: &Words) -> u64
     ensures { λ r. ⌜ ReadOff (now (m .entry)) AsksDeadline r ⌝ }
@@ -94,7 +94,7 @@ pub extern "C" fn delkuthi_deadline(m: &Words) -> u64
 }
 
 // §15.5
-// How many wait in a row that reads open.
+// Returns how many wait in a row, if it reads open.
 #[no_mangle]
 pub extern "C" fn delkuthi_row_waiting(m: &Words, row: u64) -> u64
     ensures { λ r. ⌜ ReadOff (now (m .entry)) (λ monitor. AsksWaiting monitor row) r ⌝ }
@@ -106,7 +106,7 @@ pub extern "C" fn delkuthi_row_waiting(m: &Words, row: u64) -> u64
     waiting_by(closed(m), m[i][1][BROKEN], m[i][1][TYPE_TAG], m[i][1][LEN])
 }
 
-// 1 where a row is broken.
+// Returns 1 if a row is broken, else 0.
 fn broken_at(m: &Words, i: usize) -> u32
     requires { ⌜ i < 32 ⌝ }
     ensures { λ r. ⌜ ((r ≤ 1) × ((n : Monitor) → HoldsMonitor (now (m .entry)) n → r ≡ mark (ltb 0 (rowAt n i .now .broken)))) ⌝ }
@@ -115,7 +115,7 @@ fn broken_at(m: &Words, i: usize) -> u32
 }
 
 // §15.4
-// A bit for each row: 1 where it is broken.
+// Returns a bit for each row: 1 if the row is broken.
 #[no_mangle]
 pub extern "C" fn delkuthi_broken_rows(m: &Words) -> u32
     ensures { λ r. ⌜ ReadOff (now (m .entry)) AsksBrokenRows r ⌝ }
@@ -129,7 +129,7 @@ pub extern "C" fn delkuthi_broken_rows(m: &Words) -> u32
     mask
 }
 
-// The first of so many rows that what occurs crowds; 32 where it crowds none.
+// Returns the first of `rows` rows that the event would overflow, or 32 if it would overflow none.
 fn first_crowded(m: &Words, rows: usize, o: StepInput) -> u8
     requires { ⌜ rows ≤ 32 ⌝ }
     ensures { λ r. ⌜ ((r ≤ 32) × ((n : Monitor) → HoldsMonitor (now (m .entry)) n
@@ -146,7 +146,8 @@ fn first_crowded(m: &Words, rows: usize, o: StepInput) -> u8
 }
 
 // §15.11
-// The first row that an event of a plain kind would crowd; 32 where it would not be refused with 12. At most 32 whatever was lent.
+// Returns the first row that an event of a plain kind would overflow, or 32 if the event would not be refused with 12. It returns at most 32,
+// whatever the monitor's memory holds.
 #[no_mangle]
 pub extern "C" fn delkuthi_crowded_row(m: &Words, kind: u8, time: u64) -> u8
     ensures { λ r. ⌜ ((r ≤ 32) × ReadOff (now (m .entry)) (λ monitor. AsksCrowdedRow monitor (Call.Event kind time)) r) ⌝ }

@@ -1,4 +1,4 @@
-// What a host asks of a monitor while it runs, by the numbers that the monitor keeps.
+// What a host can ask while a monitor runs, computed from the numbers that the monitor keeps.
 pub mod ffi;
 
 use constraint::NO_LIMIT;
@@ -8,7 +8,7 @@ ghost use Rattle.row_type.specs.Parameters.{waitsIn};
 ghost use Rattle.queries.specs.Numbers.{deadlineBy, waitingBy};
 
 // §15.6, §15.7
-// The deadline of a row, by the mark of the close, the step that broke it and its due time.
+// Returns the deadline of a row, given the mark of the close, the step that broke the row and its due time.
 pub fn deadline_by(closed: u64, broken: u64, due: u64) -> u64
     ensures { λ r. ⌜ r ≡ deadlineBy closed broken due ⌝ }
 {
@@ -24,14 +24,16 @@ pub fn deadline_by(closed: u64, broken: u64, due: u64) -> u64
     NO_LIMIT
 }
 
-// Whether each time that a row keeps waits in it, by its type.
+// Returns whether the times that a row of this type keeps are those that wait in it.
 fn waits_in(tag: u64) -> bool
     ensures { λ r. ⌜ r ≡ waitsIn tag ⌝ }
 {
+    // begin waits in: made by release/row-types.py
     tag == 1 || (tag == 2 || tag == 7)
+    // end waits in
 }
 
-// How many wait in a row, by the mark of the close, the step that broke it, its type and how many times it keeps.
+// Returns how many wait in a row, given the mark of the close, the step that broke the row, its type and how many times it keeps.
 pub fn waiting_by(closed: u64, broken: u64, tag: u64, kept: u64) -> u64
     ensures { λ r. ⌜ r ≡ waitingBy closed broken tag kept ⌝ }
 {

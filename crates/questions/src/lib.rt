@@ -1,4 +1,4 @@
-// The questions of a call and what it changes beside the rows, on numbers alone.
+// The questions of a call, and what a call changes outside the rows. All functions take and return numbers.
 use constraint::Call;
 use constraint::FIRST_COLOURED;
 use constraint::LAST_COLOUR;

@@ -1,4 +1,4 @@
-// The recording's bytes: its version, and the record at a place.
+// Reads a recording's bytes: its version, and the record at a place.
 use constraint::Call;
 ghost use mathlib.Core.Path.{_≡_};
 ghost use Prim.Native.Nat.{_+_, _*_, _^_, _≤_, _<_};

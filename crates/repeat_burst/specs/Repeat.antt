@@ -14,11 +14,11 @@ use Rattle.row_type.specs.declared.Change.{Change}
 use Rattle.row_type.specs.Words.{lastSaved}
 use Rattle.row_type.specs.Machine.{Machine}
 
--- t is at least lower after the first of span events before it, where there are so many
+-- t is at least lower after the event span places before it, if there is one
 abbrev pub spanReached : Parameters → List ℕ → ℕ → Bool
 spanReached parameters times t = ltb (length times) (parameters .span) || leb (front times + parameters .lower) t
 
--- how many of so many times leave as one more comes: the oldest, where there are span of them
+-- how many of the kept times leave as one more comes: the oldest, if there are span of them
 abbrev pub leaving : Parameters → ℕ → ℕ
 leaving parameters len = cond (ltb len (parameters .span)) 0 1
 

@@ -1,2 +1,2 @@
-// Rows of one kind that keep the times of their last events: Repeat and Burst.
+// Repeat and Burst: rows of one kind that keep the times of their last events.
 pub mod repeat;

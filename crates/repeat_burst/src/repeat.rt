@@ -49,7 +49,7 @@ pub fn overflows(w: &[u64; SIZE], stream: u64, t: u64) -> bool
     parts::far_enough(w[row_words::MINIMUM], w[row_words::LAST], t)
 }
 
-// How many places are taken where so many times are kept: none where the span is not longer than there are places.
+// Returns how many places are taken if `len` times are kept: 0 if the span is not longer than the number of places.
 pub fn slots_used(span: u64, len: u64) -> u64
     ensures { λ r. ⌜ r ≡ takenRepeat span len ⌝ }
 {

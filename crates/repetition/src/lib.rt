@@ -1,5 +1,5 @@
-// Repetition: for the hidden point of each of the last span events, or of all while they are fewer, the places where it can be, from
-// a low to a high. These stand in turn, the oldest first, and an event puts in two numbers.
+// Repetition: rows of one kind that keep the range, a low and a high, of the hidden point of each of the last span events, or of all events while
+// there are fewer. Lows and highs alternate, the oldest first. Each event adds two numbers.
 use constraint::NO_LIMIT;
 use ring::SIZE;
 use ring::minus;
@@ -47,7 +47,7 @@ pub fn overflows(w: &[u64; SIZE], stream: u64, t: u64) -> bool
     w[row_words::LEN] / 2 < w[row_words::SPAN]
 }
 
-// How many places are taken where so many numbers are kept: none where the points of a span find room.
+// Returns how many places are taken if `len` numbers are kept: none if there is room for the points of a span.
 pub fn slots_used(span: u64, len: u64) -> u64
     ensures { λ r. ⌜ r ≡ takenRepetition span len ⌝ }
 {

@@ -13,7 +13,7 @@ unfolding ring
 ring-length l f zero = refl
 ring-length l f (suc n) = ap suc (ring-length l (suc f) n)
 
--- a ring goes by its start modulo 64
+-- a ring depends only on its start modulo 64
 ring-mod : (l : List ℕ) (f g n : ℕ) → f % 64 ≡ g % 64 → ring l f n ≡ ring l g n
 unfolding ring
 ring-mod l f g zero e = refl

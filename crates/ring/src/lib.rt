@@ -1,5 +1,5 @@
-// The ring of at most 64 times that every row keeps: functions on the 64 words where they lie. Its times stand from the place head on, round at the
-// end, the oldest first.
+// The ring buffer of at most 64 times that every row keeps, in an array of 64 words. The oldest time is at index `head`; the others follow it and
+// wrap around at the end.
 ghost use mathlib.Core.Path.{_≡_};
 ghost use Prim.Native.Nat.{_+_, _-_};
 ghost use Rattle.ring.specs.Ring.{ringPlace, headAfter, timeAt, secondAt, ringOf, pushRing, putRing, putBack};
@@ -53,7 +53,7 @@ pub fn place_of(head: usize, i: usize) -> usize
     (head % SIZE + i % SIZE) % SIZE
 }
 
-// The place of the oldest without so many of them: as it is where none leaves.
+// Returns the index of the oldest time after the oldest `dropped` times leave. It is unchanged if none leaves.
 pub fn head_after(head: usize, dropped: usize) -> usize
     ensures { λ r. ⌜ r ≡ headAfter head dropped ⌝ }
 {

@@ -1,4 +1,4 @@
--- Whether what occurs crowds a row does not hang on the number of the step, nor on its times: a row with room for two more words is crowded by
+-- Whether a step overflows a row does not depend on the number of the step, nor on its times: a row with room for two more words is crowded by
 -- nothing, as a change lets in two at most; and with 63 or 64 waiting, its type, its marks and how many wait say whether more are let in.
 use Rattle.row.proofs.Names.{Bool, Drop, Edit, List, StepInput, Push, PushTwo, Row, RowStep, Store, [], _&&_, _+_, _<_, _∙_, _∷_, _≡_, _≤_}
 use Rattle.row.proofs.Names.{ap, applied, arith, brokenRow, changeBy, changed, changedRow, concerns, cond, crowdedBy, crowding, kind-overflows}
@@ -79,7 +79,7 @@ room-left r o h =
 
 -- ---- the question
 
--- §6.5, §8.12: an event of one of its own kinds crowds it as a step of the row would
+-- §6.5, §8.12: an event of one of the row's kinds overflows it exactly if a step of the row would
 pub full-known : (r : Row) (o : StepInput) → r .now .len ≤ 64 → concerns (r .parameters) (o .kind) ≡ true
     → eventOverflows (r .parameters) (r .now) (o .stream) (o .time) ≡ crowds o r
 unfolding eventOverflows

@@ -31,7 +31,7 @@ concerns-own c suit s h = concerns-stream c s h ∙ among-kinds s (fieldsOf c) s
 pub among-own : (c : Constraint) (s : ℕ) → among s (streams c) ≡ true → OfStream c s
 among-own c s e = among-where s (streams c) e
 
--- no event concerns a row: no kind is so large
+-- no event concerns the row, because no kind is that large
 pub concerns-none : (c : Constraint) → KindsFit (kinds c) → concerns (parametersOf c) noEvent ≡ false
 concerns-none c fit =
     rw (concerns-kind c noEvent (λ e. omega arith))

@@ -38,7 +38,8 @@ appliesBy parameters now o = cond (ltb 0 (now .broken)) false (cond (ltb (now .d
 
 -- ---- the clock and the close
 
--- the clock or the close alone goes to the row: it is not broken, and it is overdue, or it is closed and that is no event of its own
+-- the clock or the close alone applies to the row: the row is not broken, and it is overdue, or the recording closes and that is not an event of the
+-- row
 unfoldable pub endsBy : Parameters → State → StepInput → Bool
 endsBy parameters now o =
     cond (ltb 0 (now .broken)) false (cond (ltb (now .due) (o .time)) true (cond (o .closes) (cond (concerns parameters (o .kind)) false true) false))

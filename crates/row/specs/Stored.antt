@@ -102,7 +102,7 @@ stepKeeps o number r b =
 
 -- ---- how full it is
 
--- how many of its 64 places are taken in a row of a type and a span that keeps so many times: none where no event can let too many wait
+-- how many of its 64 places are taken in a row, by its type, its span and how many times it keeps: none if no event can let too many wait
 abbrev pub slotsUsedBy : ℕ → ℕ → ℕ → ℕ
 slotsUsedBy tag = machineOf tag .taken
 

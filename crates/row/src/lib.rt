@@ -1,4 +1,4 @@
-// One row of the monitor: its constraint as numbers, what it keeps of the events so far, and its step.
+// One row of the monitor: its constraint as numbers, what it keeps of the events so far, and how a step changes it.
 use constraint::Constraint;
 use constraint::NO_LIMIT;
 use ring::SIZE;

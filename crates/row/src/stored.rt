@@ -1,4 +1,4 @@
-// A row where it lies: its two arrays of words after an event, the clock, the close and a withdrawal, and before any step.
+// A row in memory: its two arrays of words before any step, and how an event, the clock, the close and a withdrawal change them.
 use crate::Row;
 use crate::RowUndo;
 use crate::StepInput;
@@ -15,7 +15,7 @@ use row_type::parts::smaller;
 use row_type::row_words;
 use row_type::row_words::parameters_at;
 use row_type::row_words::registers_at;
-// Made by release/row-types.py.
+// begin imports: made by release/row-types.py
 use delay_order::delay;
 use delay_order::order;
 use delay_order::strong_delay;
@@ -25,7 +25,7 @@ use hidden_points::sporadic;
 use repeat_burst::repeat;
 use synchronizations::strong_synchronization;
 use synchronizations::synchronization;
-// End of what is made.
+// end imports
 ghost use Prim.Native.Nat.{ℕ};
 ghost use mathlib.Core.Path.{_≡_};
 ghost use lib.ListN.{replicate};
@@ -63,7 +63,7 @@ fn apply_by_type(row: &mut [[u64; SIZE]; 2], stream: u64, t: u64, number: u64)
 {
     let tag = row[1][row_words::TYPE_TAG];
     match tag {
-        // Made by release/row-types.py, to the end of the list.
+        // begin apply: made by release/row-types.py
         1 => delay::apply(row, stream, t, number),
         2 => strong_delay::apply(row, stream, t, number),
         3 | 5 => repeat::apply(row, stream, t, number),
@@ -75,6 +75,7 @@ fn apply_by_type(row: &mut [[u64; SIZE]; 2], stream: u64, t: u64, number: u64)
         10 => repetition::apply(row, stream, t, number),
         11 => synchronization::apply(row, stream, t, number),
         _ => row_words::break_at(row, number),
+        // end apply
     }
 }
 
@@ -165,16 +166,16 @@ fn put_undo(w: &mut [u64; SIZE], before: RowUndo)
 {
     let state = before.state;
     let registers = state.registers;
-    w[20] = registers.last;
-    w[21] = registers.first;
-    w[22] = registers.second;
-    w[23] = registers.third;
-    w[24] = registers.fourth;
-    w[25] = state.head as u64;
-    w[26] = state.len as u64;
-    w[27] = state.due;
-    w[28] = state.kept;
-    w[29] = state.broken;
+    w[row_words::UNDO_LAST] = registers.last;
+    w[row_words::UNDO_ONE] = registers.first;
+    w[row_words::UNDO_TWO] = registers.second;
+    w[row_words::UNDO_THREE] = registers.third;
+    w[row_words::UNDO_FOUR] = registers.fourth;
+    w[row_words::UNDO_HEAD] = state.head as u64;
+    w[row_words::UNDO_LEN] = state.len as u64;
+    w[row_words::UNDO_DUE] = state.due;
+    w[row_words::UNDO_KEPT] = state.kept;
+    w[row_words::UNDO_BROKEN] = state.broken;
     w[row_words::UNDO_PLACE] = before.place as u64;
     w[row_words::UNDO_WORD_0] = before.first;
     w[row_words::UNDO_WORD_1] = before.second;
@@ -211,19 +212,19 @@ fn undo_state(w: &[u64; SIZE]) -> State
         → r ≡ past .state) ⌝ }
 {
     let registers = Registers {
-        last: w[20],
-        first: w[21],
-        second: w[22],
-        third: w[23],
-        fourth: w[24],
+        last: w[row_words::UNDO_LAST],
+        first: w[row_words::UNDO_ONE],
+        second: w[row_words::UNDO_TWO],
+        third: w[row_words::UNDO_THREE],
+        fourth: w[row_words::UNDO_FOUR],
     };
     State {
         registers,
-        head: w[25] as usize,
-        len: w[26] as usize,
-        due: w[27],
-        kept: w[28],
-        broken: w[29],
+        head: w[row_words::UNDO_HEAD] as usize,
+        len: w[row_words::UNDO_LEN] as usize,
+        due: w[row_words::UNDO_DUE],
+        kept: w[row_words::UNDO_KEPT],
+        broken: w[row_words::UNDO_BROKEN],
     }
 }
 
@@ -269,7 +270,7 @@ fn overflows(w: &[u64; SIZE], stream: u64, t: u64) -> bool
 {
     let tag = w[row_words::TYPE_TAG];
     match tag {
-        // Made by release/row-types.py, to the end of the list.
+        // begin overflows: made by release/row-types.py
         1 => delay::overflows(w, stream, t),
         2 => strong_delay::overflows(w, stream, t),
         3 | 5 => repeat::overflows(w, stream, t),
@@ -281,6 +282,7 @@ fn overflows(w: &[u64; SIZE], stream: u64, t: u64) -> bool
         10 => repetition::overflows(w, stream, t),
         11 => false,
         _ => false,
+        // end overflows
     }
 }
 
@@ -350,12 +352,12 @@ pub fn larger(a: u64, b: u64) -> u64
     if a < b { b } else { a }
 }
 
-// How many places are taken in a row of a type and a span that keeps so many times.
+// Returns how many places are taken in a row, by its type, its span and how many times it keeps.
 fn slots_used_by_type(tag: u64, span: u64, len: u64) -> u64
     ensures { λ r. ⌜ r ≡ slotsUsedBy tag span len ⌝ }
 {
     match tag {
-        // Made by release/row-types.py, to the end of the list.
+        // begin slots used: made by release/row-types.py
         1 => len,
         2 => len,
         3 | 5 => repeat::slots_used(span, len),
@@ -367,6 +369,7 @@ fn slots_used_by_type(tag: u64, span: u64, len: u64) -> u64
         10 => repetition::slots_used(span, len),
         11 => 0,
         _ => 0,
+        // end slots used
     }
 }
 
@@ -378,7 +381,7 @@ pub fn slots_used(row: &[[u64; SIZE]; 2]) -> u64
     let span = row[1][row_words::SPAN];
     larger(
         slots_used_by_type(tag, span, row[1][row_words::LEN]),
-        slots_used_by_type(tag, span, row[1][row_words::UNDO + 6]),
+        slots_used_by_type(tag, span, row[1][row_words::UNDO_LEN]),
     )
 }
 

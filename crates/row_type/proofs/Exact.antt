@@ -1,4 +1,4 @@
--- What each row type proves of its machine, so that whoever steps rows never looks inside a type.
+-- What each row type proves of its machine, so that code and proofs that step rows never look inside a type.
 use Rattle.row_type.proofs.Names.{Accepts, Bool, Change, Constraint, InRange, KindsFit, KindsSuit, List, LowerFirst, Registers, Meets, Open}
 use Rattle.row_type.proofs.Names.{Past}
 use Rattle.row_type.proofs.Names.{Step, [], _++_, _<_, _∷_, _≡_, _≤_, at, changed, clock, closed, cond, event, false, kinds, lastTime, length}

@@ -1,5 +1,5 @@
--- What a row asks of a machine beside that it is exact: its words keep all that a step changes, and how many times it keeps tells when an event
--- would let more wait than its 64 places hold. What several types share in proving it goes by the edit of a change.
+-- What a row asks of a machine beside that it is exact: its words keep all that a step changes, and how many times it keeps tells when an event would
+-- let more wait than its 64 places hold. What the proofs of several types share is by cases on the edit of a change.
 use Rattle.row_type.proofs.Names.{Bool, Change, Drop, List, Machine, Registers, Parameters, Store, [], _++_, _+_, _-_, _<_, _∷_, _≡_, _≤_}
 use Rattle.row_type.proofs.Names.{arith}
 use Rattle.row_type.proofs.Names.{breaking, changed, cond, continuesWith, countsSaved, drop, eachTaken, eqb, false, neverOverflows}
@@ -167,4 +167,7 @@ few-by true n m p q = p
 few-by false n m p q = q
 
 pub words-few : (parameters : Parameters) → startWordCount parameters ≤ waitingLimit
+-- begin start words: made by release/row-types.py
 words-few parameters = few-by (eqb (parameters .tag) 9) 16 _ (omega arith) (omega arith)
+
+-- end start words

@@ -1,4 +1,4 @@
--- Events that are so far apart: what one more event adds is its distance from the one span places before it.
+-- Events that are at least a distance apart: one more event adds its distance from the event span places before it.
 use Rattle.row_type.proofs.Names.{Apart, AtLeastApart, List, Rising, SpansApart, [], _++_, _+_, _-_, _∷_, _≡_, _≤_, arith, at, at-left}
 use Rattle.row_type.proofs.Names.{at-next}
 use Rattle.row_type.proofs.Names.{by-cases, decLt, eqb, eqb-false, eqb-true, false, farEnough, inl, leb, length, length-append, noLimit, refl}
@@ -11,7 +11,7 @@ module _ (span lower upper : ℕ) where
   apart-first xs ys m i h = rw (at-left xs ys i (omega arith), at-left xs ys (i + span) h) at (m i (omega (arith, length-append xs ys)))
 
   module _ (events : List ℕ) (t : ℕ) where
-    -- the event at t is so far from the one span places before it
+    -- the event at t is far enough from the event span places before it
     abbrev pub ApartFromNew : Type 0
     ApartFromNew = (i : ℕ) → i + span ≡ length events → Apart lower upper (at events i) t
 

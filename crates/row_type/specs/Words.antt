@@ -61,7 +61,7 @@ parametersAt w =
 abbrev pub registersAt : List ℕ → Registers
 registersAt w = record { last = getD w 10 0; first = getD w 11 0; second = getD w 12 0; third = getD w 13 0; fourth = getD w 14 0 }
 
--- a question that goes by a row's numbers, its marks and how many times it keeps, asked of its words
+-- a question about a row's numbers, its marks and how many times it keeps, asked of its words
 abbrev pub askedOf : (Parameters → Registers → ℕ → ℕ → ℕ → Bool) → List ℕ → ℕ → ℕ → Bool
 askedOf test w s t = test (parametersAt w) (registersAt w) (getD w 16 0) s t
 

@@ -1,4 +1,4 @@
-// What every row type is made of: a constraint as numbers, what a row keeps of its events, and the change that an event makes.
+// The parts that every row type uses: a constraint as numbers, what a row keeps of its events, and the change that an event makes.
 use ring::Edit;
 
 pub mod from_constraint;
@@ -47,7 +47,7 @@ pub struct State {
     // where its times begin, and how many there are
     pub head: usize,
     pub len: usize,
-    // the last clock at which the row is still open if none of its own events comes
+    // the last clock at which the row is still open if no event of the row comes
     pub due: u64,
     // 1: it is kept if the recording is closed now
     pub kept: u64,

@@ -63,8 +63,26 @@ pub const KEPT: usize = 18;
 
 pub const BROKEN: usize = 19;
 
-// What it kept before its last step, and what that step overwrote.
-pub const UNDO: usize = 20;
+// The same before the row's last step, and what that step overwrote.
+pub const UNDO_LAST: usize = 20;
+
+pub const UNDO_ONE: usize = 21;
+
+pub const UNDO_TWO: usize = 22;
+
+pub const UNDO_THREE: usize = 23;
+
+pub const UNDO_FOUR: usize = 24;
+
+pub const UNDO_HEAD: usize = 25;
+
+pub const UNDO_LEN: usize = 26;
+
+pub const UNDO_DUE: usize = 27;
+
+pub const UNDO_KEPT: usize = 28;
+
+pub const UNDO_BROKEN: usize = 29;
 
 pub const UNDO_PLACE: usize = 30;
 
@@ -114,10 +132,10 @@ fn save_undo_numbers(w: &mut [u64; SIZE], place: usize, number: u64)
     let len = w[LEN];
     let due = w[DUE];
     let kept = w[KEPT];
-    w[25] = head;
-    w[26] = len;
-    w[27] = due;
-    w[28] = kept;
+    w[UNDO_HEAD] = head;
+    w[UNDO_LEN] = len;
+    w[UNDO_DUE] = due;
+    w[UNDO_KEPT] = kept;
     w[UNDO_PLACE] = place as u64;
     w[UNDO_STEP] = number;
 }
@@ -127,7 +145,7 @@ pub fn save_undo_last(row: &mut [[u64; SIZE]; 2])
     ensures { λ _. ⌜ SavesUndoRegisters lastSaved (now (row .entry)) (now (row .exit)) ⌝ }
 {
     let last = row[1][LAST];
-    row[1][20] = last;
+    row[1][UNDO_LAST] = last;
 }
 
 // The first three marks are.
@@ -137,9 +155,9 @@ pub fn save_undo_first_three(row: &mut [[u64; SIZE]; 2])
     let last = row[1][LAST];
     let one = row[1][ONE];
     let two = row[1][TWO];
-    row[1][20] = last;
-    row[1][21] = one;
-    row[1][22] = two;
+    row[1][UNDO_LAST] = last;
+    row[1][UNDO_ONE] = one;
+    row[1][UNDO_TWO] = two;
 }
 
 // The four counts are.
@@ -150,10 +168,10 @@ pub fn save_undo_counts(row: &mut [[u64; SIZE]; 2])
     let two = row[1][TWO];
     let three = row[1][THREE];
     let four = row[1][FOUR];
-    row[1][21] = one;
-    row[1][22] = two;
-    row[1][23] = three;
-    row[1][24] = four;
+    row[1][UNDO_ONE] = one;
+    row[1][UNDO_TWO] = two;
+    row[1][UNDO_THREE] = three;
+    row[1][UNDO_FOUR] = four;
 }
 
 // A row's state is that of one that is broken at a step.
@@ -188,8 +206,8 @@ pub fn save_undo_all(row: &mut [[u64; SIZE]; 2], number: u64)
     let last = row[1][LAST];
     let broken = row[1][BROKEN];
     save_undo_counts(row);
-    row[1][20] = last;
-    row[1][29] = broken;
+    row[1][UNDO_LAST] = last;
+    row[1][UNDO_BROKEN] = broken;
     save_undo(row, 0, number);
 }
 
@@ -289,7 +307,7 @@ pub fn settle(w: &mut [u64; SIZE], due: u64, kept: u64)
     w[KEPT] = kept;
 }
 
-// 1 where something is so, else 0.
+// Returns 1 for true and 0 for false.
 pub fn one_if(so: bool) -> u64
     ensures { λ r. ⌜ r ≡ cond so 1 0 ⌝ }
 {

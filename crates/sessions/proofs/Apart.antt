@@ -69,7 +69,8 @@ module _ {newest newest′ : ℕ} (table table′ : List ℕ) (before before′ 
   start′ : HoldsMonitor h′ (after rows′ [])
   start′ = fresh-holds table′ before′ rows′ h′ read′ begins′
 
-  -- §3.10: two lists of calls that are all taken, beside each other at each place. Their first parts are such lists too, so it is so after each place
+  -- §3.10: two lists of calls that are all taken, beside each other at each place. Their beginnings are such lists too, so this holds after each
+  -- place
   pub lent-rows-apart : (calls calls′ : List Call) {end end′ : Memory} → Host h (map asks calls) (noneRefused calls) end
       → Host h′ (map asks calls′) (noneRefused calls′) end′ → EachBeside c (map stepFor calls) (map stepFor calls′) → ReadsAlike end i end′ j
   lent-rows-apart calls calls′ {end} {end′} host host′ beside =

@@ -8,7 +8,7 @@ use Rattle.row.specs.Stored as Stored
 
 -- ---- every word after a list of calls
 
--- what the list leaves: each word, which says what is so of the monitor; the lists of rows as they were; and the machine's monitor
+-- what the list leaves: each word, which agrees with the monitor; the lists of rows as they were; and the machine's monitor
 pub record Leaves (h : Lent) (requests : List Request) (end : Memory) : Type 0 where
   pub words-are : end ≡ wordsOfLent (leavesAll h requests)
   pub indexes : Indexes (leavesAll h requests)

@@ -1,1 +1,1 @@
-// The promise of the exported calls over whole lists of them: no code.
+// The promise of the exported calls for every sequence of calls. This crate has no code.

@@ -1,4 +1,4 @@
-// Stamps known within a range: whether a Repeat row of span 1 is kept for each choice of true times, for none, or for some.
+// Stamps known within a range: whether a Repeat row of span 1 is kept for every choice of true times, for none, or only for some.
 use clock::Clock;
 use constraint::Call;
 use constraint::Constraint;
@@ -287,7 +287,7 @@ fn no_row(number: u8) -> FoundRow
     }
 }
 
-// The row of a number in a table of so many rows: questions 15 and 25.
+// Returns the row of a number in a table of `count` rows: questions 15 and 25.
 fn row_of(count: usize, row: u64, constraint: Constraint) -> FoundRow
     ensures { λ r. ⌜ Finds count row constraint r ⌝ }
 {

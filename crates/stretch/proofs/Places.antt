@@ -235,7 +235,7 @@ module _ (n : ℕ) where
 abbrev pub Formula : ℕ → ℕ → Stretch → Type 0
 Formula n before s = (p : ℕ) → s .size ≡ p + 1 → 2 * before + (p + 1) * p ≡ 2 * (p * (n + 1) + s .first)
 
--- each of a list by its place, the first having so many before it
+-- each of a list by its place, if i come before the first
 abbrev Numbered : ℕ → ℕ → List Stretch → Type 0
 Numbered n i [] = Unit {0}
 Numbered n i (s ∷ later) = Formula n i s × Numbered n (i + 1) later

@@ -114,7 +114,7 @@ module _ (front part : List Step) where
         let q8 = judged-all 8 _ _ judged in
         judged-yes 8 _ _ Taken (closed-part front (q8 .0)) (judged-yes 24 _ _ Taken (count-part (judged-all 24 _ _ (q8 .1) .0)) judged-none)
 
--- ---- the record behind so many from a start on
+-- ---- the record after `size` records from a start on
 
 module _ (steps : List Step) (taken : TakesEach [] steps) (start size : ℕ) (there : start + size < length steps) where
   abbrev part : List Step

@@ -48,7 +48,7 @@ pub record RunOf (steps : List Step) (streams times : List ℕ) (count : ℕ) : 
   pub kept : Kept steps streams times
   pub taken : TakesEach [] steps
 
--- the number says of each length which the rest has whether so many records break the row: they do from the number on
+-- the number decides for each length up to the rest whether that many records break the row: they do from that number on
 abbrev pub Needs : Constraint → List Step → ℕ → Type 0
 Needs c rest need = (m : ℕ) → 0 < m → m ≤ length rest → Decides (Breaks c (take m rest)) (leb need m)
 

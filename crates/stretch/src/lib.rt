@@ -1,5 +1,5 @@
-// The shortest stretch of consecutive records that breaks a row. Each start is run once, over one row and no monitor, for the least number of
-// records that break the row from there; then the stretches are tried by length and by start.
+// The shortest stretch of consecutive records that breaks a row. It runs each start once, over one row without a monitor, to find the least number of
+// records that break the row from there. Then it tries the stretches by length and by start.
 use clock::Clock;
 use constraint::Constraint;
 use constraint::StretchAnswer;
@@ -58,7 +58,7 @@ fn seen(stream: u64, time: u64) -> StepInput
     }
 }
 
-// Keeps a record's stream and time behind those of so many, if there is room, and answers how many there are then.
+// Stores a record's stream and time after those of the `count` records before it, if there is room. Returns how many there are then.
 fn append_event(
     streams: &mut [u64; 256],
     times: &mut [u64; 256],
@@ -164,7 +164,8 @@ fn needs(
 }
 
 // §14.3
-// The first stretch of so many records, by length and then by start, that is as long as its start needs; each one tried is counted.
+// Returns the first stretch of `count` records, by length and then by start, that is as long as its start needs. It counts each stretch that it
+// tries.
 fn search(need: &[usize; 256], count: usize) -> Found
     requires { ⌜ count ≤ 256 ⌝ }
     ensures { λ r. ⌜ Searches (now (need .entry)) count r ⌝ }
@@ -216,7 +217,7 @@ fn try_row(
     }
 }
 
-// The answer of the row of a number in a table of so many rows: question 15 first.
+// Returns the answer for the row of a number in a table of `rows` rows. Question 15 comes first.
 fn ask_row(
     rows: usize,
     row: u64,

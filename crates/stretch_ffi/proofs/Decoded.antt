@@ -1,4 +1,4 @@
--- The answer for a stretch says by the header's macros the stretch or the refusal: each part keeps to bits of its own.
+-- The answer for a stretch says by the header's macros the stretch or the refusal: each part has its own bits.
 use Rattle.constraint.proofs.Library.{List, _<_, _≡_, arith, refl, ℕ}
 use Rattle.constraint.specs.Stretches.{AnswersStretchUpTo}
 use Rattle.constraint.specs.declared.StretchAnswer.{StretchAnswer}

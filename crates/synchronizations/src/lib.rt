@@ -1,3 +1,3 @@
-// Rows of several kinds whose events belong together: StrongSynchronization, Synchronization.
+// StrongSynchronization and Synchronization: rows of two to four kinds whose events belong together.
 pub mod strong_synchronization;
 pub mod synchronization;

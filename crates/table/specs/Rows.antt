@@ -22,7 +22,7 @@ ReadsAt edition bytes i place (RowRead.Refused n) =
 abbrev pub timesStart : List ℕ → ℕ
 timesStart body = lengthOf (at body 0) (at body 1) % 8
 
--- so many bytes of a body from a place on, and so many times, each of eight bytes; past its end stand bytes 0
+-- a number of bytes of a body from a place on, and a number of times, each of eight bytes. Past the end of the body all bytes are 0
 abbrev pub bytesRead : ℕ → List ℕ → ℕ → List ℕ
 bytesRead zero body place = []
 bytesRead (suc n) body place = at body place ∷ bytesRead n body (suc place)

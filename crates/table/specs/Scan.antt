@@ -50,7 +50,7 @@ abbrev pub RowBehind : List ℕ → ℕ → Constraint → Type 0
 RowBehind bytes i r =
     (edition : ℕ) (rows : List Constraint) → ReadsRows edition bytes 0 1 (table-of rows) → i < length rows → getElem? rows i ≡ some r
 
--- there are so many rows, and the one of number i is this, where it is one of them
+-- there are `count` rows, and row i is this one if there is a row i
 pub record RowIs (count i : ℕ) (c : Constraint) (rows : List Constraint) : Type 0 where
   pub counted : count ≡ length rows
   pub is : i < length rows → getElem? rows i ≡ some c

@@ -1,4 +1,4 @@
-// The table's bytes: rows are read from a file's bytes, and written to a lent buffer.
+// The table's bytes: reads rows from a file's bytes, and writes them to the caller's buffer.
 pub mod body;
 pub mod raw;
 mod reader;

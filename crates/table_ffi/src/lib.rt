@@ -1,4 +1,4 @@
-// The table reader and writer for tests in Rust, as functions on byte slices and numbers.
+// The table reader and writer for tests in Rust: functions on byte slices and numbers.
 use table::ReadAnswer;
 use table::WriteAnswer;
 ghost use mathlib.Core.Path.{_≡_};

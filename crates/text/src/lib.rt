@@ -1,4 +1,4 @@
-// The report's text, by value: bytes are put behind those that it holds, line by line, and copied out at the end.
+// The report's text by value. Functions append bytes line by line; the finished text is copied to the caller's buffer.
 use constraint::Verdict;
 ghost use mathlib.Core.Path.{_≡_};
 ghost use Rattle.constraint.specs.Report.{decimal, refusedText};

@@ -296,7 +296,7 @@ fn the_places_of_words_are_the_crates() {
     assert_eq!([words::ROWS, words::SOONEST, words::ROOM], ["ROWS", "SOONEST", "FREE_SLOT_HINT"].map(beside));
     assert_eq!(words::LAST_STEP, beside("UNDO_ALLOWED")..beside("UNDO_CLOSED") + 1);
     let of_row = |name| 128 + 64 + constant("crates/row_type/src/row_words.rt", name) as usize;
-    assert_eq!(words::past(1), of_row("UNDO")..of_row("UNDO_STEP") + 1);
+    assert_eq!(words::past(1), of_row("UNDO_LAST")..of_row("UNDO_STEP") + 1);
 }
 
 /// A row for the writer has as many bytes as the longest row, in the header, in the Rust crate and in the definitions.

@@ -323,7 +323,7 @@ fn a_host_of_cmake() {
     }
 }
 
-/// The flags of whoever builds are used, and do not take the program's own away.
+/// The build uses the user's flags, and they do not remove the program's own flags.
 #[test]
 fn flags_from_outside() {
     let folder = Folder::new();

@@ -16,7 +16,7 @@ EventOf = Union[str, TaskSource]
 Field = Union[EventOf, tuple[EventOf, ...], tuple[int, ...], int, None]
 #: The types that a constraint may need and that the library does not have yet. One that comes is a name less here.
 LATER = ("Age", "OutputSynchronization", "InputSynchronization", "Pattern", "Arbitrary")
-#: So many events a synchronization has.
+#: The largest number of events in a synchronization.
 _TOGETHER = 4
 
 
@@ -55,7 +55,7 @@ def taken(model: Model, part: Part, coloured: Callable[[str], bool]) -> Taken:
             raise LeftOut(f"{why.format(found.text)} ({name}), which a table cannot say")
     unread = unknown_fields(model.unknown, node, CONSTRAINTS[node.name])
     result = _LATENCIES[node.name](model, node, coloured) if node.name in _LATENCIES else _OTHERS[node.name](model, node)
-    result.weaker += [f"{name} is not known here" for name in dict.fromkeys(unread)]
+    result.weaker += [f"{name} is unknown" for name in dict.fromkeys(unread)]
     return result
 
 
@@ -243,7 +243,7 @@ def _ordered(model: Model, node: Node) -> tuple[EventOf, EventOf]:
     if node.name == "EOC-EXECUTABLE-ENTITY-REF":
         name = _executable(node)
         return TaskSource("runnable", name, "start"), TaskSource("runnable", name, "terminate")
-    raise LeftOut(f"{node.name} among its ORDERED-ELEMENTS is no event and no executable entity")
+    raise LeftOut(f"{node.name} among its ORDERED-ELEMENTS is not an event or an executable entity")
 
 
 def _executable(node: Node) -> str:

@@ -76,7 +76,7 @@ class Model:
         """The path that a reference names, if it is there among parts of a sort."""
         path = reference.text
         if not path.startswith("/"):
-            raise LeftOut(f"{reference.name} is {path[:200] or 'empty'}, which is no path from the root of the file")
+            raise LeftOut(f"{reference.name} is {path[:200] or 'empty'}, which is not a path from the root of the file")
         if path in self.twice:
             raise LeftOut(f"{reference.name} names {path}, which is there twice")
         if path not in among:

@@ -23,16 +23,19 @@ def unique(paths: Iterable[str], name: Callable[[list[str]], str]) -> dict[str, 
     """A name for each path: of its last part, with as many parts before it as it takes to tell it from the others, or a number at last."""
     parts = {path: [one for one in path.split("/") if one] or ["unnamed"] for path in paths}
     depth = dict.fromkeys(parts, 1)
-    while True:
-        alike = defaultdict(list)
-        for path in parts:
-            alike[name(parts[path][-depth[path] :])].append(path)
-        longer = [path for several in alike.values() if len(several) > 1 for path in several if depth[path] < len(parts[path])]
-        if not longer:
-            break
-        for path in longer:
-            depth[path] += 1
+    alike = _alike(parts, depth, name)
+    while longer := [path for several in alike.values() if len(several) > 1 for path in several if depth[path] < len(parts[path])]:
+        depth.update((path, depth[path] + 1) for path in longer)
+        alike = _alike(parts, depth, name)
     return _numbered(alike)
+
+
+def _alike(parts: dict[str, list[str]], depth: dict[str, int], name: Callable[[list[str]], str]) -> dict[str, list[str]]:
+    """The paths of each name, where a name consists of a number of parts of its path."""
+    found: dict[str, list[str]] = defaultdict(list)
+    for path, several in parts.items():
+        found[name(several[-depth[path] :])].append(path)
+    return found
 
 
 def _numbered(alike: dict[str, list[str]]) -> dict[str, str]:

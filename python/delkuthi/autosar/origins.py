@@ -136,7 +136,7 @@ def given_events(file: str, model: Model, names: dict[str, str]) -> tuple[dict[s
         raise LogError(file, "", "expected text in UTF-8") from None
     found = parse(text, file)
     if found.rows or found.unit is not None:
-        raise LogError(file, "", "only event and dbc lines stand in a file of --events")
+        raise LogError(file, "", "a file of --events has only event and dbc lines")
     paths = {name: path for path, name in names.items()}
     for event in found.events:
         if event.name not in paths:

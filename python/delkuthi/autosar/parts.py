@@ -1,6 +1,6 @@
 """The parts of an ARXML file that are about timing, found in one pass: each is a small tree that is forgotten once it was looked at.
 
-Elements go by their local names, in any namespace. Document types, and with them entities, are refused.
+Elements are recognised by their local names, in any namespace. Document types, and with them entities, are refused.
 """
 from __future__ import annotations
 
@@ -69,7 +69,7 @@ class Unknown:
 
     def told(self, file: str) -> list[str]:
         """A line for each name and parent, in the order of the file."""
-        return [f"{file}:{self._lines[key]}: {key[1]} in {key[0]} is not known here and was left out"
+        return [f"{file}:{self._lines[key]}: {key[1]} in {key[0]} is unknown and was left out"
                 + (f" ({count} times)" if count > 1 else "") for key, count in sorted(self._found.items(), key=lambda one: self._lines[one[0]])]
 
 
@@ -201,6 +201,6 @@ class Parts:
             self._parser.Parse(block, last)
         except expat.ExpatError as error:
             said = expat.ErrorString(error.code)
-            raise LogError(self._file, f":{error.lineno}", f"not whole XML: {said}") from None
+            raise LogError(self._file, f":{error.lineno}", f"not well-formed XML: {said}") from None
         except (ValueError, LookupError) as error:
-            raise LogError(self._file, ":1", f"not whole XML: {error}") from None
+            raise LogError(self._file, ":1", f"not well-formed XML: {error}") from None

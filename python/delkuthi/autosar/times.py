@@ -28,7 +28,7 @@ def whole_number(text: str, what: str) -> int:
     for pattern, base in _NUMBERS:
         if pattern.fullmatch(text):
             return int(text, base)
-    raise LeftOut(f"{what} is {text[:60] or 'empty'}, which is no whole number")
+    raise LeftOut(f"{what} is {text[:60] or 'empty'}, which is not a whole number")
 
 
 def nanoseconds(node: Node, what: str) -> int:
@@ -39,9 +39,9 @@ def nanoseconds(node: Node, what: str) -> int:
     code = whole_number(code_text, f"the CSE-CODE of {what}")
     factor = whole_number(factor_text, f"the CSE-CODE-FACTOR of {what}") if node.child("CSE-CODE-FACTOR") is not None else 1
     if code >= FIRST_ANGLE:
-        raise LeftOut(f"{what} has the CSE-CODE {code}, an angle or a count and no time")
+        raise LeftOut(f"{what} has the CSE-CODE {code}, an angle or a count, not a time")
     if code not in FEMTOSECONDS:
-        raise LeftOut(f"{what} has the CSE-CODE {code}, which is no unit of time that is known here")
+        raise LeftOut(f"{what} has the CSE-CODE {code}, which is not a known unit of time")
     if factor < 0:
         raise LeftOut(f"{what} is below 0: its CSE-CODE-FACTOR is {factor}")
     time, part = divmod(factor * FEMTOSECONDS[code], _NANOSECOND)
@@ -53,5 +53,5 @@ def nanoseconds(node: Node, what: str) -> int:
 
 
 def _exact(femtoseconds: int) -> str:
-    """A time that is no whole number of nanoseconds, in ps or fs."""
+    """A time that is not a whole number of nanoseconds, in ps or fs."""
     return f"{femtoseconds // 1000} ps" if femtoseconds % 1000 == 0 else f"{femtoseconds} fs"

@@ -1,4 +1,4 @@
-"""The readers of logs, a module for each format. A new one is a class in a module of its own and its name in ``READERS``."""
+"""The readers of logs, a module for each format. To add a reader, write a class in a new module and add its name to ``READERS``."""
 from __future__ import annotations
 
 from typing import Sequence
@@ -10,15 +10,20 @@ from .blf import BlfReader
 from .btf import BtfReader
 from .candump import CandumpReader
 from .csv_events import CsvReader
+from .ctf import CtfReader, is_ctf
+from .mdf import MdfReader
+from .pcap import PcapReader
 from .python_can import PythonCanReader
 from .recordings import RecordingReader
 from .several import SeveralReader
 from .standard_input import NAME, ending_of, kept
+from .tessla import TesslaReader
 from .trc import TrcReader
 from .xlsx import XlsxReader
 
 #: The formats by their endings; python-can is asked for all other files.
-READERS: tuple[type[Reader], ...] = (CsvReader, CandumpReader, AscReader, BlfReader, TrcReader, BtfReader, XlsxReader, RecordingReader)
+READERS: tuple[type[Reader], ...] = (CsvReader, CandumpReader, AscReader, BlfReader, TrcReader, BtfReader, XlsxReader, RecordingReader, PcapReader,
+                                    CtfReader, MdfReader, TesslaReader)
 
 __all__ = ["READERS", "Lines", "LogError", "Policy", "Reader", "Stamped", "reader"]
 
@@ -28,7 +33,7 @@ def reader(path: str | Sequence[str], table: Table, policy: Policy) -> Reader:
     if not isinstance(path, str):
         return SeveralReader([reader(one, table, policy) for one in path], table, policy)
     file = kept() if path == NAME else path
-    wanted = policy.format or (ending_of(file) if path == NAME else ending(path))
+    wanted = policy.format or (ending_of(file) if path == NAME else ".ctf" if is_ctf(path) else ending(path))
     for one in READERS:
         if wanted in one.endings:
             return one(path, table, policy, file)

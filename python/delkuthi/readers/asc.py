@@ -63,7 +63,7 @@ class _Measurement:
     def end(self) -> None:
         """The end of the file: it is one only if it had the header."""
         if not self.base:
-            raise self._reader.error(self._last, "this is no ASC file: it has no line such as base hex  timestamps absolute")
+            raise self._reader.error(self._last, "this is not an ASC file: it has no line such as base hex  timestamps absolute")
 
     def read(self, lines: Iterable[tuple[int, str]]) -> Iterator[Stamped]:
         """The stamped lines among some lines."""
@@ -96,7 +96,7 @@ class _Measurement:
             return self._flexible(words[2:])
         if len(words) > 2 and words[1].isdigit():
             return self._classic(words[1], words[2:])
-        if len(words) < 3:
+        if len(words) == 1 or words[1].isdigit():
             raise self._error(_EXAMPLE)
         self._reader.other_lines += 1
         return ()
@@ -126,7 +126,7 @@ class _Measurement:
         named = words[3:4] not in (["0"], ["1"])
         rest = words[3 + named :]
         if len(rest) < 4 or rest[0] not in ("0", "1") or rest[1] not in ("0", "1"):
-            raise self._error("expected BRS, ESI, DLC and the length of the data behind the identifier, such as 1 0 9 12")
+            raise self._error("expected BRS, ESI, DLC and the length of the data after the identifier, such as 1 0 9 12")
         length = self._length(rest[3:4], 10)
         # Behind the data: the duration, the number of bits, then the flags, of which bit 4 says that it is a remote frame.
         flags = rest[4 + length + 2 : 4 + length + 3]
@@ -140,8 +140,8 @@ class _Measurement:
             number = int(text[:-1] if extended else text, self.base)
             if number <= (0x1FFFFFFF if extended else 0x7FF):
                 return number, extended
-        raise self._error(f"expected the number of an identifier, found {text}; a log with the symbolic names of frames has to be written "
-                          "anew with numbers")
+        raise self._error(f"expected the number of an identifier, found {text}; a log with the symbolic names of frames has to be exported "
+                          "again with numbers")
 
     def _length(self, words: list[str], base: int) -> int:
         if not words or not _OCTET[base].fullmatch(words[0]):

@@ -32,7 +32,7 @@ class Stamped(NamedTuple):
 
 Lines = Iterable[Stamped]
 _Found = TypeVar("_Found")
-#: So many names that are no events of the table are noted.
+#: The largest number of names kept that are not events of the table.
 OTHERS = 500
 #: How the files of each ending are unpacked, and what they begin with.
 PACKED: dict[str, Callable[..., Any]] = {".gz": gzip.open, ".bz2": bz2.open, ".xz": lzma.open}
@@ -47,7 +47,7 @@ class Policy:
       comes one unit later (``later``). Events of different kinds may share a stamp and stay in the order of the log.
     - ``unsorted``: a stamp before the one above it is an error (``refuse``), or the whole log is sorted first
       (``sort``), lines of one stamp in their order.
-    - ``round``: a stamp that is no whole number of the table's unit is an error, or counts as the nearest one.
+    - ``round``: a stamp that is not a whole number of the table's unit is an error, or counts as the nearest one.
     - ``from_zero``: the first stamp counts as 0, and the others from there.
     - ``as_stamped``: the monitor's clock is the stamps', not ahead of them by the largest jitter of the table.
     - ``until``: the clock goes on to this stamp, in the table's unit, after the last line.
@@ -103,6 +103,8 @@ class Reader:
         self.state: dict[str, Any] = {}
         #: Lines that say nothing, such as blank ones, stamps that were rounded, and lines about what no table can name.
         self.skipped = self.rounded = self.other_lines = 0
+        #: Events that the recorder itself has lost.
+        self.lost = 0
         #: The buses of the frames that were read, as the log names them.
         self.buses: set[str] = set()
         #: What stands where an event of the table could, some of it.
@@ -192,11 +194,11 @@ class Reader:
             if self.policy.round:
                 self.rounded += 1
                 return nearest_in_unit(number, written, unit)
-            raise self.error(place, f"the stamp {found} is no whole number of {unit or 'units'}: take a finer unit in the "
+            raise self.error(place, f"the stamp {found} is not a whole number of {unit or 'units'}: use a finer unit in the "
                                     "table, or --round") from None
 
     def advance(self, size: int) -> None:
-        """So many bytes more were read."""
+        """Counts the bytes that were read."""
         if self.progress is not None:
             self.progress(size)
 
@@ -223,7 +225,7 @@ class Reader:
         encoding = self.policy.encoding
         what = f"byte {error.start + 1} of the line, 0x{error.object[error.start]:02X}," if isinstance(error, UnicodeDecodeError) else "the line"
         other = "cp1252 or utf-16" if encoding == "utf-8" else "utf-8 or cp1252"
-        return self.error(number, f"{what} is not text in {encoding}: --encoding says what the log is written in, such as {other}")
+        return self.error(number, f"{what} is not text in {encoding}; give the encoding of the log with --encoding, such as {other}")
 
     def text_lines(self) -> Iterator[tuple[int, str]]:
         """The lines of a text file, with their numbers."""

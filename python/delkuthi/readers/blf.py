@@ -96,7 +96,7 @@ class BlfReader(Reader):
         """The nanoseconds since the beginning of 1970 at which the file says that it starts; 0 where it says none."""
         header = file.read(_FILE.size)
         if len(header) < _FILE.size or not header.startswith(b"LOGG"):
-            raise LogError(self.path, "", "this is no BLF file: it does not begin with LOGG and a header")
+            raise LogError(self.path, "", "this is not a BLF file: it does not begin with LOGG and a header")
         fields = _FILE.unpack(header)
         file.read(max(fields[1] - _FILE.size, 0))
         year, month, _, day, hour, minute, second, milliseconds = fields[14:22]
@@ -126,7 +126,7 @@ class BlfReader(Reader):
                 return zlib.decompress(body[_CONTAINER.size :])
         except zlib.error as error:
             raise LogError(self.path, "", f"a container of the BLF file is damaged: {error}") from None
-        raise LogError(self.path, "", f"a container of the BLF file is packed by method {method}, which is not known")
+        raise LogError(self.path, "", f"a container of the BLF file is packed with the unknown method {method}")
 
 
 class _Objects:

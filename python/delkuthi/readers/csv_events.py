@@ -4,14 +4,15 @@ from __future__ import annotations
 import base64
 import csv
 import re
+from collections import deque
 from decimal import Decimal
-from itertools import chain
+from itertools import chain, islice
 from operator import itemgetter
-from typing import Iterable, Iterator
+from typing import IO, Iterable, Iterator
 
 from ..batches import OTHER, Batch, Codes, NeedsSlowPath, Scale, Shape, blocks, with_events
 from .base import Lines, Reader, Stamped, ending, lines_of
-from .sheets import Columns, SheetReader
+from .sheets import PREAMBLE, Columns, SheetReader, is_header
 
 #: A stamp as Python writes a floating-point number, and an identifier.
 _STAMP, _IDENTIFIER = re.compile(r"[0-9]{1,40}(?:\.[0-9]{0,40})?(?:e[+-]?[0-9]{1,2})?"), re.compile("(?:0x)?[0-9A-Fa-f]{1,8}")
@@ -25,10 +26,17 @@ class CsvReader(SheetReader):
     delimiter = ","
 
     def lines(self) -> Iterator[Stamped]:
-        for _, first in self.text_lines():
-            yield from self._frames() if "arbitration_id" in self._header(first) else super().lines()
-            return
-        yield from super().lines()
+        first = next((line for _, line in self.text_lines()), "")
+        yield from self._frames() if "arbitration_id" in self._header(first) else super().lines()
+
+    def _locate(self) -> int:
+        """How many lines stand above the header; from it is seen what separates cells."""
+        for above, (_, line) in enumerate(islice(self.text_lines(), PREAMBLE)):
+            header = self._header(line)
+            if is_header(self, header) or above == 0 and "arbitration_id" in header:
+                return above
+        self._header(next((line for _, line in self.text_lines()), ""))
+        return 0
 
     def _header(self, first: str) -> list[str]:
         """The names of the columns; from them it is seen what separates them."""
@@ -37,7 +45,9 @@ class CsvReader(SheetReader):
         return next(csv.reader([first], delimiter=self.delimiter), [])
 
     def rows(self) -> Iterator[tuple[int, list[str]]]:
-        return self._cells(self.text_lines())
+        above = self._locate()
+        self.skipped += above
+        return self._cells(islice(self.text_lines(), above, None))
 
     def _cells(self, lines: Iterable[tuple[int, str]]) -> Iterator[tuple[int, list[str]]]:
         number = 1
@@ -68,17 +78,21 @@ class CsvReader(SheetReader):
             yield Stamped(self.time(f"{Decimal(cells[0]):f}", "s", number), kinds, number)
 
     def batches(self, codes: Codes) -> Iterator[Batch | Lines]:
+        above = 0 if self.wide else self._locate()
         with self.opened() as file:
-            header = [] if self.wide else self._header(self.decoded(file.readline(), 1))
+            deque(islice(file, above), maxlen=0)
+            header = [] if self.wide else self._header(self.decoded(file.readline(), above + 1))
             if not header or "arbitration_id" in header:
                 yield self.lines()
                 return
             columns = Columns(self, header, self.comma)
+            units = self._units_below(file, columns, above + 2)
             if columns.tasks or columns.unknown_unit:
                 yield self.lines()
                 return
             several = _Blocks(self, columns, codes)
-            number, rest = 2, blocks(file)
+            self.skipped += above + units
+            number, rest = above + 2 + units, blocks(file)
             for block in rest:
                 self.advance(len(block))
                 if b'"' in block:
@@ -93,6 +107,15 @@ class CsvReader(SheetReader):
                     lines = lines_of(block)
                     yield self._one_by_one(columns, lines, number)
                     number += len(lines)
+
+    def _units_below(self, file: IO[bytes], columns: Columns, number: int) -> bool:
+        """Is there a line of units below the header? The file stands behind it then, and else behind the header."""
+        place = file.tell()
+        cells: list[str] = next(csv.reader([self.decoded(file.readline(), number)], delimiter=self.delimiter), [])
+        found = columns.says_units(cells, number)
+        if not found:
+            file.seek(place)
+        return found
 
     def _one_by_one(self, columns: Columns, lines: Iterable[bytes], number: int) -> Iterator[Stamped]:
         """Lines from a number on, each by itself."""

@@ -34,7 +34,7 @@ class PythonCanReader(Reader):
                 self.buses.add(bus)
             data = not frame.is_error_frame and not frame.is_remote_frame
             kinds = mapping.kinds(frame.arbitration_id, bool(frame.is_extended_id), bus, bytes(frame.data)) if data else ()
-            yield Stamped(self._stamp(frame.timestamp, number), kinds, number)
+            yield Stamped(float_stamp(self, frame.timestamp, number, "python-can"), kinds, number)
             if self.progress is not None and number % 1000 == 0 and file is not None:
                 now = getattr(file, "buffer", file).tell()
                 self.advance(now - read)
@@ -45,7 +45,7 @@ class PythonCanReader(Reader):
         return self.policy.format or ending(self.path)
 
     def _reader(self, folder: str) -> Any:
-        """python-can's reader. It goes by the name's ending, so that a file with another name gets one in the folder."""
+        """python-can's reader. It chooses the format by the ending of the name, so a file with another ending gets a second name in the folder."""
         try:
             import can
         except ImportError:
@@ -74,13 +74,14 @@ class PythonCanReader(Reader):
             number += 1
             yield frame
 
-    def _stamp(self, seconds: float, place: int) -> int:
-        """A stamp as the file has it, which python-can gives as a floating-point number of seconds."""
-        decimal = Decimal(repr(seconds)) if math.isfinite(seconds) else None
-        if decimal is None or decimal < 0:
-            raise self.error(place, f"expected a time, found {seconds}")
-        exponent = decimal.as_tuple().exponent
-        if isinstance(exponent, int) and not self.policy.round and 10.0**exponent < 2 * math.ulp(seconds):
-            raise self.error(place, f"the stamp {decimal:f} s is finer than python-can can tell apart; --round takes the nearest "
-                                    f"{self.table.unit or 'unit'}")
-        return self.time(f"{decimal:f}", "s", place)
+
+def float_stamp(reader: Reader, seconds: float, place: int, package: str) -> int:
+    """A stamp as a file has it, where a package gives it as a floating-point number of seconds."""
+    decimal = Decimal(repr(seconds)) if math.isfinite(seconds) else None
+    if decimal is None or decimal < 0:
+        raise reader.error(place, f"expected a time, found {seconds}")
+    exponent = decimal.as_tuple().exponent
+    if isinstance(exponent, int) and not reader.policy.round and 10.0**exponent < 2 * math.ulp(seconds):
+        raise reader.error(place, f"the stamp {decimal:f} s is finer than {package} can represent; --round takes the nearest "
+                                  f"{reader.table.unit or 'unit'}")
+    return reader.time(f"{decimal:f}", "s", place)

@@ -14,6 +14,13 @@ _NUMBER = re.compile(r"[+-]?(?:[0-9]{1,40}(?:\.[0-9]{0,40})?|\.[0-9]{1,40})(?:[e
 _REMEMBERED = 10_000
 
 
+def number_or_text(text: str) -> Sample | None:
+    """A sample as it is written: a number if it is one, else the text; ``None`` for nothing, and for what says that it is no number."""
+    if not text or text.lower() == "nan":
+        return None
+    return Decimal(text) if _NUMBER.fullmatch(text) else text
+
+
 class SampledColumn:
     """A column of which some samples are events of a signal."""
 
@@ -32,10 +39,9 @@ class SampledColumn:
 
     def sample(self, text: str) -> Sample | None:
         """A sampled value; ``None`` where the cell is empty, or says that there is no number. Text where numbers are needed is one too."""
-        if not text or text.lower() == "nan":
-            return None
         decimal = text.replace(",", ".") if self._comma else text
-        return Decimal(decimal) if _NUMBER.fullmatch(decimal) else text
+        sample = number_or_text(decimal)
+        return text if isinstance(sample, str) else sample
 
     def take(self, sample: Sample) -> bool:
         """Is this sample an event?"""

@@ -2,6 +2,7 @@
 from __future__ import annotations
 
 import re
+from itertools import chain, islice
 from typing import Iterator
 
 from ..conditions import Edge
@@ -20,6 +21,8 @@ _BRACKETS = re.compile(r".*[\[(<{]\s*(.*?)\s*[\])>}]")
 #: Last words of a head that are no unit: there the stamps are in the table's.
 _NO_UNIT = ("time", "stamp", "timestamp", "date", "zeit", "uhrzeit", "zeitstempel", "abs", "absolute", "rel", "relative", "elapsed", "utc", "gmt",
             "local", "day", "start", "offset", "axis", "column")
+#: The largest number of lines above a header.
+PREAMBLE = 200
 _TIME = re.compile(r"(?:time(?:stamp)?|date|uhrzeit|zeit(?:stempel)?)(?:$|[\W_])")
 
 
@@ -38,7 +41,7 @@ def named_kinds(table: Table) -> dict[str, tuple[int, ...]]:
 
 
 def _as_a_word(capital: re.Match[str]) -> str:
-    """A capital within a word, as in ``timeMs``, where a word of its own begins."""
+    """A capital within a word, as in ``timeMs``, where a new word begins."""
     return f"_{capital[0].lower()}"
 
 
@@ -50,6 +53,16 @@ def unit_word(head: str) -> str | None:
         return found[1] or None
     words = re.split(r"[\W_]+", re.sub("(?<=[a-z])[A-Z]", _as_a_word, head))
     return None if len(words) < 2 or words[-1].lower() in ("", *_NO_UNIT) else words[-1]
+
+
+def is_header(reader: Reader, cells: list[str]) -> bool:
+    """Are these cells the header of a sheet that the table can be checked on: has it a column of times, and one of events or samples?"""
+    names, policy = [cell.strip().lower() for cell in cells], reader.policy
+    timed = any(map(_TIME.match, names)) if policy.time_column is None else policy.time_column.strip().lower() in names
+    usual = [(policy.event_column or "event").strip().lower()]
+    sampled = [source.column.strip().lower() for event in reader.table.events for source in event.sources if isinstance(source, ColumnSource)]
+    tasks = [(given or name).strip().lower() for given, name in ((policy.task_column, "task"), (policy.action_column, "action"))]
+    return timed and (not {*usual, *sampled}.isdisjoint(names) or {*tasks} <= {*names})
 
 
 class Columns:
@@ -136,6 +149,20 @@ class Columns:
             found[name, action] = (*found.get((name, action), ()), *(kind for kind, _ in kinds))
         return found
 
+    def says_units(self, cells: list[str], number: int) -> bool:
+        """Is the line below the header one of units? Then it says that of the times."""
+        cell = cells[self.time].strip() if len(cells) > self.time else ""
+        unit = unit_of(re.sub(r"^[\[(<{]\s*|\s*[\])>}]$", "", cell)) if cell else None
+        if unit is None:
+            if cell and Stamps().read(cell.replace(",", ".") if self.comma else cell) is None:
+                raise self.reader.error(number, f"expected a time, found {cell}")
+            return False
+        if self.reader.policy.time_unit is None:
+            if self.unit not in (None, unit):
+                raise self.reader.error(number, f"the times are in {unit} here, but in {self.unit} in the head of their column")
+            self.unit, self.unknown_unit = unit, None
+        return True
+
     def line(self, cells: list[str], number: int) -> Stamped:
         """What a line says."""
         if len(cells) <= self.last:
@@ -160,7 +187,7 @@ class Columns:
             raise self.reader.error(number, f"expected a time, found {text or 'nothing'}")
         if found[1] is None and self.unknown_unit is not None:
             raise self.reader.error(number, f"the column {self.header[self.time].strip()} says that its times are in {self.unknown_unit}, which is "
-                                            f"no unit here: --time-unit with one of {', '.join(UNITS)} says what they are in")
+                                            f"not a unit here; --time-unit with one of {', '.join(UNITS)} gives their unit")
         return self.reader.time(found[0], found[1] or self.unit, number)
 
 
@@ -175,11 +202,21 @@ class SheetReader(Reader):
         raise NotImplementedError
 
     def lines(self) -> Iterator[Stamped]:
-        rows = self.rows()
-        header = next(rows, None)
-        columns = Columns(self, [] if header is None else header[1], self.comma)
+        columns, rows, first = *self._begun(), True
         for number, cells in rows:
-            if cells:
+            if cells and not (first and columns.says_units(cells, number)):
                 yield columns.line(cells, number)
             else:
                 self.skipped += 1
+            first = False
+
+    def _begun(self) -> tuple[Columns, Iterator[tuple[int, list[str]]]]:
+        """The columns, and the lines below their header. Lines above it, such as the settings of an oscilloscope, are skipped."""
+        rows = self.rows()
+        above = list(islice(rows, 1))
+        if above and not is_header(self, above[0][1]):
+            above += islice(rows, PREAMBLE - 1)
+        place = next((place for place, (_, cells) in enumerate(above) if is_header(self, cells)), 0)
+        columns = Columns(self, above[place][1] if above else [], self.comma)
+        self.skipped += place
+        return columns, chain(above[place + 1 :], rows)

@@ -19,6 +19,8 @@ NAME = "-"
 BEGINNINGS = (
     (b"(", ".log"), (b"\x01", ".bin"), (b"\x02", ".bin"), (b"date ", ".asc"), (b"base ", ".asc"), (b"#version", ".btf"),
     (b"#timeScale", ".btf"), (b"#creator", ".btf"), (b";$FILEVERSION", ".trc"), (b"LOGG", ".blf"), (b"PK\x03\x04", ".xlsx"),
+    (b"\xd4\xc3\xb2\xa1", ".pcap"), (b"\xa1\xb2\xc3\xd4", ".pcap"), (b"\x4d\x3c\xb2\xa1", ".pcap"), (b"\xa1\xb2\x3c\x4d", ".pcap"),
+    (b"\x0a\x0d\x0d\x0a", ".pcapng"), (b"MDF     ", ".mf4"),
 )
 
 

@@ -1,7 +1,8 @@
 """Burst: at most maximum events in each length."""
 from __future__ import annotations
 
-from typing import TYPE_CHECKING, Callable, Iterator, Mapping
+from operator import sub
+from typing import TYPE_CHECKING, Callable, Iterator, Mapping, Sequence
 
 from ..fields import RowType
 from ..measure import margin_of
@@ -52,7 +53,23 @@ class Bursts(Spans):
         return self.values["length"], None
 
     def take_all(self, times: Mapping[int, list[int]], place: Callable[[int, int], int]) -> bool:
-        return False
+        event, minimum, length = self.values["event"], self.values["minimum"], self.values["length"]
+        given, before = times[event], [time for time, _ in self.last]
+        all_times, first = before + given, max(self.span - len(before), 0)
+        gaps = list(map(sub, all_times[max(len(before), 1) :], all_times[max(len(before) - 1, 0) :]))
+        values = list(map(sub, all_times[self.span :], all_times))
+        if min(gaps, default=minimum) < minimum or min(values, default=length) < length:
+            return False
+        # Before the first whole span an event is judged by its gap alone.
+        self.measure.judged += len(gaps) - len(values)
+        if values:
+            sides = [[gap - minimum for gap in gaps[-len(values) :]]] if minimum else []
+            sides += [[value - length for value in values]] if length else []
+            margins: Sequence[int | None] = list(map(min, *sides)) if len(sides) == 2 else sides[0] if sides else [None] * len(values)
+            self.measure.add_with(values, margins, given[first:], lambda at: place(event, at + first))
+        for at in range(max(len(given) - self.span, 0), len(given)):
+            self.last.append((given[at], place(event, at)))
+        return True
 
     def take(self, time: int, place: int) -> None:
         if self.last:
@@ -85,9 +102,9 @@ TYPE = RowType(
     asks="""The event maximum places after another one comes at least length after it, so that any stretch shorter than
         length has at most maximum events. Neighbouring events are at least minimum apart. Silence and the close do not
         break the row.""",
-    manual="""any time shorter than length has at most maximum events, and neighbours are at least minimum apart.
-        Silence breaks nothing.""",
-    measures="distance over maximum places; the least distance of neighbours counts in the margin", each="each event but the first",
+    manual="""any stretch of time shorter than length has at most maximum events. Neighbouring events are at least
+        minimum apart. Silence does not break the row.""",
+    measures="distance over maximum places; the margin also counts the least distance of neighbours", each="each event but the first",
     reason=reason, forget=forget, windows=windows, measuring=Bursts, instance=("event", 1),
     example=("burst", "fault maximum 3, length 50 ms, minimum 2 ms",
              {"fault": "10 14 18 62 66 70 74"}),

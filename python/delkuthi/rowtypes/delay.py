@@ -120,9 +120,9 @@ TYPE = RowType(
         answer several sources, and extra targets do no harm. A source without a target breaks the row once the clock is
         past s + upper, and at the close. Without an upper limit the target may come at any later time, and only the close
         breaks the row.""",
-    manual="""after each source a target comes, from lower to upper later. One target may answer several sources, and
-        extra targets do no harm.""",
-    measures="latency: to the first target that is not too early", each="each source",
+    manual="""each source is followed by a target that comes lower to upper later. One target may answer several
+        sources. Extra targets do no harm.""",
+    measures="latency: from each source to the first target that is not too early", each="each source",
     reason=reason, forget=forget, windows=windows, measuring=Delays, instance=("source", 0), waits=True,
     beginning=Beginning(_began),
     example=("delay", "pedal -> light, 2 ms .. 20 ms",

@@ -214,8 +214,8 @@ TYPE = RowType(
         resume, and it is lower to upper. The row breaks at an event out of this order, as soon as the running time up to
         the clock is more than upper, at a preempt after which no time is left to run, and at a close between a start and
         its stop.""",
-    manual="""the time from each start to its stop, without the time from each preempt to its resume, is lower to
-        upper. An event that is not allowed next breaks the row too.""",
+    manual="""the time from each start to its stop, without the time from each preempt to its resume, lies
+        between lower and upper. An event out of sequence also breaks the row.""",
     measures="running time", each="each run",
     reason=reason, forget=forget, windows=windows, measuring=Executions, instance=("start", 0), pending=pending,
     beginning=Beginning(_began, _run),

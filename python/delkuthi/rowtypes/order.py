@@ -2,7 +2,7 @@
 from __future__ import annotations
 
 from collections import Counter
-from typing import TYPE_CHECKING, Callable, Iterator, Mapping
+from typing import TYPE_CHECKING, Callable, Iterator
 
 from ..beginnings import Beginning
 from ..fields import RowType
@@ -14,7 +14,7 @@ if TYPE_CHECKING:
 
 
 def reason(case: Case) -> Reason | None:
-    """The first pair that is the wrong way round, or whoever has no partner."""
+    """Returns the first pair that is the wrong way round, or the event that has no partner."""
     source, target = case.number("source"), case.number("target")
     sources, targets = case.times("source"), case.times("target")
     for index, (begin, end) in enumerate(zip(sources, targets)):
@@ -56,8 +56,9 @@ class Lags(Pairs):
     def margin(self, value: int, lower: int) -> int | None:
         return value
 
-    def take_all(self, times: Mapping[int, list[int]], place: Callable[[int, int], int]) -> bool:
-        return False
+    def add_all(self, values: list[int], ends: list[int], place: Callable[[int], int]) -> bool:
+        self.measure.add_with(values, values, ends, place)
+        return True
 
 
 TYPE = RowType(
@@ -66,7 +67,7 @@ TYPE = RowType(
     means="Each source has its own target, in order, and none comes before its source.",
     asks="""The first target belongs to the first source, the second to the second, and so on, and no target comes before
         its source. A source may wait for its target until the close.""",
-    manual="""the first target belongs to the first source, the second to the second, and so on, and none comes before
+    manual="""the first target belongs to the first source, the second to the second, and so on. No target comes before
         its source. A source may wait for its target until the end of the recording.""",
     measures="lag from each source to its target", each="each pair",
     reason=reason, forget=forget, windows=windows, measuring=Lags, instance=("source", 0), pending=pending,

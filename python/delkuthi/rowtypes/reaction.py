@@ -142,9 +142,9 @@ TYPE = RowType(
         stimuli and no response breaks the row once the clock is past its first stimulus + maximum, as soon as no time is
         left that suits all its stimuli, and at the close.""",
     manual="""each stimulus needs a response of its colour. The first response of that colour in the whole recording
-        comes minimum to maximum after it. So a request that is repeated in one colour breaks the row: in the picture
-        the second `ask/1` finds the answer to the first, which came long before it. Give each request its own colour,
-        0 to 7, or take a Delay or a StrongDelay, where each request has its own answer.""",
+        comes minimum to maximum after it. A request that is repeated in one colour therefore breaks the row. In the
+        picture the second `ask/1` finds the answer to the first, which came long before it. Give each request its own colour,
+        0 to 7, or use a Delay or a StrongDelay, where each request has its own answer.""",
     measures="latency: from each stimulus to the first response of its colour in the whole recording", each="each stimulus",
     reason=reason, forget=forget, windows=windows, measuring=Reactions, instance=("stimulus", 0), words=16, pending=pending,
     beginning=Beginning(_began),

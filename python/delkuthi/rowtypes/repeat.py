@@ -87,9 +87,9 @@ TYPE = RowType(
     asks="""In any span + 1 consecutive events, the last comes lower to upper after the first. Silence counts from the
         first event on: the row breaks once the clock is past (the oldest event that has none span places after it) + upper.
         Without an upper limit silence does not break the row. The close does not break it either.""",
-    manual="""the event span places after another comes from lower to upper after it. A signal that stops breaks the
-        row too, once upper is over.""",
-    measures="distance over the span", each="each event span places after another",
+    manual="""each event is followed, span places later, by an event that comes lower to upper after it. A signal that
+        stops also breaks the row, once upper has passed.""",
+    measures="distance over the span", each="each event that comes span places after another",
     reason=reason, forget=forget, windows=windows, measuring=Spans, instance=("event", "span"),
     example=("repeat", "speed span 1, 9 ms .. 11 ms",
              {"speed": "5 15 24 34 46"}),

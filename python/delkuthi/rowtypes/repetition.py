@@ -103,9 +103,9 @@ TYPE = RowType(
     asks="""Each event comes 0 to jitter after its own hidden point. The points are at least 0 and increase, and a point is
         lower to upper after the one span places before it. An event for which there is no such point breaks the row; the
         first span events never do. Silence and the close do not break the row.""",
-    manual="""each event is 0 to jitter after its own point. Points increase, and each is lower to upper after the
-        point span places before it. Silence breaks nothing.""",
-    measures="distance over the span", each="each event span places after another",
+    manual="""each event is 0 to jitter after its own point. Points increase. Each point is lower to upper after the
+        point that is span places before it. Silence does not break the row.""",
+    measures="distance over the span", each="each event that comes span places after another",
     reason=reason, forget=forget, windows=windows, measuring=Repetitions, instance=("event", "span"),
     example=("rhythm", "beat span 2, 40 ms .. 40 ms, jitter 4 ms",
              {"beat": "10 32 52 70 101"}),

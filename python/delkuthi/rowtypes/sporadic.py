@@ -134,7 +134,7 @@ TYPE = RowType(
     manual="""each event is 0 to jitter after its own point, and neighbouring points are lower to upper apart.
         Neighbouring events are at least minimum apart. With lower = upper it is a periodic signal with jitter, whose
         clock may not drift.""",
-    measures="gap to the event before", each="each event but the first",
+    measures="gap to the previous event", each="each event but the first",
     reason=reason, forget=forget, windows=windows, measuring=Gaps, instance=("event", 1),
     example=("sporadic", "camera, 20 ms .. 20 ms, jitter 5 ms, minimum 12 ms",
              {"camera": "7 25 48 65 93"}),

@@ -17,7 +17,7 @@ if TYPE_CHECKING:
 
 
 def reason(case: Case) -> Reason | None:
-    """The first pair that is wrong, or whoever has no partner."""
+    """Returns the first pair that is wrong, or the event that has no partner."""
     source, target = case.number("source"), case.number("target")
     lower, upper = case.number("lower"), case.number("upper")
     sources, targets = case.times("source"), case.times("target")
@@ -112,13 +112,17 @@ class Pairs(RowMeasuring):
         if given is None or self.early is not None:
             return False
         values = list(map(sub, targets, given))
-        if values and not self.measure.add_all(values, self.lower or 0, self.upper, targets, lambda at: place(target, at)):
+        if values and not self.add_all(values, targets, lambda at: place(target, at)):
             return False
         if targets and self.waiting:
             self.waiting.pop()
         if len(given) > len(targets) and sources:
             self.waiting.append(sources[-1], place(source, len(sources) - 1))
         return True
+
+    def add_all(self, values: list[int], ends: list[int], place: Callable[[int], int]) -> bool:
+        """Adds pairs, if none of them is outside."""
+        return self.measure.add_all(values, self.lower or 0, self.upper, ends, place)
 
     def end(self, clock: int, closed: bool) -> None:
         self._settle(clock + (1 if closed or self.lower else 0))
@@ -133,9 +137,9 @@ TYPE = RowType(
     asks="""The first target belongs to the first source, the second to the second, and so on, and each comes lower to
         upper after its source. A target that is too early, or one too many, breaks the row at once. A source without its
         target breaks it as in a Delay.""",
-    manual="""the first target belongs to the first source, the second to the second, and so on. Each comes from lower
-        to upper after its source. A target that is too early, or one target too many, breaks the row at once.""",
-    measures="latency: from the first source to the first target, the second to the second, and so on", each="each pair",
+    manual="""the first target belongs to the first source, the second to the second, and so on. Each target comes
+        lower to upper after its source. A target that is too early, or one target too many, breaks the row at once.""",
+    measures="latency: from the first source to the first target, from the second to the second, and so on", each="each pair",
     reason=reason, forget=forget, windows=windows, measuring=Pairs, instance=("source", 0), waits=True,
     beginning=Beginning(_began),
     example=("strong delay", "request -> reply, 5 ms .. 20 ms",

@@ -118,8 +118,8 @@ TYPE = RowType(
     means="The i-th events of the kinds, 2 to 4 of them, are at most `tolerance` apart.",
     asks="""The first events of all the kinds are at most tolerance apart, and so are the second, the third, and so on. A
         group that lacks a kind breaks the row once the clock is past its first event + tolerance, and at the close.""",
-    manual="""the first events of all kinds are at most tolerance apart. So are the second events, the third, and so
-        on. A group that lacks a kind breaks the row once tolerance is over.""",
+    manual="""the first events of all kinds are at most tolerance apart. So are the second events, the third events, and so
+        on. A group that lacks a kind breaks the row once tolerance has passed.""",
     measures="width: from the first event of a group to the last", each="each group",
     reason=reason, forget=forget, windows=windows, measuring=Groups, instance=("kinds", 0), waits=True,
     beginning=Beginning(_began, _groups),

@@ -170,9 +170,9 @@ TYPE = RowType(
         past it + tolerance, and at the close.""",
     manual="""each event lies in a window of length tolerance in which every kind has an event. Unlike a
         StrongSynchronization it does not count events: a kind may have several events in a window, and one event may
-        lie in two windows. An event in no such window breaks the row once tolerance is over.""",
-    measures="width of the shortest stretch with an event of every kind that the event lies in; the greatest is the least tolerance that "
-             "would do", each="each event",
+        lie in two windows. An event in no such window breaks the row once tolerance has passed.""",
+    measures="width of the shortest stretch that contains the event and an event of every kind; the greatest is the least tolerance "
+             "that would be enough", each="each event",
     reason=reason, forget=forget, windows=windows, measuring=Widths, instance=("kinds", 0), edition=2, pending=pending,
     beginning=Beginning(lone=_lone),
     example=("fusion", "radar lidar video, tolerance 5 ms",

@@ -16,7 +16,7 @@ begins-first events t all begins = (
   λ i h. begins .1 i (omega (arith, length-append events (t ∷ []))) ∙ at-left events (t ∷ []) i h,
 )
 
--- an event that is so many places later is at least so much later
+-- an event that is n places later is at least n later
 later-by : (events : List ℕ) → Rising events → (i j : ℕ) → i < j → j < length events → at events i + (j - i) ≤ at events j
 later-by events rising i j h b =
     let same : at events (i + (j - i)) ≡ at events j = ap (at events) (omega arith) in

@@ -158,7 +158,7 @@ module _ (parameters : Parameters) where
       abbrev pub newHigh : ℕ
       newHigh = highestPoint parameters (points kept) (firstHigh kept t) t
 
-      -- no sum is so large that it stops
+      -- no sum reaches the limit
       sum-high : newHigh ≡ min t (firstHigh kept t + (parameters .upper - parameters .span) + points kept)
       sum-high = omega arith
 

@@ -1,4 +1,4 @@
--- Each call has a function of its own.
+-- Each call has its own function.
 use Rattle.delkuthi.proofs.Names.{needs, takes-of}
 use Rattle.delkuthi.proofs.records.take.Statement.{statement}
 use Rattle.delkuthi.proofs.records.take.Tie as tie

@@ -1,4 +1,4 @@
--- A table that is written is so short that 256 times its length is a number of 64 bits; the number of a refusal says its row.
+-- A written table is short enough for 256 times its length to fit in 64 bits. The number of a refusal gives its row.
 use Rattle.delkuthi.proofs.Names.{arith, needs, now}
 use Rattle.delkuthi.proofs.{Refusals.makes-refused, Refusals.makes-written, Refusals.raw-short, tables.make_table.Statement.statement}
 use Rattle.delkuthi.proofs.tables.make_table.Tie as tie

@@ -1,4 +1,4 @@
--- The questions are put first; the kind of one that is answered has rows of its own.
+-- The questions come first. An event whose questions are answered "yes" goes to the rows of its kind.
 use Rattle.in_place.proofs.Names.{Call, arith, needs, now}
 use Rattle.in_place.proofs.{RefusalOrder.refused-stores, RefusalOrder.taken-stores, calls.event.Statement.statement}
 use Rattle.in_place.proofs.calls.event.Tie as tie

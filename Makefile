@@ -44,6 +44,7 @@ help:
 	@echo "make uninstall   removes what make install has installed"
 	@echo "make wheel       a wheel of the package in python/ with the shared library in it, in $(BUILD)/"
 	@echo "make dist        the release: a folder and a tarball in $(BUILD)/, of a commit on which the gate passed; UNCHECKED=yes without a gate"
+	@echo "                 PORTS=yes also for aarch64 Linux and x86-64 Windows, tested and not proved; INSTALL=--install installs the packages"
 	@echo "make sign        signs the checksums of the release: KEY=file with a key of minisign, or KEY=name of a key of gpg"
 	@echo "make portable    the sources as one no_std crate of Rust for other machines, in $(BUILD)/portable"
 	@echo "make kit         the qualification kit: vectors made by the model, and a runner in C for any machine, in $(BUILD)/kit"
@@ -207,6 +208,7 @@ dist:
 	rm -rf $(BUILD)/dist
 	$(MAKE) --no-print-directory install DESTDIR=$(BUILD)/dist PREFIX=/tree PC_PREFIX='$$$${pcfiledir}/../..'
 	python3 release/dist.py make $(BUILD) $(if $(UNCHECKED),unchecked)
+	$(if $(PORTS),BUILD=$(BUILD) bash release/port-binaries $(INSTALL))
 
 # Signs the checksums that make dist has left beside the tarballs.
 sign:

@@ -1,7 +1,8 @@
 """Builds the wheel of this package with nothing but Python itself, so that ``pip install`` needs no network.
 
 It offers what pip asks of a build backend: ``build_wheel`` and ``build_sdist``. As a program, ``backend.py FOLDER LIBRARY``, it writes a
-wheel that carries the shared library, for machines like this one.
+wheel that carries the shared library, for machines like this one. With a platform and a build tag behind them, as ``win_amd64
+0_tested_not_proved``, the wheel is for other machines.
 """
 import base64
 import hashlib
@@ -62,7 +63,9 @@ def _files(tag: str, library: Path | None) -> Iterator[tuple[str, bytes]]:
     for path in _sources():
         yield f"delkuthi/{path.relative_to(PACKAGE)}", path.read_bytes()
     if library is not None:
-        yield f"delkuthi/libdelkuthi.so.{_version().rsplit('.', 1)[0]}", library.read_bytes()
+        interface = _version().rsplit(".", 1)[0]
+        name = f"delkuthi-{interface}.dll" if library.suffix == ".dll" else f"libdelkuthi.so.{interface}"
+        yield f"delkuthi/{name}", library.read_bytes()
     for name in LICENCES:
         yield f"{info}/{name}", (BESIDE / name).read_bytes()
     for path in _examples():
@@ -75,9 +78,9 @@ def _files(tag: str, library: Path | None) -> Iterator[tuple[str, bytes]]:
     yield f"{info}/entry_points.txt", "\n".join([*lines, ""]).encode()
 
 
-def _wheel(folder: str, tag: str, library: Path | None = None) -> str:
+def _wheel(folder: str, tag: str, library: Path | None = None, build: str = "") -> str:
     """Writes a wheel, the same to the byte whenever it is made of the same files, and answers its name."""
-    name, record = f"delkuthi-{_version()}-{tag}.whl", ""
+    name, record = f"delkuthi-{_version()}-{build and build + '-'}{tag}.whl", ""
     with zipfile.ZipFile(Path(folder) / name, "w", zipfile.ZIP_DEFLATED) as wheel:
         for place, data in _files(tag, library):
             wheel.writestr(zipfile.ZipInfo(place), data, zipfile.ZIP_DEFLATED)
@@ -93,10 +96,10 @@ def build_wheel(wheel_directory: str, config_settings: object = None, metadata_d
     return _wheel(wheel_directory, "py3-none-any")
 
 
-def platform_wheel(folder: str, library: str) -> str:
+def platform_wheel(folder: str, library: str, machine: str = "", build: str = "") -> str:
     """Writes the wheel that carries the shared library, and answers its name."""
-    machine = sysconfig.get_platform().replace("-", "_").replace(".", "_")
-    return _wheel(folder, f"py3-none-{machine}", Path(library))
+    machine = machine or sysconfig.get_platform().replace("-", "_").replace(".", "_")
+    return _wheel(folder, f"py3-none-{machine}", Path(library), build)
 
 
 def build_sdist(sdist_directory: str, config_settings: object = None) -> str:
@@ -115,4 +118,4 @@ def build_sdist(sdist_directory: str, config_settings: object = None) -> str:
 
 
 if __name__ == "__main__":
-    print(Path(sys.argv[1]) / platform_wheel(*sys.argv[1:3]))
+    print(Path(sys.argv[1]) / platform_wheel(*sys.argv[1:5]))

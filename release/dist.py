@@ -3,6 +3,9 @@
 
     dist.py check BUILD [unchecked]   is there a gate that passed on this commit? If not, says why and ends with status 1
     dist.py make BUILD [unchecked]    makes the release
+    dist.py port BUILD FOLDER MACHINE EMULATOR ARCHIVE SHARED COMPILER
+                                      finishes the release for another machine, of which port-binaries has compiled the parts and
+                                      run the qualification kit; the last lines that it said are given
 
 The release has the installed files, the portable crate, the sources, a manifest, a list of parts in the form of SPDX, and checksums. The
 tarball's bytes depend on the commit and the archive alone: times are those of the commit, owners are none, files are in the order of their
@@ -157,13 +160,13 @@ def spdx_file(number, path, folder):
             f"Relationship: SPDXRef-Delkuthi CONTAINS SPDXRef-File-{number}\n\n")
 
 
-def spdx(version, created, archive, folder):
+def spdx(version, created, kit, folder, template="delkuthi.spdx.in"):
     """Returns the list of parts: every file of the release but this list and the checksums, what is linked in, and what built it."""
     delivered = [path for path in files(folder) if not path.is_symlink()]
     listed = "".join(spdx_file(number, path, folder) for number, path in enumerate(delivered))
     verified = hashlib.sha1("".join(sorted(digest(path, "sha1") for path in delivered)).encode()).hexdigest()
-    text = (ROOT / "release/delkuthi.spdx.in").read_text(encoding="utf-8")
-    values = {"VERSION": version, "CREATED": created, "KIT": archive.kits[0], "FILES": listed, "LICENSE": (ROOT / "LICENSE").read_text(),
+    text = (ROOT / "release" / template).read_text(encoding="utf-8")
+    values = {"VERSION": version, "CREATED": created, "KIT": kit, "FILES": listed, "LICENSE": (ROOT / "LICENSE").read_text(),
               "NAME": folder.name, "VERIFIED": verified, "UUID": str(uuid.uuid5(uuid.NAMESPACE_URL, version + verified))}
     return re.sub(r"@([A-Z]+)@", lambda found: values[found[1]], text)
 
@@ -200,10 +203,38 @@ def pack(folder, time):
     return name
 
 
+def date(time):
+    """A time as SPDX has it."""
+    return datetime.fromtimestamp(time, timezone.utc).strftime("%Y-%m-%dT%H:%M:%SZ")
+
+
+def packed_with_sums(folder, time):
+    """Writes the checksums of a folder and packs it."""
+    sums = "".join(f"{digest(path)}  {path.relative_to(folder)}\n" for path in files(folder) if not path.is_symlink())
+    (folder / "SHA256SUMS").write_text(sums, encoding="utf-8")
+    return pack(folder, time)
+
+
+def port(build, folder, machine, emulator, archive, shared, compiler):
+    """Finishes the release for another machine, and adds the checksum of its tarball to the file that is signed."""
+    version, (of_commit, time) = (ROOT / "VERSION").read_text().strip(), commit()
+    values = {"VERSION": version, "MACHINE": machine, "EMULATOR": emulator, "ARCHIVE": archive, "SHARED": shared, "COMMIT": of_commit,
+              "COMPILER": compiler}
+    text = (ROOT / "release/PORT.md.in").read_text(encoding="utf-8")
+    (folder / "README.md").write_text(re.sub(r"@([A-Z]+)@", lambda found: values[found[1]], text), encoding="utf-8")
+    for name in ("LICENSE", "NOTICE"):
+        shutil.copy(ROOT / name, folder / name)
+    (folder / "delkuthi.spdx").write_text(spdx(version, date(time), compiler, folder, "port.spdx.in"), encoding="utf-8")
+    packed = packed_with_sums(folder, time)
+    with (build / f"delkuthi-{version}.sha256").open("a", encoding="utf-8") as sums:
+        sums.write(f"{digest(packed)}  {packed.name}\n")
+    print(f"{digest(packed)}  {packed}")
+
+
 def make(build, gate, of_commit, time):
     """The release: the folder, the tarball, and beside it what the gate said."""
     version = (ROOT / "VERSION").read_text().strip()
-    created = datetime.fromtimestamp(time, timezone.utc).strftime("%Y-%m-%dT%H:%M:%SZ")
+    created = date(time)
     folder = build / f"delkuthi-{version}-x86_64-linux"
     shutil.rmtree(folder, ignore_errors=True)
     shutil.move(build / "dist/tree", folder)
@@ -219,10 +250,8 @@ def make(build, gate, of_commit, time):
         shutil.copy(ROOT / name, folder / name)
     (folder / "README.md").write_text((ROOT / "release/README.md.in").read_text(encoding="utf-8").replace("@VERSION@", version), encoding="utf-8")
     (folder / "MANIFEST.md").write_text(manifest(version, of_commit, archive, folder, gate.opening()), encoding="utf-8")
-    (folder / "delkuthi.spdx").write_text(spdx(version, created, archive, folder), encoding="utf-8")
-    sums = "".join(f"{digest(path)}  {path.relative_to(folder)}\n" for path in files(folder) if not path.is_symlink())
-    (folder / "SHA256SUMS").write_text(sums, encoding="utf-8")
-    packed = pack(folder, time)
+    (folder / "delkuthi.spdx").write_text(spdx(version, created, archive.kits[0], folder), encoding="utf-8")
+    packed = packed_with_sums(folder, time)
     folder.with_name(f"{folder.name}.gate.txt").write_text(gate.text(of_commit), encoding="utf-8")
     for missing in placeholders():
         print(f"dist.py: not filled in by the seller: {missing}", file=sys.stderr)
@@ -232,6 +261,9 @@ def make(build, gate, of_commit, time):
 
 def main():
     words = sys.argv[1:]
+    if len(words) == 8 and words[0] == "port":
+        port(Path(words[1]).resolve(), Path(words[2]).resolve(), *words[3:])
+        return
     if len(words) not in (2, 3) or words[0] not in ("check", "make") or words[2:] not in ([], ["unchecked"]):
         sys.exit("dist.py check|make BUILD [unchecked]")
     of_commit, time = commit()

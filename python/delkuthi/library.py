@@ -117,7 +117,7 @@ def candidates() -> Iterator[str]:
     The folder that ``DELKUTHI_LIB`` names, alone if it is set; else what a wheel has brought along, what the linker finds, the
     folder beside Python's own, ``/usr/local/lib``, and the ``build`` folder of a checkout.
     """
-    name = f"libdelkuthi.so.{INTERFACE}"
+    name = f"delkuthi-{INTERFACE}.dll" if sys.platform == "win32" else f"libdelkuthi.so.{INTERFACE}"
     folder = os.environ.get("DELKUTHI_LIB")
     if folder:
         yield str(Path(folder) / name)

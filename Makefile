@@ -23,11 +23,12 @@ SHARED    := libdelkuthi.so.$(VERSION)
 CMAKE     := $(BUILD)/delkuthi-config.cmake $(BUILD)/delkuthi-config-version.cmake
 LIBRARY   := $(BUILD)/libdelkuthi.a $(BUILD)/$(SHARED) $(BUILD)/delkuthi.pc $(CMAKE)
 HEADERS   := $(wildcard include/*.h include/*.hpp)
-DOCUMENTS := CHANGELOG.md LICENSE NOTICE docs/CONTRACT.md docs/DATASHEET.md docs/SAFETY.md docs/MISRA.md $(BUILD)/TRACE.md
+DOCUMENTS := CHANGELOG.md LICENSE NOTICE docs/CONTRACT.md docs/DATASHEET.md docs/SAFETY.md docs/QUALIFICATION.md docs/SUPPORT.md docs/MISRA.md \
+    $(BUILD)/TRACE.md
 MANUALS   := $(BUILD)/delkuthi.1 $(BUILD)/delkuthi.3
 EXAMPLES  := $(addprefix host/c/,bench_loop.c report.c file.c file.h) examples/table.bin examples/recording.bin
 
-.PHONY: all lib program install install-lib install-dev uninstall clean help test test-python test-ports kit run bench count worst portable trace dist wheel always
+.PHONY: all lib program install install-lib install-dev uninstall clean help test test-python test-ports kit run bench count worst portable trace dist sign wheel always
 
 all: lib program
 lib: $(LIBRARY)
@@ -43,6 +44,7 @@ help:
 	@echo "make uninstall   removes what make install has installed"
 	@echo "make wheel       a wheel of the package in python/ with the shared library in it, in $(BUILD)/"
 	@echo "make dist        the release: a folder and a tarball in $(BUILD)/, of a commit on which the gate passed; UNCHECKED=yes without a gate"
+	@echo "make sign        signs the checksums of the release: KEY=file with a key of minisign, or KEY=name of a key of gpg"
 	@echo "make portable    the sources as one no_std crate of Rust for other machines, in $(BUILD)/portable"
 	@echo "make kit         the qualification kit: vectors made by the model, and a runner in C for any machine, in $(BUILD)/kit"
 	@echo "make trace       TRACE.md, from each promise of the contract to its definition, theorem, function and tests"
@@ -205,3 +207,7 @@ dist:
 	rm -rf $(BUILD)/dist
 	$(MAKE) --no-print-directory install DESTDIR=$(BUILD)/dist PREFIX=/tree PC_PREFIX='$$$${pcfiledir}/../..'
 	python3 release/dist.py make $(BUILD) $(if $(UNCHECKED),unchecked)
+
+# Signs the checksums that make dist has left beside the tarballs.
+sign:
+	@bash release/sign "$(KEY)" $(BUILD)/delkuthi-$(VERSION).sha256

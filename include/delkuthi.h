@@ -152,6 +152,7 @@
  *
  * THE TABLE
  *
+ * begin table: made by release/row-types.py
  * A table is one byte, its version, followed by the rows. The first row is row
  * 0. The version is 1 or 2 (EDITIONS below). Each row is a length field of two
  * bytes, then its type and its fields in as many bytes as the length field
@@ -181,6 +182,7 @@
  *
  * Type 11 requires edition 2.
  *
+ * end table
  * A host need not count these bytes. A function for each type makes a row from
  * its fields, and delkuthi_make_table_2 writes the table. A Delay and an
  * Order:
@@ -222,6 +224,7 @@
  * Limits include their ends. CONTRACT.md has the special cases and examples of
  * each type, from clause 5.1 on.
  *
+ * begin rows: made by release/row-types.py
  *   1 Delay       For each source, at time s, a target comes at s + lower or
  *                 later and at s + upper or earlier. One target may answer
  *                 several sources, and extra targets do no harm. A source
@@ -291,6 +294,7 @@
  *                 type 7 it does not count events. An event that lies in no
  *                 full window breaks the row once the clock is past
  *                 it + tolerance, and at the close.
+ * end rows
  *
  *
  * A BENCH LOOP
@@ -429,12 +433,16 @@ extern "C" {
 #define DELKUTHI_MONITOR_STACK 1024
 #define DELKUTHI_STEP_STACK    1024
 
+/* begin no limit: made by release/row-types.py */
 /* The upper of a Delay, Repeat or Sporadic that has no upper limit. */
 #define DELKUTHI_NO_LIMIT UINT64_C(18446744073709551615)
+/* end no limit */
 
 /* The newest edition of the table, and the last type that the first has. */
 #define DELKUTHI_NEWEST_EDITION 2
+/* begin first edition: made by release/row-types.py */
 #define DELKUTHI_FIRST_EDITION_TYPES 10
+/* end first edition */
 
 /*
  * A monitor: 35,840 bytes, aligned as a uint64_t. Put it on the stack, in
@@ -665,6 +673,7 @@ static inline delkuthi_row delkuthi_row_time(delkuthi_row row, size_t place,
 }
 
 /* A function for each type. */
+/* begin makers: made by release/row-types.py */
 
 static inline delkuthi_row delkuthi_delay(uint8_t source, uint8_t target,
                                           uint64_t lower, uint64_t upper)
@@ -773,6 +782,7 @@ static inline delkuthi_row delkuthi_synchronization(
     return delkuthi_row_time(row, 2 + i, tolerance);
 }
 
+/* end makers */
 /* The table writer; rows_size is in bytes. Call delkuthi_make_table instead. */
 DELKUTHI_CHECKED DELKUTHI_NONNULL
 uint64_t delkuthi_table(const delkuthi_row *rows, size_t rows_size,

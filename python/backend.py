@@ -103,7 +103,7 @@ def build_sdist(sdist_directory: str, config_settings: object = None) -> str:
     """Writes the sources and answers the name of the archive."""
     base = f"delkuthi-{_version()}"
     with tarfile.open(Path(sdist_directory) / f"{base}.tar.gz", "w:gz", dereference=True) as archive:
-        for path in [HERE / "pyproject.toml", HERE / "backend.py", HERE / "README.md", *_sources()]:
+        for path in [HERE / "pyproject.toml", HERE / "backend.py", HERE / "README.md", HERE / "TUTORIAL.md", *sorted((HERE / "editors").iterdir()), *_sources()]:
             archive.add(path, f"{base}/{path.relative_to(HERE)}")
         for path in [*(BESIDE / name for name in LICENCES), *_examples()]:
             archive.add(path, f"{base}/{path.relative_to(BESIDE)}")

@@ -6,7 +6,7 @@
 
 The release has the installed files, the portable crate, the sources, a manifest, a list of parts in the form of SPDX, and checksums. The
 tarball's bytes depend on the commit and the archive alone: times are those of the commit, owners are none, files are in the order of their
-names. How many tests the gate passed and how long it took is in a file beside the tarball.
+names. How many tests the gate passed and how long it took is in a file beside the tarball, and so is its checksum, for `make sign`.
 
 A commit on which the gate failed or was not run is refused. With `unchecked` the release is made all the same, and the first line of its
 manifest says so.
@@ -115,28 +115,56 @@ def declared(function):
     sys.exit(f"dist.py: no crate declares {function}, which is in the archive")
 
 
+def placeholders():
+    """Returns what only the seller can say and has not said: the list at the end of docs/SUPPORT.md."""
+    return re.findall(r"^\| `(\[SELLER:[^`]*\])` \|", (ROOT / "docs/SUPPORT.md").read_text(encoding="utf-8"), re.M)
+
+
+def to_fill_in():
+    """The part of the manifest about what the seller has not said."""
+    missing = placeholders()
+    if not missing:
+        return ""
+    return f"\n**NOT FILLED IN BY THE SELLER ({len(missing)}):** {', '.join(f'`{one}`' for one in missing)}. See docs/SUPPORT.md.\n"
+
+
 def manifest(version, of_commit, archive, tree, opening):
     """What is in the release, which proof is behind which function, and how to check it all again."""
     rows = [(f"`{name}`", str(size), *declared(name)) for name, size in sorted(archive.functions)]
     table = "".join(f"| {name} | {size} | {place} | {contract} |\n" for name, size, place, contract in rows)
     text = (ROOT / "release/MANIFEST.md.in").read_text(encoding="utf-8")
-    values = {"VERSION": version, "COMMIT": of_commit, "KIT": archive.kits[0], "OPENING": opening, "FUNCTIONS": table,
+    values = {"VERSION": version, "COMMIT": of_commit, "KIT": archive.kits[0], "OPENING": opening + "\n" + to_fill_in(), "FUNCTIONS": table,
               "OBJECTS": ", ".join(archive.objects), "ARCHIVE": digest(tree / "lib/libdelkuthi.a"),
               "SHARED": digest(tree / f"lib/libdelkuthi.so.{version}"), "BYTES": str(sum(size for _, size in archive.functions)),
               "NEEDED": ", ".join(f"`{name}`" for name in sorted(archive.needed))}
     return re.sub(r"@([A-Z]+)@", lambda found: values[found[1]], text)
 
 
-def spdx(version, created, archive, tree):
-    """Returns the list of parts: what is delivered, what is linked in, and what built it."""
-    delivered = [path for path in files(tree) if not path.is_symlink() and path.parts[len(tree.parts)] in ("bin", "lib", "include")]
-    listed = "".join(f"FileName: ./{path.relative_to(tree)}\nSPDXID: SPDXRef-File-{number}\nFileChecksum: SHA1: {digest(path, 'sha1')}\n"
-                     f"FileChecksum: SHA256: {digest(path)}\nLicenseConcluded: LicenseRef-Delkuthi\nLicenseInfoInFile: NOASSERTION\n"
-                     "FileCopyrightText: NOASSERTION\n\n" for number, path in enumerate(delivered))
+def file_type(path):
+    """The sort of a file, as SPDX has it."""
+    sorts = {".a": "ARCHIVE", ".whl": "ARCHIVE", ".md": "DOCUMENTATION", ".c": "SOURCE", ".h": "SOURCE", ".hpp": "SOURCE", ".rs": "SOURCE",
+             ".rt": "SOURCE", ".antt": "SOURCE", ".py": "SOURCE", ".txt": "TEXT"}
+    if path.suffix in sorts:
+        return sorts[path.suffix]
+    return "BINARY" if b"\0" in path.read_bytes() else "TEXT"
+
+
+def spdx_file(number, path, folder):
+    """The part of the list about one file."""
+    return (f"FileName: ./{path.relative_to(folder)}\nSPDXID: SPDXRef-File-{number}\nFileType: {file_type(path)}\n"
+            f"FileChecksum: SHA1: {digest(path, 'sha1')}\nFileChecksum: SHA256: {digest(path)}\nLicenseConcluded: LicenseRef-Delkuthi\n"
+            "LicenseInfoInFile: NOASSERTION\nFileCopyrightText: NOASSERTION\n"
+            f"Relationship: SPDXRef-Delkuthi CONTAINS SPDXRef-File-{number}\n\n")
+
+
+def spdx(version, created, archive, folder):
+    """Returns the list of parts: every file of the release but this list and the checksums, what is linked in, and what built it."""
+    delivered = [path for path in files(folder) if not path.is_symlink()]
+    listed = "".join(spdx_file(number, path, folder) for number, path in enumerate(delivered))
     verified = hashlib.sha1("".join(sorted(digest(path, "sha1") for path in delivered)).encode()).hexdigest()
     text = (ROOT / "release/delkuthi.spdx.in").read_text(encoding="utf-8")
     values = {"VERSION": version, "CREATED": created, "KIT": archive.kits[0], "FILES": listed, "LICENSE": (ROOT / "LICENSE").read_text(),
-              "VERIFIED": verified, "UUID": str(uuid.uuid5(uuid.NAMESPACE_URL, version + verified))}
+              "NAME": folder.name, "VERIFIED": verified, "UUID": str(uuid.uuid5(uuid.NAMESPACE_URL, version + verified))}
     return re.sub(r"@([A-Z]+)@", lambda found: values[found[1]], text)
 
 
@@ -190,12 +218,15 @@ def make(build, gate, of_commit, time):
     for name in ("LICENSE", "NOTICE"):
         shutil.copy(ROOT / name, folder / name)
     (folder / "README.md").write_text((ROOT / "release/README.md.in").read_text(encoding="utf-8").replace("@VERSION@", version), encoding="utf-8")
-    (folder / "delkuthi.spdx").write_text(spdx(version, created, archive, folder), encoding="utf-8")
     (folder / "MANIFEST.md").write_text(manifest(version, of_commit, archive, folder, gate.opening()), encoding="utf-8")
+    (folder / "delkuthi.spdx").write_text(spdx(version, created, archive, folder), encoding="utf-8")
     sums = "".join(f"{digest(path)}  {path.relative_to(folder)}\n" for path in files(folder) if not path.is_symlink())
     (folder / "SHA256SUMS").write_text(sums, encoding="utf-8")
     packed = pack(folder, time)
     folder.with_name(f"{folder.name}.gate.txt").write_text(gate.text(of_commit), encoding="utf-8")
+    for missing in placeholders():
+        print(f"dist.py: not filled in by the seller: {missing}", file=sys.stderr)
+    (build / f"delkuthi-{version}.sha256").write_text(f"{digest(packed)}  {packed.name}\n", encoding="utf-8")
     print(f"{digest(packed)}  {packed}")
 
 

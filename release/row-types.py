@@ -4,9 +4,9 @@
     row-types.py            says which parts differ from the list, and what a type still lacks; status 1 where there is such
     row-types.py --write    writes the parts
 
-The list is python/delkuthi/rowtypes, a file for each type. Each part stands between two texts of its file: in code from a comment that says so to
-the end of the list, in documents and in the header between what stands around it. What a type lacks is written by hand: its section of the contract,
-its file in the model, its example.
+The list is python/delkuthi/rowtypes, a file for each type. Each part of a file stands between two comments, `begin NAME: made by
+release/row-types.py` and `end NAME`. The files of examples/rows and some proofs are made whole. What a type lacks is written by hand: its section of
+the contract, its file in the model, its example.
 """
 import re
 import sys
@@ -15,10 +15,10 @@ from os.path import commonprefix
 sys.dont_write_bytecode = True
 import row_definitions
 import row_machines
-from row_list import END, LISTED, MADE, ROOT, TYPES, declared, having, length, listed, names, one, small, snake, text_of, wrapped
+from row_list import MADE, ROOT, TYPES, declared, having, length, listed, names, one, small, snake, text_of, wrapped
 from delkuthi.fields import MOST
 from delkuthi.library import NEWEST_EDITION
-from delkuthi.text import form_lines
+from delkuthi.text import grammar
 
 
 def counted():
@@ -55,9 +55,9 @@ def contract():
     return first + second + "| type | name | fields | length | edition |\n|---|---|---|---|---|\n" + "".join(lines) + "\n" + third + fourth
 
 
-def grammar():
-    """The lines of the grammar that have the types."""
-    return "".join(f"    {line}\n" for line in form_lines(TYPES))
+def manual_grammar():
+    """The grammar of text tables, as a block of code."""
+    return "".join(f"    {line}\n" if line else "\n" for line in grammar().splitlines())
 
 
 def asked():
@@ -70,7 +70,7 @@ def asked():
 
 
 def measured():
-    return "".join(f"| {t.name} | {t.measures} | {t.each} |\n" for t in TYPES)
+    return "| type | what it measures | an instance |\n|---|---|---|\n" + "".join(f"| {t.name} | {t.measures} | {t.each} |\n" for t in TYPES)
 
 
 # Examples.
@@ -203,6 +203,11 @@ def rust_arm(indent, pattern, value):
     return line if len(line) <= 121 else f"{indent}{pattern} => {{\n{indent}    {value}\n{indent}}}\n"
 
 
+def rust_match(indent, value, arm):
+    """A match over the types. Its closing brace is a part of it, as rustfmt puts a comment behind the last arm's."""
+    return f"{' ' * indent}match *{value} {{\n{''.join(map(arm, TYPES))}{' ' * indent}}}\n"
+
+
 def rust_rows():
     """The variants of a row."""
     fields = {t.name: ", ".join(declared(t, "{name}: {size}", "kinds: &'a [u8]")) for t in TYPES}
@@ -220,7 +225,7 @@ def rust_bodies():
                  "bytes[2..2 + n].copy_from_slice(&kinds[..n]);", f"body(&bytes[..2 + n], &[{', '.join(times)}])")
         return f"{indent}{pattern} => {{\n" + "".join(f"{indent}    {line}\n" for line in lines) + f"{indent}}}\n"
 
-    return "".join(map(arm, TYPES))
+    return rust_match(8, "self", arm)
 
 
 def rust_checks():
@@ -230,7 +235,7 @@ def rust_checks():
         pattern = f"Constraint::{row_type.name}(types::{row_type.name} {{ {fields.replace('kinds', 'ref kinds')} }})"
         return rust_arm(" " * 8, pattern, f"Row::{row_type.name} {{ {fields} }}")
 
-    return "".join(map(arm, TYPES))
+    return rust_match(4, "row", arm)
 
 
 def model_modules():
@@ -247,27 +252,28 @@ def model_list():
     return "".join(f"    {t.number} => {t.name} from {t.edition},\n" for t in TYPES)
 
 
-# A file, the two texts between which a part stands, and what makes the part; without a first text it begins with the file, without a last it ends so.
+FIRST_EDITION = "/// The last type that the first edition of the table has.\nconst FIRST_EDITION_TYPES: u8 = {};\n"
+# A file, the name of the part, and what makes it; a part without a name is the whole file.
 PARTS = (
-    ("docs/CONTRACT.md", "order of §4.5.\n\n", "**4.8** ", contract),
-    ("python/README.md", "    form:\n", "    A kind is an event's name", grammar),
-    ("python/README.md", "type in full, with its corner cases.\n\n", "## What a verdict says\n", asked),
-    ("python/README.md", "| type | what it measures | an instance |\n|---|---|---|\n", "\n`outside`", measured),
-    ("include/delkuthi.h", " * THE TABLE\n *\n", " * A host need not count", header_table),
-    ("include/delkuthi.h", " * each type, from clause 5.1 on.\n *\n", " *\n *\n * A BENCH LOOP", header_asks),
-    ("include/delkuthi.h", "DELKUTHI_STEP_STACK    1024\n\n", "#define DELKUTHI_NO_LIMIT", lambda: f"/* {limited()} */\n"),
-    ("include/delkuthi.h", "/* A function for each type. */\n", "/* The table writer;", lambda: "\n" + "".join(map(c_maker, TYPES))),
-    ("examples/rows/rows.txt", "", "", example_rows),
-    ("examples/rows/rows.csv", "", "", example_log),
-    ("include/delkuthi.h", "DELKUTHI_NEWEST_EDITION 2\n", "\n", lambda: f"#define DELKUTHI_FIRST_EDITION_TYPES {last_type()}"),
-    ("host/c/make_table.c", f"    /* {LISTED} */\n", "    }\n}\n", c_cases),
-    ("host/delkuthi/src/table.rs", "TABLE_LIMIT: usize = 1153;\n", "pub const NO_LIMIT", lambda: f"/// {limited()}\n"),
-    ("host/delkuthi/src/table.rs", "edition of the table has.\n", "\n\n", lambda: f"const FIRST_EDITION_TYPES: u8 = {last_type()};"),
-    ("host/delkuthi/src/table.rs", f"pub enum Row<'a> {{\n    // {LISTED}\n", "}\n\n", rust_rows),
-    ("host/delkuthi/src/table.rs", f"            // {LISTED}\n", "        }\n    }\n}\n", rust_bodies),
-    ("host/checks/src/rows.rs", f"        // {LISTED}\n", "    }\n}\n", rust_checks),
-    ("host/model/src/types.rs", f"// {MADE}\n\n", f"\n// {END}\n", model_modules),
-    ("host/model/src/types.rs", f"row_types! {{\n    // {LISTED}\n", "}\n", model_list),
+    ("docs/CONTRACT.md", "types", contract),
+    ("python/README.md", "grammar", manual_grammar),
+    ("python/README.md", "rows", asked),
+    ("python/README.md", "measures", measured),
+    ("include/delkuthi.h", "table", header_table),
+    ("include/delkuthi.h", "rows", header_asks),
+    ("include/delkuthi.h", "no limit", lambda: f"/* {limited()} */\n#define DELKUTHI_NO_LIMIT UINT64_C(18446744073709551615)\n"),
+    ("include/delkuthi.h", "first edition", lambda: f"#define DELKUTHI_FIRST_EDITION_TYPES {last_type()}\n"),
+    ("include/delkuthi.h", "makers", lambda: "".join(map(c_maker, TYPES))),
+    ("examples/rows/rows.txt", "", example_rows),
+    ("examples/rows/rows.csv", "", example_log),
+    ("host/c/make_table.c", "cases", c_cases),
+    ("host/delkuthi/src/table.rs", "no limit", lambda: f"/// {limited()}\npub const NO_LIMIT: u64 = u64::MAX;\n"),
+    ("host/delkuthi/src/table.rs", "first edition", lambda: FIRST_EDITION.format(last_type())),
+    ("host/delkuthi/src/table.rs", "rows", rust_rows),
+    ("host/delkuthi/src/table.rs", "bodies", rust_bodies),
+    ("host/checks/src/rows.rs", "rows", rust_checks),
+    ("host/model/src/types.rs", "modules", model_modules),
+    ("host/model/src/types.rs", "list", model_list),
 )
 PARTS += row_definitions.PARTS + row_machines.PARTS
 
@@ -286,6 +292,34 @@ def lacking(row_type):
     return [f"{path}: lacks {' '.join(text.split())}" for path, text in wanted if text not in text_of(path)]
 
 
+def found(text, name):
+    """The text before a part, the part, and the text after it. Blank lines beside the markers belong to what stands around the part."""
+    if not name:
+        return "", text, ""
+    begin, end = (rf"^[^\w\n]*{words}[^\w\n]*\n" for words in (rf"begin {name}: {re.escape(MADE)}", f"end {name}"))
+    places = list(re.finditer(rf"({begin}\n*)(.*?)(\n*{end})", text, re.M | re.S))
+    if len(places) != 1:
+        return None
+    return text[:places[0].end(1)], places[0][2], text[places[0].start(3):]
+
+
+def updated(path, name, made, write):
+    """Writes a part, or says that it differs."""
+    parts = found(text_of(path), name)
+    if not parts:
+        return [f"{path}: there is no part {name!r}, or several: from a comment `begin {name}: {MADE}` to a comment `end {name}`"]
+    before, part, after = parts
+    made = made.strip("\n") if name else made
+    if part == made:
+        return []
+    if write:
+        (ROOT / path).parent.mkdir(parents=True, exist_ok=True)
+        (ROOT / path).write_text(before + made + after, encoding="utf-8")
+        return []
+    line = (before + part[:len(commonprefix([part, made]))]).count("\n") + 1
+    return [f"{path}:{line}: not what the list of types says: release/row-types.py --write"]
+
+
 def main():
     if sys.argv[1:] not in ([], ["--write"]):
         print(__doc__, file=sys.stderr)
@@ -295,19 +329,8 @@ def main():
         wrong.append("python/delkuthi/rowtypes: the numbers of the types are not 1, 2, 3 and so on")
     if sorted(editions := [row_type.edition for row_type in TYPES]) != editions or not set(editions) <= set(range(1, NEWEST_EDITION + 1)):
         wrong.append(f"python/delkuthi/rowtypes: the editions of the types do not rise with their numbers, from 1 to {NEWEST_EDITION}")
-    for path, first, last, make in PARTS:
-        before, begin, rest = text_of(path).partition(first) if first else ("", "", text_of(path))
-        part, end, after = rest.partition(last) if last else (rest, "", "")
-        made = make()
-        if begin != first or end != last or first and first in rest:
-            wrong.append(f"{path}: there is no part, or several, from {first.strip()!r} to {last.strip()!r}")
-        elif part != made and sys.argv[1:]:
-            (ROOT / path).parent.mkdir(parents=True, exist_ok=True)
-            (ROOT / path).write_text(before + begin + made + end + after, encoding="utf-8")
-        elif part != made:
-            same = len(commonprefix([part, made]))
-            line = (before + begin + part[:same]).count("\n") + 1
-            wrong.append(f"{path}:{line}: not what the list of types says: release/row-types.py --write")
+    for path, name, make in PARTS:
+        wrong += updated(path, name, make(), bool(sys.argv[1:]))
     print("\n".join(wrong), end="\n" if wrong else "")
     return 1 if wrong else 0
 

@@ -4,7 +4,7 @@ from functools import partial
 from pathlib import Path
 from typing import NamedTuple
 
-from row_list import END, LISTED, MADE, ROOT, TYPES, length, one, snake, text_of, wrapped
+from row_list import MADE, ROOT, TYPES, length, one, snake, text_of, wrapped
 
 #: The kinds of a type that has an n: how many there may be, and their names.
 NUMBERS, KINDS = (2, 3, 4), ("first", "second", "third", "fourth")
@@ -28,7 +28,7 @@ class Value(NamedTuple):
 
 
 class Variant(NamedTuple):
-    """A variant of the enum: a type, or one with so many kinds; n is 0 where the type has no n."""
+    """A variant of the enum: a type, or a type with n kinds. n is 0 if the type has no n."""
 
     number: int
     name: str
@@ -72,7 +72,7 @@ PLAIN = [row_type for row_type in TYPES if row_type is not COUNTED[0]]
 # Code.
 
 def padded(values, size):
-    """An array of so many, with 0 where there is no value."""
+    """An array of this size, with 0 where there is no value."""
     return f"[{', '.join([*values, *['0'] * (size - len(values))])}]"
 
 
@@ -214,7 +214,7 @@ def places(one, first=0):
 
 
 def chosen(tests, values):
-    """The first value whose test is so, or the last."""
+    """The first value whose test is true, or else the last."""
     made = "".join(f"    {'(' * (i > 0)}cond ({test}) {value}\n" for i, (test, value) in enumerate(zip(tests, values)))
     return f"{made}    {values[-1]}{')' * (len(tests) - 1)}\n"
 
@@ -260,7 +260,7 @@ def tests_proof(crate, function, defined, row_types):
         return need, f"{need} : tie.Need-{need}\n{need} c = rw ({', '.join(found)})\n\n"
 
     laws = list(map(law, range(1, count + 1)))
-    return f"""-- The tests are those of `{defined}`, in its order. Made by release/row-types.py.
+    return f"""-- The tests are those of `{defined}`, in its order; {MADE}
 use borrow.Author.Tests.{{eq-eqb, ne-eqb}}
 use {module}.Statement.{{statement}}
 use {module}.Tie as tie
@@ -273,6 +273,12 @@ use {module}.Tie as tie
 def type_names():
     """The names in bytes, a line for each."""
     return "".join(f"    -- {t.number} {t.name}\n    ∷ ({' ∷ '.join([*map(str, t.name.encode()), '[]'])})\n" for t in TYPES)
+
+
+def length_unknown():
+    """That no number past the lengths has one: it is not the number of a type with an n either."""
+    tests = "".join(f", ne-eqb t {row_type.number} (λ e. omega arith)" for row_type in COUNTED)
+    return f"length-unknown t n past = rw (List·getD-eq-default lengths 0 {{n = t}} past{tests})\n"
 
 
 def nothing_waits():
@@ -383,7 +389,7 @@ def read_proof():
     cited = broken(f"    ∙ sym (read-group (a\0.tag) (a\0.t2) (a\0.t3) {' '.join(others)})")
     arms = [f"    (λ c. c .{dashed(t)}-read .ensures ∙ rw (c .before .match .keys{i}))\n" if t in COUNTED else f"    (λ c. rw (c .match .keys{i}))\n"
             for i, t in enumerate(PLAIN, 1)]
-    return f"""-- The type byte says which row it is. Made by release/row-types.py.
+    return f"""-- The type byte says which row it is; {MADE}
 use mathlib.Core.Path.{{sym, _∙_}}
 use borrow.Author.Needs.{{needs}}
 use Rattle.constraint.specs.Types.{{rowRead}}
@@ -411,7 +417,7 @@ def group_proof(row_type):
     name, read = f"{dashed(row_type)}-read", group_name(row_type)
     module = f"Rattle.constraint.proofs.{snake(row_type)}_read"
     needs = " ".join(["(λ c. search needs)"] * 5)
-    return f"""-- The n says which row it is. Made by release/row-types.py.
+    return f"""-- The n says which row it is; {MADE}
 use borrow.Author.Needs.{{needs}}
 use borrow.Author.Tests.{{ne-eqb}}
 use Rattle.constraint.specs.Types.{{{read}}}
@@ -447,7 +453,7 @@ def coloured_waits():
 def page_names():
     """The names as a page has them."""
     names = ["Unknown", *(row_type.name for row_type in TYPES)]
-    return f"const NAMES: [[u8; 24]; {len(names)}] = [\n" + "".join(f'    *b"{name:24}",\n' for name in names)
+    return f"const NAMES: [[u8; 24]; {len(names)}] = [\n" + "".join(f'    *b"{name:24}",\n' for name in names) + "];\n"
 
 
 def machine_names():
@@ -512,56 +518,50 @@ def modules(path, folder):
 MODULES = {"src/lib.rt": "src", "specs/Lib.antt": "specs", "proofs/Lib.antt": "proofs", "proofs/Laws.antt": "proofs/Laws"}
 EXAMPLES = "crates/examples/proofs/Examples.antt"
 WAITING = [row_type for row_type in TYPES if row_type.waits]
-DECLARED = "use Rattle.constraint.specs.declared.Constraint.{Constraint}\n"
-#: Of a law of every row: what stands before its arms.
-ARMS = f"-- {LISTED}\n"
-PARTS = tuple((f"crates/constraint/{path}", first, last, make) for path, first, last, make in (
-    ("src/lib.rt", "ghost use Rattle.constraint.specs.Types.{", "rowRead", lambda: "".join(f"{group_name(t)}, " for t in COUNTED)),
-    ("src/lib.rt", f"pub enum Constraint {{\n    // {LISTED}\n", "}\n\n", enum),
-    ("src/lib.rt", f"type byte and the roles of its fields.\n// {MADE}\n", f"// {END}\n", lines),
-    ("src/lib.rt", "to a type's with an n its n is added.\n", "\n\n", code_lengths),
-    ("src/lib.rt", "edition of the table, by its version byte.\n", "\n\n", code_last_types),
-    ("src/lib.rt", "λ r. ⌜ r ≡ takesCount tag ⌝ }\n{\n", "}\n", lambda: f"    {code_tests(COUNTED)}\n"),
-    ("src/lib.rt", f"}}\n\n// {MADE}\n\n", f"// {END}\n", group_reads),
-    ("src/lib.rt", f"        match tag {{\n            // {LISTED}\n", "        }\n", code_read),
-    ("src/lib.rt", f"        match self {{\n            // {LISTED}\n", "        }\n", code_fields),
-    ("specs/Types.antt", "use mathlib.Core.Bool.{Bool, ", "cond}\n", lambda: "_||_, " * (len(COUNTED) > 1)),
-    ("specs/Types.antt", DECLARED, "\n-- ", variant_names),
-    ("specs/Types.antt", f"typeLine : Constraint → ℕ × List Field\n{ARMS}", "\n-- ", lambda: "".join(map(type_line, VARIANTS))),
-    ("specs/Types.antt", f"-- {MADE}\n\n", f"-- {END}\n", groups_read),
-    ("specs/Types.antt", f"rowRead : ℕ → List ℕ → List ℕ → Constraint\n{ARMS}", "\n-- ", row_read),
-    ("specs/Types.antt", "abbrev pub lengths : List ℕ\n", "\n\n", lambda: f"lengths = {' ∷ '.join([*plain_lengths(), '[]'])}"),
-    ("specs/Types.antt", "abbrev pub lastTypes : List ℕ\n", "\n\n", lambda: f"lastTypes = {' ∷ '.join([*last_types(), '[]'])}"),
-    ("specs/Types.antt", "takesCount t = ", "\n", lambda: tests(COUNTED, "t")),
-    ("specs/Types.antt", f"    {ARMS}    unknownName\n", "    ∷ []\n", type_names),
-    ("specs/Waiting.antt", DECLARED, "\n-- ", variant_names),
-    ("specs/Waiting.antt", ARMS, "", nothing_waits),
-    ("specs/Meets.antt", DECLARED, "\n-- ", variant_names),
-    ("proofs/Types.antt", "and a row and its number and values say the same.\n" + ARMS, "use Prim", law_modules),
-    ("proofs/Types.antt", "proofs.Lawful.{Lawful}\n", "\n-- ----", law_names),
-    ("proofs/Types.antt", f"pub lawful : (c : Constraint) → Lawful c\n{ARMS}", "\n-- ", lawful),
-    ("proofs/Types.antt", f"pub regular : (c : Constraint) → Regular c\n{ARMS}", "\n-- ", regular),
-    ("proofs/Types.antt", f"-- ---- from numbers\n\n-- {MADE}\n\n", f"\n-- {END}\n", read_group),
-    ("proofs/Lengths.antt", "length-unknown t n past = rw (List·getD-eq-default lengths 0 {n = t} past", ")\n\n",
-     lambda: "".join(f", ne-eqb t {row_type.number} (λ e. omega arith)" for row_type in COUNTED)),
-    ("proofs/Types.antt", f"  -- {MADE}\n\n", f"  -- {END}\n", groups_back),
-    ("proofs/Types.antt", f"  read-back t known several =\n      {ARMS}", "", read_back),
-    ("proofs/Constraint/fields/Proof.antt", "    (tie.spec\n", "", fields_proof),
-    ("proofs/Constraint/read/Proof.antt", "", "", read_proof),
-    *((f"proofs/{snake(row_type)}_read/Proof.antt", "", "", partial(group_proof, row_type)) for row_type in COUNTED),
-    *([("proofs/takes_count/Proof.antt", "", "", lambda: tests_proof("constraint", "takes_count", "takesCount", COUNTED))] * (len(COUNTED) > 1)),
+PARTS = tuple((f"crates/constraint/{path}", name, make) for path, name, make in (
+    ("src/lib.rt", "imports", lambda: f"ghost use Rattle.constraint.specs.Types.{{{', '.join(map(group_name, COUNTED))}}};\n"),
+    ("src/lib.rt", "variants", enum),
+    ("src/lib.rt", "lines", lines),
+    ("src/lib.rt", "lengths", code_lengths),
+    ("src/lib.rt", "last types", code_last_types),
+    ("src/lib.rt", "types with an n", lambda: f"    {code_tests(COUNTED)}\n"),
+    ("src/lib.rt", "groups", group_reads),
+    ("src/lib.rt", "read", code_read),
+    ("src/lib.rt", "fields", code_fields),
+    ("specs/Types.antt", "imports", variant_names),
+    ("specs/Types.antt", "lines", lambda: "".join(map(type_line, VARIANTS))),
+    ("specs/Types.antt", "groups", groups_read),
+    ("specs/Types.antt", "read", row_read),
+    ("specs/Types.antt", "lengths", lambda: f"lengths = {' ∷ '.join([*plain_lengths(), '[]'])}\n"),
+    ("specs/Types.antt", "last types", lambda: f"lastTypes = {' ∷ '.join([*last_types(), '[]'])}\n"),
+    ("specs/Types.antt", "types with an n", lambda: f"takesCount t = {tests(COUNTED, 't')}\n"),
+    ("specs/Types.antt", "names", type_names),
+    ("specs/Waiting.antt", "imports", variant_names),
+    ("specs/Waiting.antt", "nothing waits", nothing_waits),
+    ("specs/Meets.antt", "imports", variant_names),
+    ("proofs/Types.antt", "modules", law_modules),
+    ("proofs/Types.antt", "imports", law_names),
+    ("proofs/Types.antt", "lawful", lawful),
+    ("proofs/Types.antt", "regular", regular),
+    ("proofs/Types.antt", "read group", read_group),
+    ("proofs/Types.antt", "groups", groups_back),
+    ("proofs/Types.antt", "read back", read_back),
+    ("proofs/Lengths.antt", "length unknown", length_unknown),
+    ("proofs/Constraint/fields/Proof.antt", "fields", fields_proof),
+    ("proofs/Constraint/read/Proof.antt", "", read_proof),
+    *((f"proofs/{snake(row_type)}_read/Proof.antt", "", partial(group_proof, row_type)) for row_type in COUNTED),
+    *([("proofs/takes_count/Proof.antt", "", lambda: tests_proof("constraint", "takes_count", "takesCount", COUNTED))] * (len(COUNTED) > 1)),
 ))
 PARTS += (
-    (EXAMPLES, "use Rattle.examples.specs.Vectors.{crowdedRows, crowdedCalls, crowdedAnswers}\n", "\n-- ----", example_names),
-    (EXAMPLES, f"-- {MADE}\n\n", f"\n-- {END}\n", examples_computed),
-    (EXAMPLES, "(all-computed .0)\n", "\n-- ---- a table of two rows", examples_hold),
-    ("crates/page/src/lib.rt", "left-aligned in 24. 0 is no type's number.\n", "];\n", page_names),
-    ("crates/row_type/specs/Parameters.antt", "waitsIn tag = ", "\n", lambda: tests(WAITING, "tag")),
-    ("crates/queries/src/lib.rt", "λ r. ⌜ r ≡ waitsIn tag ⌝ }\n{\n", "}\n", lambda: f"    {code_tests(WAITING)}\n"),
-    ("crates/queries/proofs/waits_in/Proof.antt", "", "", lambda: tests_proof("queries", "waits_in", "waitsIn", WAITING)),
-    ("crates/queries/proofs/Coloured.antt", DECLARED.replace("·specs.specs", ".specs"), "use Rattle.constraint.proofs.",
-     lambda: variant_names("Rattle.constraint.specs")),
-    ("crates/queries/proofs/Coloured.antt", f"  unfolding KindsSuit waiting\n  {ARMS}", "\n-- ----", coloured_waits),
-    *((f"crates/{crate}/{path}", "", "", partial(modules, f"crates/{crate}/{path}", f"crates/{crate}/{folder}"))
+    (EXAMPLES, "imports", example_names),
+    (EXAMPLES, "computed", examples_computed),
+    (EXAMPLES, "hold", examples_hold),
+    ("crates/page/src/lib.rt", "names", page_names),
+    ("crates/row_type/specs/Parameters.antt", "waits in", lambda: f"waitsIn tag = {tests(WAITING, 'tag')}\n"),
+    ("crates/queries/src/lib.rt", "waits in", lambda: f"    {code_tests(WAITING)}\n"),
+    ("crates/queries/proofs/waits_in/Proof.antt", "", lambda: tests_proof("queries", "waits_in", "waitsIn", WAITING)),
+    ("crates/queries/proofs/Coloured.antt", "imports", lambda: variant_names("Rattle.constraint.specs")),
+    ("crates/queries/proofs/Coloured.antt", "coloured waits", coloured_waits),
+    *((f"crates/{crate}/{path}", "", partial(modules, f"crates/{crate}/{path}", f"crates/{crate}/{folder}"))
       for crate in type_crates() for path, folder in MODULES.items()),
 )

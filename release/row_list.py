@@ -10,7 +10,8 @@ sys.path.insert(0, str(ROOT / "python"))
 from delkuthi.fields import SIZES
 from delkuthi.rowtypes import TYPES
 
-MADE, LISTED, END = "Made by release/row-types.py.", "Made by release/row-types.py, to the end of the list.", "End of what is made."
+#: What a begin marker says after the name of its part. A proof that is made whole says it in its first line.
+MADE = "made by release/row-types.py"
 
 
 def text_of(path):

@@ -3,11 +3,10 @@ import re
 from functools import partial
 from typing import NamedTuple
 
-from row_list import END, LISTED, MADE, ROOT, TYPES, text_of
+from row_list import MADE, ROOT, TYPES, text_of
 
 #: The kinds of a type that has an n.
 KINDS = ("first", "second", "third", "fourth")
-TO_THE_END = "Made by release/row-types.py, to the end of the file."
 
 
 class Machine(NamedTuple):
@@ -71,12 +70,18 @@ def words(nothing, tag):
     return made
 
 
+def few_words():
+    """That these words fit in a row."""
+    few = words("(omega arith)", "few-by (eqb (parameters .tag) {type.number}) {type.words} _ (omega arith) {rest}")
+    return f"words-few parameters = {few}\n"
+
+
 # Code.
 
 def arms(value, other):
     """The arms of a match over the numbers of the types."""
     made = [f"        {' | '.join(map(str, machine.numbers))} => {value(machine)},\n" for machine in MACHINES]
-    return "".join(made) + f"        _ => {other},\n    }}\n}}\n"
+    return "".join(made) + f"        _ => {other},\n"
 
 
 def change():
@@ -107,7 +112,7 @@ def uses():
 
 def words_code():
     made = "".join(f"    if parameters.tag == {t.number} {{\n        return {t.words};\n    }}\n" for t in TYPES if t.words)
-    return made + "    0\n}\n"
+    return made + "    0\n"
 
 
 # Proofs.
@@ -131,7 +136,7 @@ def words_proof():
         return f"rw ({', '.join([*left, *[f'eq-eqb _ _ (c .if{place} .taken)'] * (place <= count)])})"
 
     returns = " ".join(numbered("returns", place) for place in range(1, count + 2))
-    return f"""-- The tests are those of `startWordCount`, in its order. {MADE}
+    return f"""-- The tests are those of `startWordCount`, in its order; {MADE}
 use borrow.Author.Tests.{{eq-eqb, ne-eqb}}
 use Rattle.row_type.proofs.from_constraint.start_word_count.Statement.{{statement}}
 use Rattle.row_type.proofs.from_constraint.start_word_count.Tie as tie
@@ -259,25 +264,23 @@ def filled_by_proof():
 MACHINE_NAMES = partial(imports, "use Rattle.{crate}.specs.{name}.{{machine{name}}}\n")
 STORED, PROOF = "crates/row/src/stored.rt", "crates/row/proofs/stored/{}/Proof.antt"
 PARTS = (
-    ("crates/row_type/specs/Parameters.antt", "startWordCount parameters = ", "\n",
-     lambda: words("0", "cond (eqb (parameters .tag) {type.number}) {type.words} {rest}")),
-    ("crates/row_type/proofs/FitsRow.antt", "words-few parameters = ", "\n",
-     lambda: words("(omega arith)", "few-by (eqb (parameters .tag) {type.number}) {type.words} _ (omega arith) {rest}")),
-    ("crates/row_type/src/from_constraint.rt", f"    // {LISTED}\n", "", words_code),
-    ("crates/row_type/proofs/from_constraint/start_word_count/Proof.antt", "", "", words_proof),
-    ("crates/row/specs/Machine.antt", f"-- {MADE}\n", "\n-- ", MACHINE_NAMES),
-    ("crates/row/specs/Machine.antt", "abbrev pub machines : List Machine\n", "\n-- ", machines),
-    (STORED, f"// {MADE}\n", f"// {END}\n", uses),
-    (STORED, f"    let tag = row[1][row_words::TYPE_TAG];\n    match tag {{\n        // {LISTED}\n", "\n// ", change),
-    (STORED, f"    let tag = w[row_words::TYPE_TAG];\n    match tag {{\n        // {LISTED}\n", "\n// ", overflows),
-    (STORED, f"≡ slotsUsedBy tag span len ⌝ }}\n{{\n    match tag {{\n        // {LISTED}\n", "\n// ", slots_used_by_type),
-    ("crates/row/proofs/Machines.antt", f"-- {MADE}\n", "\n-- ",
-     partial(imports, "use Rattle.{crate}.proofs.Laws.{name}.{{fits{name}}}\n")),
-    ("crates/row/proofs/Machines.antt", f"-- {TO_THE_END}\n", "", fitting),
-    ("crates/row/proofs/EveryType.antt", f"-- {MADE}\n", "\npub every-type-exact", engine_imports),
-    ("crates/row/proofs/EveryType.antt", f"-- {TO_THE_END}\n", "", engine_arms),
-    *((PROOF.format(name), f"-- {MADE}\n", "\n-- ", MACHINE_NAMES) for name in ("apply_by_type", "overflows", "slots_used_by_type")),
-    (PROOF.format("apply_by_type"), f"-- {TO_THE_END}\n\n", "", change_proof),
-    (PROOF.format("overflows"), f"-- {TO_THE_END}\n\n", "", fills_proof),
-    (PROOF.format("slots_used_by_type"), f"-- {TO_THE_END}\n\n", "", filled_by_proof),
+    ("crates/row_type/specs/Parameters.antt", "start words",
+     lambda: f"startWordCount parameters = {words('0', 'cond (eqb (parameters .tag) {type.number}) {type.words} {rest}')}\n"),
+    ("crates/row_type/proofs/FitsRow.antt", "start words", few_words),
+    ("crates/row_type/src/from_constraint.rt", "start words", words_code),
+    ("crates/row_type/proofs/from_constraint/start_word_count/Proof.antt", "", words_proof),
+    ("crates/row/specs/Machine.antt", "imports", MACHINE_NAMES),
+    ("crates/row/specs/Machine.antt", "machines", machines),
+    (STORED, "imports", uses),
+    (STORED, "apply", change),
+    (STORED, "overflows", overflows),
+    (STORED, "slots used", slots_used_by_type),
+    ("crates/row/proofs/Machines.antt", "imports", partial(imports, "use Rattle.{crate}.proofs.Laws.{name}.{{fits{name}}}\n")),
+    ("crates/row/proofs/Machines.antt", "fits", fitting),
+    ("crates/row/proofs/EveryType.antt", "imports", engine_imports),
+    ("crates/row/proofs/EveryType.antt", "exact", engine_arms),
+    *((PROOF.format(name), "imports", MACHINE_NAMES) for name in ("apply_by_type", "overflows", "slots_used_by_type")),
+    (PROOF.format("apply_by_type"), "arms", change_proof),
+    (PROOF.format("overflows"), "arms", fills_proof),
+    (PROOF.format("slots_used_by_type"), "arms", filled_by_proof),
 )

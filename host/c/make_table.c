@@ -16,7 +16,7 @@
 static delkuthi_row row_of(unsigned type, const uint8_t *b, const uint64_t *t)
 {
     switch (type) {
-    /* Made by release/row-types.py, to the end of the list. */
+    /* begin cases: made by release/row-types.py */
     case 1:
         return delkuthi_delay(b[0], b[1], t[0], t[1]);
     case 2:
@@ -39,6 +39,7 @@ static delkuthi_row row_of(unsigned type, const uint8_t *b, const uint64_t *t)
         return delkuthi_repetition(b[0], b[1], t[0], t[1], t[2]);
     default:
         return delkuthi_synchronization(b + 1, b[0], t[0]);
+    /* end cases */
     }
 }
 

@@ -23,7 +23,7 @@ if TYPE_CHECKING:
 #: The code of a line that is no event of the table.
 OTHER = 255
 _WHOLE = re.compile(rb"[+-]?[0-9]{1,40}")
-#: So many bytes of a log are looked at together.
+#: The number of bytes of a log that are looked at together.
 BLOCK = 1 << 17
 
 
@@ -46,7 +46,7 @@ class Batch(NamedTuple):
         return len(self.codes) if self.places is None else self.places[-1] - self.place + 1
 
     def moved(self, places: int) -> Batch:
-        """The same lines so many places further on."""
+        """The same lines, a number of places further on."""
         return Batch(self.times, self.codes, self.place + places, None if self.places is None else [place + places for place in self.places])
 
 

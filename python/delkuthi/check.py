@@ -35,7 +35,7 @@ IDLE = ", never exercised"
 UNEXERCISED = f"kept{IDLE}"
 #: What a row reads that is not broken, in a log that is cut.
 SO_FAR = "kept so far"
-#: So many steps are given to the monitor before its rows are asked.
+#: The number of steps that the monitor takes before its rows are asked.
 CHUNK = 1024
 _SIGNAL, _PAIR = itemgetter(0), itemgetter(0, 1)
 
@@ -353,7 +353,7 @@ def _verdict(row: Row, found: Run, number: int, why: Explanation | None) -> RowV
 
 
 def _check_scoped(table: Table, log: Log, outcome: Outcome, bar: Progress, measured: bool, violations: str | None) -> _Checked:
-    """A log that is cut, or a table with windows: each row by monitors of its own."""
+    """A log that is cut, or a table with windows: each row has its own monitors."""
     close, scope = log.policy.close, log.policy.scope
     judging = Judging(table, scope, close, log.at, lambda: log.time_format)
     with bar(log):

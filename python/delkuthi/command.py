@@ -46,7 +46,7 @@ from .violations import suffix_of, write_violations
 from .writing import NotWritten, complain, give_up_output, out, write
 
 KEPT, BROKEN, REFUSED, NOT_WRITTEN, INTERRUPTED = 0, 1, 2, 3, 130
-#: A log of so many bytes takes long enough for a progress bar.
+#: The size in bytes from which a log gets a progress bar.
 BAR_FROM = 4_000_000
 
 _EXAMPLES = """\
@@ -59,6 +59,9 @@ examples:
   delkuthi check brake.txt drive.csv --from ignition_on --to +90s --violations all.csv
   delkuthi check tasks.txt trace.btf --trace out.json   a scheduler trace; a file for Perfetto
   delkuthi check brake.txt logs/*.blf --jobs 4 --junit result.xml --exercised
+  delkuthi check brake.txt drive.blf --keep results/drive.json   keep the result; delkuthi merge results reports on all of them
+  delkuthi compare old new --table brake.txt --fail-on broken,shrunk   two folders of logs, of two builds
+  delkuthi propose drive.log -o brake.txt               a table to begin with, from what the log shows
   delkuthi watch brake.txt socketcan:can0               checks a live bus and reports a broken row at once
   delkuthi table brake.txt -o table.bin                 text to the bytes that the library reads, and back
   delkuthi check timing.arxml trace.btf                 AUTOSAR timing requirements on a scheduler trace
@@ -159,7 +162,7 @@ def _write_outputs(given: argparse.Namespace, table: Table, how: Policy, outcome
 
 
 def _check_one(given: argparse.Namespace, how: Policy, path: str | list[str], spool: str | None) -> Outcome:
-    """One of many logs, in a process of its own."""
+    """Checks one of many logs, in a separate process."""
     return check(read_table(given), path, how, exercised=given.exercised, measured=_measured(given), violations=spool)
 
 

@@ -10,7 +10,7 @@ from typing import Any, Callable, Mapping
 from .writing import out
 
 SHELLS = ("bash", "zsh", "fish")
-_COMMAND = re.compile(r"^    ([a-z]+) +(\S.*(?:\n {20,}\S.*)*)$", re.MULTILINE)
+_COMMAND = re.compile(r"^    ([a-z]+)(?: +|\n {8,})(\S.*(?:\n {8,}\S.*)*)$", re.MULTILINE)
 _OPTION = re.compile(r"^  (-.*?)(?:  .*)?$", re.MULTILINE)
 
 

@@ -94,7 +94,7 @@ def _silence() -> Iterator[None]:
 def _matrices(path: str) -> list[Any]:
     """What canmatrix reads in a file."""
     with open(path, "rb"):
-        pass  # a file that cannot be opened is an OSError of its own
+        pass  # a file that cannot be opened raises its OSError here
     with warnings.catch_warnings(), _silence():
         warnings.simplefilter("ignore")
         try:

@@ -15,9 +15,9 @@ from .time_format import TimeFormat
 
 #: What is said where no reason is found.
 UNKNOWN = "nothing that could still come would meet it"
-#: So many events of a signal are looked at while an answer to a broken row is awaited.
+#: The largest number of events of a signal that are looked at while an answer to a broken row is awaited.
 WAITED_FOR = 4096
-#: After so many events more than were needed a row forgets what it can.
+#: A row forgets what it can after this many events more than it needs.
 FORGET_AFTER = 64
 
 
@@ -40,7 +40,7 @@ class RowHistory:
         self._more = FORGET_AFTER
 
     def copy(self) -> RowHistory:
-        """A history of its own that goes on from here."""
+        """Returns an independent history that continues from here."""
         other: RowHistory = object.__new__(RowHistory)
         other.__dict__.update(self.__dict__)
         events = {signal: Events(list(some.times), list(some.places)) for signal, some in self._case.events.items()}

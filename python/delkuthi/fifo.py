@@ -6,7 +6,7 @@ import tempfile
 from collections import deque
 from typing import IO, Iterator
 
-#: So many entries are held in memory.
+#: The largest number of entries in memory.
 KEPT = 4096
 _ENTRY = struct.Struct("<qq")
 
@@ -47,7 +47,7 @@ class Fifo:
         return found
 
     def _refill(self) -> None:
-        """The next entries of the file; an empty file begins anew."""
+        """The next entries of the file. An empty file starts again from its beginning."""
         assert self._file is not None
         number = min(self._stored, KEPT)
         self._file.seek(self._read)

@@ -1,7 +1,7 @@
 """Runs of different instances of a task, an interrupt routine or a runnable, kept apart where they overlap.
 
 An ExecutionTime row takes one run at a time. Where a trace has several instances of what such a row names at once, each goes to a lane of its
-own, the lowest that is free; each lane has a row of its own in the table that is checked, and the row reads what they read together.
+own, the lowest that is free; each lane has its own row in the table that is checked, and the row reads what they read together.
 """
 from __future__ import annotations
 
@@ -13,7 +13,7 @@ from .signals import FIRST_EXTRA_KIND
 from .sources import TaskSource
 from .table import Table
 
-#: So many instances are told apart at once.
+#: The largest number of instances at one time.
 LANES = 16
 #: What a target is: task, isr or runnable, and its name.
 Target = tuple[str, str]

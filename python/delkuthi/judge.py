@@ -1,4 +1,4 @@
-"""Rows judged over parts of a log: each by a monitor of its own, over a scope that is cut, or over each stretch of its ``while`` window.
+"""Rows judged over parts of a log: each row has its own monitor, over a scope that is cut, or over each stretch of its ``while`` window.
 
 The verdict is the library's. What is not known is what came before a scope that is cut: a target may belong to a source that is not in
 the log, an event to a group that began before it. So a row is judged over every past that matters, each with a monitor, and it is
@@ -22,7 +22,7 @@ from .split import split
 from .table import Row, Table
 from .time_format import TimeFormat
 
-#: So many pasts of a row are followed at most.
+#: The largest number of pasts of a row that are followed.
 PASTS = 64
 #: A deadline that is never reached.
 NEVER = 1 << 62
@@ -45,7 +45,7 @@ class Past:
         self.taken: Counter[int] = Counter()
 
     def copy(self) -> Past:
-        """A past of its own that goes on from here."""
+        """Returns an independent past that continues from here."""
         other = Past(self.monitor.copy(), self.history.copy())
         other.left, other.taken = Counter(self.left), Counter(self.taken)
         return other

@@ -15,7 +15,7 @@ from .table import Table
 
 
 class CanMapping:
-    """The sources of a table by their identifiers. It remembers what each frame was, for the sources that go by a change."""
+    """The sources of a table by their identifiers. It remembers what each frame was, for the sources that take only changes."""
 
     def __init__(self, table: Table):
         self._by_identifier: dict[tuple[int, bool], list[tuple[int, _FrameTest | _SignalTest]]] = {}

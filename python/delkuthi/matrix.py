@@ -16,7 +16,7 @@ from .results import LOG_STATES, BadResult, Result, RowResult
 from .sketch import ERROR, ERROR_TEXT, Sketch
 from .units import shown
 
-#: So many logs are listed, the worst first, and so many lines that are no results are quoted, unless that is said.
+#: Defaults: how many logs are listed, the worst first, and how many lines that are not results are quoted.
 LISTED, QUOTED = 100, 10
 _ORDER = list(LOG_STATES)
 

@@ -2,7 +2,7 @@
 
 The steps are read once, and the memory that is needed does not grow with the log. The library alone says whether a row is kept; the
 measures are tested against it: a row that it breaks has an instance outside its limits or a missing one, a kept row has none.
-Once something is missing, the count of instances begins anew behind it, so that one lost answer does not put all later ones out.
+Once something is missing, counting starts again after it, so that one lost answer does not shift all later ones.
 """
 from __future__ import annotations
 
@@ -60,7 +60,7 @@ class Histogram:
             self.counts, self.outside = wider, {place // 2 for place in self.outside}
 
     def bars(self, most: int = 32) -> tuple[int, int, list[int], list[bool]]:
-        """At most so many bars side by side: where the first begins, how wide each is, their counts, and whether a value of each is
+        """A histogram of at most this many bars: where the first begins, how wide each is, their counts, and whether a value of each is
         outside."""
         if not self.counts:
             return 0, self.width, [], []
@@ -272,8 +272,8 @@ class RowMeasuring:
 
 
 class HiddenPoints(RowMeasuring):
-    """The first and the last place that hidden points can have by the events so far. What is measured is the distance of the events;
-    whether one is outside, and its margin, goes by the stretch in which it could come after those before it."""
+    """The first and the last place that hidden points can have by the events so far. What is measured is the distance of the events.
+    The stretch in which an event could come after those before it decides whether it is outside, and its margin."""
 
     def __init__(self, row: Row):
         super().__init__(row)

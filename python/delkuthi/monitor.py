@@ -166,7 +166,7 @@ class Monitor:
         return buffer.raw[:written].decode("ascii")
 
     def copy(self) -> Monitor:
-        """A monitor of its own that goes on from here."""
+        """Returns an independent monitor that continues from here."""
         other = object.__new__(Monitor)
         other.table, other._library = self.table, self._library
         other._memory = type(self._memory).from_buffer_copy(self._memory)

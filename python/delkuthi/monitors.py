@@ -12,9 +12,9 @@ from .signals import signal
 from .split import Local, Part
 from .table import Table
 
-#: So many bytes of records are kept before the monitor takes them; after that it takes each step by a call.
+#: The bytes of records that are kept before the monitor takes them. After that it takes each step by a call.
 KEPT = 32_000_000
-#: The numbers of so many steps that are none of a monitor's are kept.
+#: How many numbers of steps that a monitor does not take are kept.
 LEFT_OUT = 2_000_000
 
 
@@ -34,7 +34,7 @@ class Monitors:
 
     @staticmethod
     def closed(table: Table, monitors: list[Monitor], steps: int, broken: dict[int, int]) -> Monitors:
-        """Monitors that have taken so many steps, of which some have broken rows."""
+        """Monitors that have taken a number of steps, and the rows that are broken already."""
         found = Monitors(table)
         found._monitors, found.steps, found._broken = monitors, steps, broken
         return found
@@ -198,7 +198,7 @@ class Recorder:
         """The number of a step of this monitor among those of the whole table; :class:`NeedsSlowPath` where too many were left out."""
         if len(self._left_out) >= LEFT_OUT:
             raise NeedsSlowPath
-        # So many of those that were left out come before it: each has fewer steps of this monitor before it.
+        # Counts the steps left out before it: each has fewer steps of this monitor before it.
         low, high = 0, len(self._left_out)
         while low < high:
             middle = (low + high) // 2

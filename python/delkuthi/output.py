@@ -26,7 +26,7 @@ COLUMNS = 80
 
 def as_text(outcome: Outcome, page: bool, quiet: bool, columns: int = COLUMNS) -> str:
     """For a person: a line for each row that is broken, was never exercised, or has something left out or not yet due, and a last
-    one; or the library's page. Lines are at most so many columns wide; with 0 each is one line."""
+    one; or the library's page. ``columns`` is the largest width of a line; with 0 each is one line."""
     idle = [row.number for row in outcome.unexercised]
     if page:
         return (outcome.page or "") + (f"never exercised: {', '.join(map(str, idle))}\n" if idle else "")
@@ -50,7 +50,7 @@ _KEPT = re.compile(r"(?<=\d) (?=(?:ns|us|ms|s|min|h)\b)|(?<=line) (?=\d)")
 
 
 def wrapped(line: str, columns: int, indent: str = "    ") -> str:
-    """A line, broken at blanks where it is wider than so many columns; what follows is indented."""
+    """A line, broken at blanks where it is wider than the given columns. The lines after the first are indented."""
     if not columns or len(line) <= columns:
         return line + "\n"
     parts = textwrap.wrap(_KEPT.sub("\x1f", line), columns, subsequent_indent=indent, break_long_words=False, break_on_hyphens=False,

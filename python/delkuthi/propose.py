@@ -25,9 +25,9 @@ from .table import Table
 from .units import NUMBER, exact
 from .writing import complain, write
 
-#: So many instances a row needs at least, and so much slack is added, unless that is said; and a period gets no more than this.
+#: Defaults: the least number of instances of a row, and the slack that is added; and the most slack that a period gets.
 LEAST, SLACK, PERIOD_SLACK = 5, "20%", Fraction(1, 100)
-#: Distances are alike if the greatest is at most so many times the least; a Burst counts up to so many events.
+#: Distances are alike if the greatest is at most this many times the least; and the largest number of events that a Burst counts.
 ALIKE, BURST = 4, 8
 _NAME = re.compile(r"[^\W\d]\w*")
 

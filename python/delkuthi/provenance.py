@@ -16,7 +16,7 @@ from .run_date import run_date
 from .table import Table
 
 #: Modules that may have read a log, and the names of their packages.
-_PACKAGES = {"can": "python-can", "canmatrix": "canmatrix", "openpyxl": "openpyxl", "bt2": "babeltrace", "asammdf": "asammdf"}
+_PACKAGES = {"can": "python-can", "canmatrix": "canmatrix", "openpyxl": "openpyxl", "asammdf": "asammdf"}
 
 
 @dataclass(frozen=True)

@@ -29,7 +29,7 @@ class Events:
         self.places.append(place)
 
     def drop(self, number: int) -> None:
-        """Forgets so many of the first."""
+        """Forgets a number of the first events."""
         del self.times[:number], self.places[:number]
 
     def __len__(self) -> int:
@@ -114,7 +114,7 @@ class Case:
 
 
 def drop_to_last(case: Case, field_name: str, number: int) -> None:
-    """Forgets all but so many of the last events of the kind that a field names."""
+    """Forgets all but a number of the last events of the kind that a field names."""
     events = case.of(case.number(field_name))
     events.drop(max(len(events) - number, 0))
 

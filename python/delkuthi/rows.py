@@ -16,7 +16,7 @@ from .units import exact
 @dataclass(frozen=True)
 class Event:
     """A kind of event with its name, and where it comes from; from a source of a coloured kind with its colour. ``numbered`` says that
-    its kind is the text's and not the tool's, ``implied`` that it has no line of its own in the text."""
+    its kind is the text's and not the tool's, ``implied`` that it has no line in the text."""
 
     name: str
     kind: int

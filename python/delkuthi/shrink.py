@@ -8,9 +8,9 @@ from .monitor import Monitor, Stretch, shortest_stretch
 from .recording import recording_bytes
 from .table import Table
 
-#: The library looks for the shortest stretch in so many records.
+#: The largest number of records in which the library looks for the shortest stretch.
 RECORD_LIMIT = 256
-#: So many events of the row before the break are tried as the beginning of its stretch.
+#: How many events of the row before the break are tried as the beginning of its stretch.
 TRIED = 2000
 
 

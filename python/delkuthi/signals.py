@@ -1,6 +1,6 @@
 """The number of a signal: of a plain kind the kind itself, of a coloured one kind and colour together.
 
-Events of one number are of one stream: their times rise. Steps, reasons and pictures go by these numbers.
+Events of one number are of one stream: their times rise. Steps, reasons and pictures use these numbers.
 """
 from __future__ import annotations
 

@@ -1,6 +1,6 @@
 """Percentiles of any number of values in little memory, and of many logs together.
 
-A value below 128 has a bucket of its own. A larger one shares its bucket with the values that have the same first seven binary digits, so a
+A value below 128 has its own bucket. A larger one shares its bucket with the values that have the same first seven binary digits, so a
 percentile is off by at most 1/128 of itself (:data:`ERROR`). Two sketches become one by adding up their buckets, in any order and any grouping:
 the result is that of one sketch over all values. All of it is whole numbers, so each machine finds the same.
 """
@@ -63,7 +63,7 @@ class Sketch:
         return sum(self.counts.values())
 
     def percentile(self, percent: int, least: int | None = None, greatest: int | None = None) -> int | None:
-        """The value that so many of 100 values do not exceed, within :data:`ERROR` of it; never outside the exact ``least`` and ``greatest``,
+        """The value that this many of 100 values do not exceed, within :data:`ERROR` of it; never outside the exact ``least`` and ``greatest``,
         where they are given. ``None`` where there is no value."""
         rank = -(-percent * self.total // 100)
         for number in sorted(self.counts):

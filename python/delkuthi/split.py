@@ -91,7 +91,7 @@ class Local:
             yield local, time
 
     def copy(self) -> Local:
-        """One of its own that goes on from here."""
+        """Returns an independent one that continues from here."""
         other = Local(self.part)
         other.clock, other.given = self.clock, self.given
         return other

@@ -44,7 +44,7 @@ _TYPE_WORDS = {
 }
 
 
-#: So many mistakes of a text are shown at once.
+#: The largest number of mistakes of a text that are shown at once.
 SHOWN = 20
 
 
@@ -192,7 +192,7 @@ class Comments:
         self._before: tuple[bool, int, int, int] = (False, 0, 0, 0)
 
     def add(self, statements: tuple[bool, int, int, int] | None, above: list[str], behind: str) -> None:
-        """The comments of the last statement of so many; of the end of the text if there are none."""
+        """The comments of the last of a number of statements; of the end of the text if there are none."""
         key = ("end", 0)
         if statements is not None:
             sort = max(at for at, (one, other) in enumerate(zip(statements, self._before)) if one != other)

@@ -12,7 +12,7 @@ from .units import UNITS, decimal
 
 #: The number of bins in an overview of a whole log.
 BINS = 400
-#: The colours of the rows, which most people can tell apart.
+#: The colours of the rows. Most people can distinguish them.
 COLOURS = ("#0072B2", "#E69F00", "#009E73", "#CC79A7", "#56B4E9", "#8C6D31", "#6A51A3", "#5F7F3F",
            "#882255", "#44AA99", "#999933", "#AA4499", "#332288", "#B8860B", "#117733", "#4477AA")
 BROKEN = "#C8102E"

@@ -37,9 +37,9 @@ from .table import KeySource, Table
 from .units import UNITS
 from .writing import NotWritten, complain, out
 
-#: After so many seconds without a frame it is said that none comes; the status line is written so often.
+#: The seconds without a frame after which a message says that none comes, and the seconds between two status lines.
 SILENT, SHOWN = 2.0, 0.25
-#: The rate of the status line is that of so many seconds.
+#: The seconds over which the status line's rate is measured.
 RATE_SECONDS = 3.0
 
 
@@ -97,7 +97,7 @@ class Watch:
         return (time - self.time_format.shift) * UNITS[self.table.unit or "s"] / 10**9
 
     def frame(self, frame: Any, seconds: float) -> None:
-        """Takes a frame of python-can that came so many seconds after the start."""
+        """Takes a frame of python-can. ``seconds`` is its time since the start."""
         self.frames += 1
         data = not frame.is_error_frame and not frame.is_remote_frame
         kinds = self.mapping.kinds(frame.arbitration_id, frame.is_extended_id, str(frame.channel), bytes(frame.data)) if data else ()
@@ -315,7 +315,7 @@ def watch_bus(watch: Watch, bus: Any, seconds: float | None, ticks: Clock, keys:
         frame = _received(bus, left)
         now = clock.monotonic() - start
         if frame is not None:
-            # The bus has a clock of its own; the first frame says how far it is from ours.
+            # The bus has its own clock. The first frame shows how far it is from ours.
             stamp = frame.timestamp if math.isfinite(frame.timestamp) else now + (offset or 0.0)
             offset = stamp - now if offset is None else offset
             watch.frame(frame, stamp - offset)
@@ -336,7 +336,7 @@ def _received(bus: Any, seconds: float) -> Any:
     """The next frame, if one comes in time."""
     try:
         return bus.recv(timeout=seconds)
-    except Exception as error:  # each interface of python-can has exceptions of its own
+    except Exception as error:  # each interface of python-can has its own exceptions
         raise BusFailed(" ".join(str(error).split()) or type(error).__name__) from None
 
 
@@ -408,7 +408,7 @@ def _bus(given: argparse.Namespace) -> Any:
     options = {"bitrate": given.bitrate} if given.bitrate else {}
     try:
         return can.Bus(interface=interface, channel=channel or None, **options)
-    except Exception as error:  # each interface of python-can has exceptions of its own
+    except Exception as error:  # each interface of python-can has its own exceptions
         raise LogError(given.bus, "", " ".join(str(error).split()) or type(error).__name__) from None
 
 

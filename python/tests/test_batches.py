@@ -227,7 +227,7 @@ Delay one -> eight, 0 .. 99 us
 Repeat all span 1, 1 us .. 99 us
 Order off -> on
 """
-#: Tables that do not go by frames alone, and the logs for them.
+#: Tables that do not use frames alone, and the logs for them.
 OTHERS = {"samples.csv": (SAMPLES, as_samples), "tasks.btf": (TASKS, as_btf), "signals.log": (SIGNALS, as_candump),
           "signals.blf": (SIGNALS, as_blf), "signals.asc": (SIGNALS, as_asc)}
 

@@ -16,7 +16,7 @@ from test_page import many_rows, page_of
 BROWSER = next((name for name in ("chromium", "chromium-browser", "google-chrome") if shutil.which(name)), None)
 pytestmark = pytest.mark.skipif(BROWSER is None, reason="no browser (Debian: chromium)")
 
-#: Measures the page, and writes what it found at its end. What a box of its own scrolls is not cut off.
+#: Measures the page, and writes what it found at its end. What scrolls in a separate box is not cut off.
 _MEASURE = """
   const wide = document.documentElement.clientWidth, cut = [];
   const scrolls = one => one.closest(".picture, details.violations") && !matchMedia("(width: 703px)").matches;

@@ -28,7 +28,7 @@ def test_names():
 
 @pytest.mark.parametrize("path", sorted(PACKAGE.rglob("*.py")), ids=lambda path: path.name)
 def test_private_members_stay_private(path):
-    """``a._b`` only of ``self``, ``cls``, a class of the module, or a local copy of its own object."""
+    """``a._b`` only of ``self``, ``cls``, a class of the module, or a local copy of the same object."""
     tree = ast.parse(path.read_text(encoding="utf-8"))
     own = {node.attr for node in ast.walk(tree) if isinstance(node, ast.Attribute) and isinstance(node.value, ast.Name)
            and node.value.id == "self"} | {node.name for node in ast.walk(tree) if isinstance(node, (ast.FunctionDef, ast.ClassDef))}

@@ -58,7 +58,7 @@ def test_every_signal_is_read_as_canmatrix_packed_it(tmp_path, ending):
     path = str(tmp_path / f"drive.{ending}")
     canmatrix.formats.dumpp({"": matrix}, path)
     database, read = Database(path), 0
-    # In ARXML a frame gets a name of its own.
+    # In ARXML a frame gets its own name.
     names = {frame.arbitration_id.id: frame.name for matrices in canmatrix.formats.loadp(path).values() for frame in matrices.frames}
     for frame in matrix.frames:
         for _ in range(20):

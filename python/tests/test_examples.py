@@ -1,4 +1,4 @@
-"""What the command gives for the drive is what is stored. To store it anew after a change: `DRIVE=write pytest`."""
+"""What the command gives for the drive is what is stored. To store it again after a change: `DRIVE=write pytest`."""
 import io
 import os
 import re
@@ -30,7 +30,7 @@ ROWS, PICTURES = EXAMPLES / "rows", ROOT / "python/pictures"
 
 
 def stored(name, text):
-    """The stored file of this name, written anew first if that is asked for, has this text."""
+    """The stored file of this name, written again first if that is asked for, has this text."""
     if os.environ.get("DRIVE"):
         (EXAMPLES / name).write_text(text, encoding="utf-8")
     assert without_version(text) == without_version((EXAMPLES / name).read_text(encoding="utf-8"))

@@ -118,7 +118,7 @@ def test_thresholds():
 
 
 def test_results_of_a_farm(builds, command):
-    """Each log by a process of its own, under GNU parallel as the manual has it; one merge reports."""
+    """Each log has a separate process, under GNU parallel as the manual has it; one merge reports."""
     if shutil.which("parallel") is None:
         pytest.skip("GNU parallel is missing (Debian: parallel)")
     (builds / "results").mkdir()

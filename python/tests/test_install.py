@@ -1,4 +1,4 @@
-"""The library installed by make and the package by pip, without a network, in an environment of its own."""
+"""The library installed by make and the package by pip, without a network, in a separate environment."""
 import os
 import subprocess
 

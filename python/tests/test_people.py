@@ -85,6 +85,7 @@ def test_completion(command):
 def test_completion_of_other_shells(command):
     zsh, fish = command("completion", "zsh")[1], command("completion", "fish")[1]
     assert "'propose:a table to begin with, from what a log shows'" in zsh
+    assert "'completion:a script that completes commands and options in a shell'" in zsh and ":''" not in zsh
     assert "complete -c delkuthi -n '__fish_seen_subcommand_from check' -l equal -x -a 'refuse drop later'" in fish
     if shutil.which("zsh"):
         subprocess.run(["zsh", "-n"], input=zsh, text=True, check=True)
@@ -141,3 +142,12 @@ def test_the_editors_grammar_is_the_languages():
     assert {*re.findall(r'"([a-z]+)"', grammar())} <= words() | {*STATEMENTS} and TABLES
     for name in BY_NAME:
         assert scopes(f"{name} a")[0] == "storage.type.delkuthi"
+
+
+def test_the_extension_for_editors():
+    """It names the grammar that is there, by the same scope and the same ending."""
+    folder = ROOT / "python/editors"
+    found = json.loads((folder / "package.json").read_text(encoding="utf-8"))["contributes"]
+    grammar_file = json.loads((folder / found["grammars"][0]["path"]).read_text(encoding="utf-8"))
+    assert grammar_file["scopeName"] == found["grammars"][0]["scopeName"]
+    assert [f".{ending}" for ending in grammar_file["fileTypes"]] == found["languages"][0]["extensions"]

@@ -318,6 +318,26 @@ def test_ctf_that_is_none(tmp_path):
     assert error(tmp_path / "trace", CTF).startswith("trace: babeltrace cannot read it: ")
 
 
+def test_damaged_traces_are_read_or_refused(tmp_path):
+    """Each of thirty damaged traces is read or refused, also where babeltrace itself gives up (the last one)."""
+    trace, rng, refused = ctf_trace(tmp_path / "trace", TRACE), random.Random(3), 0
+    whole = {path: path.read_bytes() for path in trace.iterdir() if path.is_file()}
+    for number in range(31):
+        changed = rng.choice(sorted(whole))
+        for path, data in whole.items():
+            path.write_bytes(damaged(data, rng) if path == changed and number < 30 else data)
+        if number == 30:
+            # The size of the packet, in bits.
+            stream = trace / "stream"
+            stream.write_bytes(whole[stream].replace(struct.pack("<Q", len(whole[stream]) * 8), b"\0" * 7 + b"\x80", 1))
+        try:
+            read(trace, CTF, round=True)
+        except LogError as found:
+            said = str(found)
+            refused += said.startswith(f"{trace}: babeltrace cannot read it: ") and "\n" not in said
+    assert refused > 10 and said.endswith("it ended with the signal 6")
+
+
 @pytest.mark.parametrize("name, module, said", [
     ("a.ctf", "bt2", "reading CTF needs babeltrace 2 for Python (Debian: python3-bt2)"),
     ("a.mf4", "asammdf", "reading .mf4 needs asammdf (pip install asammdf; Debian has no package of it)")])

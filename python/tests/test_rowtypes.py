@@ -19,13 +19,33 @@ def test_what_is_made_is_what_the_list_says():
     assert (done.returncode, done.stdout) == (0, ""), done.stdout + done.stderr
 
 
-def test_a_new_type_is_made(tmp_path):
-    """A line that is missing is said, what a new type lacks is said, and the rest is written wherever it belongs."""
+def copied(folder):
+    """Copies the program and all files that it writes to a folder."""
     for part in ("release", "crates", "python/delkuthi", "python/README.md", "docs/CONTRACT.md", "include",
                  "examples/rows", "host/c/make_table.c", "host/delkuthi/src/table.rs", "host/checks/src/rows.rs", "host/model/src"):
-        (tmp_path / part).parent.mkdir(parents=True, exist_ok=True)
+        (folder / part).parent.mkdir(parents=True, exist_ok=True)
         copy = shutil.copytree if (ROOT / part).is_dir() else shutil.copy
-        copy(ROOT / part, tmp_path / part)
+        copy(ROOT / part, folder / part)
+
+
+def test_a_part_needs_both_its_markers(tmp_path):
+    """A part whose marker is missing or stands twice is reported, and is not written."""
+    copied(tmp_path)
+    header, types = tmp_path / "include/delkuthi.h", tmp_path / "crates/constraint/specs/Types.antt"
+    header.write_text(header.read_text(encoding="utf-8").replace(" * end table\n", "", 1), encoding="utf-8")
+    types.write_text(types.read_text(encoding="utf-8") + "-- begin lengths: made by release/row-types.py\n-- end lengths\n", encoding="utf-8")
+    before = header.read_text(encoding="utf-8"), types.read_text(encoding="utf-8")
+    for words in ([], ["--write"]):
+        done = subprocess.run([sys.executable, tmp_path / PROGRAM, *words], capture_output=True, text=True)
+        assert done.returncode == 1
+        assert re.findall(r"^(\S+): there is no part '([^']+)', or several", done.stdout, re.M) == [
+            ("include/delkuthi.h", "table"), ("crates/constraint/specs/Types.antt", "lengths")]
+    assert before == (header.read_text(encoding="utf-8"), types.read_text(encoding="utf-8"))
+
+
+def test_a_new_type_is_made(tmp_path):
+    """A line that is missing is said, what a new type lacks is said, and the rest is written wherever it belongs."""
+    copied(tmp_path)
     n, order = len(TYPES) + 1, (tmp_path / "python/delkuthi/rowtypes/order.py").read_text(encoding="utf-8")
     weak = order.replace('6, "Order"', f'{n}, "WeakOrder"').replace("sensor", "probe").replace("entry", "note")
     weak = weak.replace("instance=", f"edition={NEWEST_EDITION}, instance=")

@@ -113,7 +113,7 @@ def clock_of(monitor):
 
 
 class SleepyBus:
-    """A bus and a clock: frames come at their moments, and whoever waits sleeps until one does or the time is over."""
+    """A bus and a clock: frames come at their moments, and a reader that waits sleeps until one comes or the time is over."""
 
     def __init__(self, frames):
         self.frames, self.now, self.waits = list(frames), 0.0, 0

@@ -151,7 +151,7 @@ def sporadic(drive, bad):
 
 
 def burst(drive, bad):
-    """Bursts of at most so many events, far from each other."""
+    """Bursts of at most this many events, far from each other."""
     most, length = drive.rng.randint(2, 5), 10 * MS
     begins = [at for at in range(5 * MS, drive.long - 40 * MS, 30 * MS)]
     chosen = drive.rng.choice(begins) if bad else None
@@ -279,7 +279,7 @@ KINDS = (periodic, sporadic, burst, reaction, offset, strong_synchronization, sy
 
 
 def random_drive(seed, broken=0.5):
-    """A drive with a constraint of each kind, of which about so many are broken."""
+    """A drive with a constraint of each kind, of which about this many are broken."""
     drive = Drive(random.Random(seed))
     for kind in KINDS:
         kind(drive, drive.rng.random() < broken)

@@ -37,7 +37,10 @@ row-fits edition c known =
 
 -- of a number that is no type's, and of every type that has no n
 pub length-unknown : (t n : ℕ) → length lengths ≤ t → lengthOf t n ≡ 0
+-- begin length unknown: made by release/row-types.py
 length-unknown t n past = rw (List·getD-eq-default lengths 0 {n = t} past, ne-eqb t 7 (λ e. omega arith), ne-eqb t 11 (λ e. omega arith))
+
+-- end length unknown
 
 pub length-plain : (t n : ℕ) → takesCount t ≡ false → lengthOf t n ≡ at lengths t
 length-plain t n other = rw other (add-zero (at lengths t))

@@ -1,6 +1,6 @@
 -- What is true of every type, seen type by type: a line of the table of types has its fields of one byte first and the length that the list says,
 -- and a row and its number and values say the same.
--- Made by release/row-types.py, to the end of the list.
+-- begin modules: made by release/row-types.py
 pub mod Delay
 pub mod StrongDelay
 pub mod Repeat
@@ -12,6 +12,7 @@ pub mod ExecutionTime
 pub mod Reaction
 pub mod Repetition
 pub mod Synchronization
+-- end modules
 use Prim.Native.Nat.{ℕ, zero, suc, _+_, _*_, _≤_, _<_}
 use mathlib.Core.Path.{_≡_, refl, sym, ap, ap₂, subst⁻¹, _∙_}
 use mathlib.Core.Bool.{true, cond}
@@ -31,6 +32,7 @@ use Rattle.constraint.specs.declared.Constraint.{Constraint}
 use Rattle.constraint.specs.declared.fields.Fields.{Fields}
 use Rattle.constraint.proofs.Lists.{split}
 use Rattle.constraint.proofs.Lawful.{Lawful}
+-- begin imports: made by release/row-types.py
 use Rattle.constraint.proofs.Types.Delay.{lawfulDelay}
 use Rattle.constraint.proofs.Types.StrongDelay.{lawfulStrongDelay}
 use Rattle.constraint.proofs.Types.Repeat.{lawfulRepeat}
@@ -45,10 +47,12 @@ use Rattle.constraint.proofs.Types.Repetition.{lawfulRepetition}
 use Rattle.constraint.proofs.Types.Synchronization.{lawfulSynchronization2, lawfulSynchronization3, lawfulSynchronization4}
 use Rattle.constraint.specs.Types.{strongSynchronizationRead, synchronizationRead}
 
+-- end imports
+
 -- ---- the definitions
 
 pub lawful : (c : Constraint) → Lawful c
--- Made by release/row-types.py, to the end of the list.
+-- begin lawful: made by release/row-types.py
 lawful (Constraint.Delay a b x y) = lawfulDelay a b x y
 lawful (Constraint.StrongDelay a b x y) = lawfulStrongDelay a b x y
 lawful (Constraint.Repeat a b x y) = lawfulRepeat a b x y
@@ -64,6 +68,8 @@ lawful (Constraint.Repetition a b x y z) = lawfulRepetition a b x y z
 lawful (Constraint.Synchronization2 a b x) = lawfulSynchronization2 a b x
 lawful (Constraint.Synchronization3 a b c x) = lawfulSynchronization3 a b c x
 lawful (Constraint.Synchronization4 a b c d x) = lawfulSynchronization4 a b c d x
+
+-- end lawful
 
 -- ---- from a row
 
@@ -94,7 +100,7 @@ pub record Regular (c : Constraint) : Type 0 where
 
 -- §4.5
 pub regular : (c : Constraint) → Regular c
--- Made by release/row-types.py, to the end of the list.
+-- begin regular: made by release/row-types.py
 unfolding rowRead strongSynchronizationRead synchronizationRead rowBody fieldsBytes timesBytes bytesOf
 regular (Constraint.Delay a b x y) = record { again = λ more later. refl; parts = refl; sized = omega arith; uncoloured = λ e. tt }
 regular (Constraint.StrongDelay a b x y) = record { again = λ more later. refl; parts = refl; sized = omega arith; uncoloured = λ e. tt }
@@ -112,6 +118,8 @@ regular (Constraint.Synchronization2 a b x) = record { again = λ more later. re
 regular (Constraint.Synchronization3 a b c x) = record { again = λ more later. refl; parts = refl; sized = omega arith; uncoloured = λ e. tt }
 regular (Constraint.Synchronization4 a b c d x) = record { again = λ more later. refl; parts = refl; sized = omega arith; uncoloured = λ e. tt }
 
+-- end regular
+
 -- so the numbers of a row are read as the row
 pub numbers-read : (c : Constraint) (f : Fields) → HoldsRow c f → rowRead (f .line .tag) (f .bytes) (f .times) ≡ c
 numbers-read c f holds =
@@ -124,7 +132,7 @@ numbers-read c f holds =
 
 -- ---- from numbers
 
--- Made by release/row-types.py.
+-- begin read group: made by release/row-types.py
 
 -- a number that is no other type's is read as a StrongSynchronization
 pub read-group : (t : ℕ) (b x : List ℕ) → ¬ (t ≡ 1) → ¬ (t ≡ 2) → ¬ (t ≡ 3) → ¬ (t ≡ 4) → ¬ (t ≡ 5) → ¬ (t ≡ 6) → ¬ (t ≡ 8) → ¬ (t ≡ 9) → ¬ (t ≡ 10)
@@ -144,7 +152,7 @@ read-group t b x n1 n2 n3 n4 n5 n6 n8 n9 n10 n11 =
       ne-eqb t 11 n11,
     )
 
--- End of what is made.
+-- end read group
 
 -- what is shown of each of n numbers from i on, one after the other, is shown of all of them
 abbrev EachThen : (ℕ → Type 0) → Type 0 → ℕ → ℕ → Type 0
@@ -176,7 +184,7 @@ module _ (b0 b1 b2 b3 b4 x0 x1 x2 x3 : ℕ) where
   abbrev Back : ℕ → Type 0
   Back t = ReadBack t bytes times (rowRead t bytes times)
 
-  -- Made by release/row-types.py.
+  -- begin groups: made by release/row-types.py
 
   -- a StrongSynchronization, by its n
   strong-synchronization-back : (2 ≤ b0) × (b0 ≤ 4) → Back 7
@@ -196,13 +204,13 @@ module _ (b0 b1 b2 b3 b4 x0 x1 x2 x3 : ℕ) where
       (λ n. rw n (record { typed = refl; bytes = refl; times = refl; long = refl }))
       (λ n. rw n (record { typed = refl; bytes = refl; times = refl; long = refl }))
 
-  -- End of what is made.
+  -- end groups
 
   -- §4.5
   pub read-back : (t : ℕ) → (1 ≤ t) × (t < length lengths) → (takesCount t ≡ true → (2 ≤ b0) × (b0 ≤ 4)) → Back t
   unfolding rowRead
   read-back t known several =
-      -- Made by release/row-types.py, to the end of the list.
+      -- begin read back: made by release/row-types.py
       each-then (λ n. t ≡ n → Back n) (Back t) 1 11 (λ each. each t (known .0) (omega (arith, known .1)) refl)
       (λ n. record { typed = refl; bytes = refl; times = refl; long = refl })
       (λ n. record { typed = refl; bytes = refl; times = refl; long = refl })
@@ -215,3 +223,4 @@ module _ (b0 b1 b2 b3 b4 x0 x1 x2 x3 : ℕ) where
       (λ n. record { typed = refl; bytes = refl; times = refl; long = refl })
       (λ n. record { typed = refl; bytes = refl; times = refl; long = refl })
       (λ n. synchronization-back (several (ap takesCount n)))
+      -- end read back

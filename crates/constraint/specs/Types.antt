@@ -8,9 +8,12 @@ use lib.Dec.{eqb}
 use Rattle.constraint.specs.Limits.{spanLimit, repetitionSpanLimit}
 use Rattle.constraint.specs.Steps.{at}
 use Rattle.constraint.specs.declared.Constraint.{Constraint}
+-- begin imports: made by release/row-types.py
 use Rattle.constraint.specs.declared.Constraint.the-variants.{Delay, StrongDelay, Repeat, Sporadic, Burst, Order, StrongSynchronization2}
 use Rattle.constraint.specs.declared.Constraint.the-variants.{StrongSynchronization3, StrongSynchronization4, ExecutionTime, Reaction}
 use Rattle.constraint.specs.declared.Constraint.the-variants.{Repetition, Synchronization2, Synchronization3, Synchronization4}
+
+-- end imports
 
 -- §4.4, §4.6; 01, table; CR 6, 10: the role of a byte. A kind is plain or coloured. A span or maximum has its own limit
 pub data ByteRole : Type 0 where
@@ -40,7 +43,7 @@ pub data Field : Type 0 where
 
 -- §4.5; 01, table; CR 2, 6, 10: a line for each type: its number, and its fields in their order
 abbrev pub typeLine : Constraint → ℕ × List Field
--- Made by release/row-types.py, to the end of the list.
+-- begin lines: made by release/row-types.py
 typeLine (Delay source target low high) = (1, byte kind source ∷ byte kind target ∷ time lower low ∷ time upper-or-none high ∷ [])
 typeLine (StrongDelay source target low high) = (2, byte kind source ∷ byte kind target ∷ time lower low ∷ time upper high ∷ [])
 typeLine (Repeat event number low high) = (3, byte kind event ∷ byte (span spanLimit) number ∷ time lower low ∷ time upper-or-none high ∷ [])
@@ -62,6 +65,8 @@ typeLine (Synchronization3 a b c apart) = (11, byte count 3 ∷ byte kind a ∷ 
 typeLine (Synchronization4 a b c d apart) =
     (11, byte count 4 ∷ byte kind a ∷ byte kind b ∷ byte kind c ∷ byte kind d ∷ time (plain tolerance) apart ∷ [])
 
+-- end lines
+
 -- §4.5; 01, table: the number of a row's type
 abbrev pub typeOf : Constraint → ℕ
 typeOf c = typeLine c .0
@@ -70,7 +75,7 @@ typeOf c = typeLine c .0
 abbrev pub fieldsOf : Constraint → List Field
 fieldsOf c = typeLine c .1
 
--- Made by release/row-types.py.
+-- begin groups: made by release/row-types.py
 
 -- §4.5; 01, table: the StrongSynchronization of as many kinds as its first byte says
 unfoldable pub strongSynchronizationRead : List ℕ → ℕ → Constraint
@@ -86,11 +91,11 @@ synchronizationRead b apart =
     (cond (eqb (at b 0) 3) (Synchronization3 (at b 1) (at b 2) (at b 3) apart)
     (Synchronization4 (at b 1) (at b 2) (at b 3) (at b 4) apart))
 
--- End of what is made.
+-- end groups
 
 -- §4.5; 01, table; CR 2, 6, 10: the row that has a type number, the values b of its one-byte fields and its times x
 unfoldable pub rowRead : ℕ → List ℕ → List ℕ → Constraint
--- Made by release/row-types.py, to the end of the list.
+-- begin read: made by release/row-types.py
 rowRead t b x =
     cond (eqb t 1) (Delay (at b 0) (at b 1) (at x 0) (at x 1))
     (cond (eqb t 2) (StrongDelay (at b 0) (at b 1) (at x 0) (at x 1))
@@ -104,13 +109,21 @@ rowRead t b x =
     (cond (eqb t 11) (synchronizationRead b (at x 0))
     (strongSynchronizationRead b (at x 0)))))))))))
 
+-- end read
+
 -- §4.5; 01, table; CR 2, 6, 10: the lengths by the type byte. A type with an n adds its n
 abbrev pub lengths : List ℕ
+-- begin lengths: made by release/row-types.py
 lengths = 0 ∷ 19 ∷ 19 ∷ 19 ∷ 34 ∷ 19 ∷ 3 ∷ 10 ∷ 21 ∷ 19 ∷ 27 ∷ 10 ∷ []
+
+-- end lengths
 
 -- §16.2: the last type of each edition of the table, by its version byte. No other number is an edition
 abbrev pub lastTypes : List ℕ
+-- begin last types: made by release/row-types.py
 lastTypes = 0 ∷ 10 ∷ 11 ∷ []
+
+-- end last types
 
 -- §16.2: the last type of an edition. If there is no such edition it is 0, which is not a type
 abbrev pub lastType : ℕ → ℕ
@@ -118,7 +131,10 @@ lastType edition = at lastTypes edition
 
 -- §4.5; 01, table: the types whose first field is n, the number of the kinds that follow it
 abbrev pub takesCount : ℕ → Bool
+-- begin types with an n: made by release/row-types.py
 takesCount t = eqb t 7 || eqb t 11
+
+-- end types with an n
 
 -- §4.5; 01, table: the length of a row by its type, and by its n if the type has one
 abbrev pub lengthOf : ℕ → ℕ → ℕ
@@ -131,8 +147,8 @@ unknownName = 85 ∷ 110 ∷ 107 ∷ 110 ∷ 111 ∷ 119 ∷ 110 ∷ []
 -- §7.16; CR 5: the names of the types by their numbers, as TADL2 has them without the last word. 0 is not a type
 abbrev pub typeNames : List (List ℕ)
 typeNames =
-    -- Made by release/row-types.py, to the end of the list.
     unknownName
+    -- begin names: made by release/row-types.py
     -- 1 Delay
     ∷ (68 ∷ 101 ∷ 108 ∷ 97 ∷ 121 ∷ [])
     -- 2 StrongDelay
@@ -155,4 +171,5 @@ typeNames =
     ∷ (82 ∷ 101 ∷ 112 ∷ 101 ∷ 116 ∷ 105 ∷ 116 ∷ 105 ∷ 111 ∷ 110 ∷ [])
     -- 11 Synchronization
     ∷ (83 ∷ 121 ∷ 110 ∷ 99 ∷ 104 ∷ 114 ∷ 111 ∷ 110 ∷ 105 ∷ 122 ∷ 97 ∷ 116 ∷ 105 ∷ 111 ∷ 110 ∷ [])
+    -- end names
     ∷ []

@@ -7,9 +7,12 @@ use lib.Dec.{leb, eqb}
 use Rattle.constraint.specs.Limits.{noLimit}
 use Rattle.constraint.specs.Steps.{Step, times}
 use Rattle.constraint.specs.declared.Constraint.{Constraint}
+-- begin imports: made by release/row-types.py
 use Rattle.constraint.specs.declared.Constraint.the-variants.{Delay, StrongDelay, Repeat, Sporadic, Burst, Order, StrongSynchronization2}
 use Rattle.constraint.specs.declared.Constraint.the-variants.{StrongSynchronization3, StrongSynchronization4, ExecutionTime, Reaction}
 use Rattle.constraint.specs.declared.Constraint.the-variants.{Repetition, Synchronization2, Synchronization3, Synchronization4}
+
+-- end imports
 
 -- §6.1: tests whether t is lower to upper after s, where upper may be the mark for no limit. It agrees with `Apart` (`answered-true`, `answered-by`)
 abbrev pub inInterval : ℕ → ℕ → ℕ → ℕ → Bool
@@ -48,7 +51,7 @@ waiting (StrongDelay source target lower upper) steps = length (times source ste
 waiting (StrongSynchronization2 a b tolerance) steps = begunIncomplete (a ∷ b ∷ []) steps
 waiting (StrongSynchronization3 a b c tolerance) steps = begunIncomplete (a ∷ b ∷ c ∷ []) steps
 waiting (StrongSynchronization4 a b c d tolerance) steps = begunIncomplete (a ∷ b ∷ c ∷ d ∷ []) steps
--- Made by release/row-types.py, to the end of the list.
+-- begin nothing waits: made by release/row-types.py
 waiting (Repeat event span lower upper) steps = 0
 waiting (Sporadic event lower upper jitter minimum) steps = 0
 waiting (Burst event maximum length minimum) steps = 0
@@ -59,3 +62,5 @@ waiting (Repetition event span lower upper jitter) steps = 0
 waiting (Synchronization2 first second tolerance) steps = 0
 waiting (Synchronization3 first second third tolerance) steps = 0
 waiting (Synchronization4 first second third fourth tolerance) steps = 0
+
+-- end nothing waits

@@ -17,7 +17,10 @@ ghost use mathlib.Core.Path.{_≡_};
 ghost use mathlib.Core.List.{[]};
 ghost use Rattle.constraint.specs.Questions.{Judged};
 ghost use Rattle.constraint.specs.Accepted.{rowQuestions, rowQuestionsIn, rowsQuestions};
-ghost use Rattle.constraint.specs.Types.{strongSynchronizationRead, synchronizationRead, rowRead, lengthOf, lastType, takesCount};
+// begin imports: made by release/row-types.py
+ghost use Rattle.constraint.specs.Types.{strongSynchronizationRead, synchronizationRead};
+// end imports
+ghost use Rattle.constraint.specs.Types.{rowRead, lengthOf, lastType, takesCount};
 ghost use Rattle.constraint.specs.Records.{rowsOf, Adds, HoldsRow};
 
 // §1.2
@@ -50,7 +53,7 @@ pub const WAITING_LIMIT: usize = 64;
 
 // A row of a table: one TADL2 timing constraint with its fields.
 pub enum Constraint {
-    // Made by release/row-types.py, to the end of the list.
+    // begin variants: made by release/row-types.py
     Delay {
         source: u8,
         target: u8,
@@ -143,6 +146,7 @@ pub enum Constraint {
         fourth: u8,
         tolerance: u64,
     },
+    // end variants
 }
 
 // A call, with its arguments as given: an event of a kind at a time, one of a coloured kind with its colour, a tick to a time, or the close.
@@ -208,7 +212,7 @@ pub struct Table {
 }
 
 // The table of types: a line for each variant, with its type byte and the roles of its fields.
-// Made by release/row-types.py.
+// begin lines: made by release/row-types.py
 const DELAY: Line = Line {
     tag: 1,
     bytes: [KIND, KIND, 0, 0, 0],
@@ -299,16 +303,20 @@ const SYNCHRONIZATION_4: Line = Line {
     times: [TOLERANCE, 0, 0, 0],
 };
 
-// End of what is made.
+// end lines
 
 // §4.5
-// The length expected for each type, by the type byte; to a type's with an n its n is added.
+// The expected length for each type, by the type byte. A type with an n adds its n.
+// begin lengths: made by release/row-types.py
 const LENGTHS: [usize; 12] = [0, 19, 19, 19, 34, 19, 3, 10, 21, 19, 27, 10];
+// end lengths
 
 // The last type of each edition of the table, by its version byte.
+// begin last types: made by release/row-types.py
 const LAST_TYPES: [u8; 3] = [0, 10, 11];
+// end last types
 
-// The last type of an edition; 0 if there is no such edition.
+// Returns the last type of an edition, or 0 if there is no such edition.
 pub fn last_type(edition: u8) -> u8
     ensures { λ r. ⌜ r ≡ lastType edition ⌝ }
 {
@@ -319,11 +327,13 @@ pub fn last_type(edition: u8) -> u8
     LAST_TYPES[place]
 }
 
-// Whether the first field of a type is n, the number of the kinds behind it.
+// Returns whether the first field of a type is n, the number of kinds that follow it.
 pub fn takes_count(tag: u8) -> bool
     ensures { λ r. ⌜ r ≡ takesCount tag ⌝ }
 {
+    // begin types with an n: made by release/row-types.py
     tag == 7 || tag == 11
+    // end types with an n
 }
 
 // The length expected of a row of a type, with the byte behind it, which is the n of a type that has one; 0 if there is no such type.
@@ -340,7 +350,7 @@ pub fn length_of(tag: u8, n: u8) -> usize
     LENGTHS[place]
 }
 
-// Made by release/row-types.py.
+// begin groups: made by release/row-types.py
 
 // The StrongSynchronization of as many kinds as its first byte says.
 fn strong_synchronization_read(bytes: [u8; 5], tolerance: u64) -> Constraint
@@ -404,7 +414,7 @@ fn synchronization_read(bytes: [u8; 5], tolerance: u64) -> Constraint
     }
 }
 
-// End of what is made.
+// end groups
 
 impl Constraint {
     // §4.5
@@ -421,7 +431,7 @@ impl Constraint {
         let time2 = times[2];
         let time3 = times[3];
         match tag {
-            // Made by release/row-types.py, to the end of the list.
+            // begin read: made by release/row-types.py
             1 => Constraint::Delay {
                 source: byte0,
                 target: byte1,
@@ -480,6 +490,7 @@ impl Constraint {
             },
             11 => synchronization_read(bytes, time0),
             _ => strong_synchronization_read(bytes, time0),
+            // end read
         }
     }
 
@@ -489,7 +500,7 @@ impl Constraint {
         ensures { λ r. ⌜ HoldsRow self r ⌝ }
     {
         match self {
-            // Made by release/row-types.py, to the end of the list.
+            // begin fields: made by release/row-types.py
             Constraint::Delay {
                 source,
                 target,
@@ -627,6 +638,7 @@ impl Constraint {
                 [4, first, second, third, fourth],
                 [tolerance, 0, 0, 0],
             ),
+            // end fields
         }
     }
 

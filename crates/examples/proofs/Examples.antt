@@ -26,6 +26,7 @@ use Rattle.monitor.proofs.Theorem.{monitor-is-exact}
 use Rattle.examples.specs.Reading.{ReadsSo, AllRead, BothRead, CrowdedSilence}
 use Rattle.examples.proofs.Fitting.{and-true, fits, accepted-by, accepted-both}
 use Rattle.examples.specs.Vectors.{crowdedRows, crowdedCalls, crowdedAnswers}
+-- begin imports: made by release/row-types.py
 use Rattle.delay_order.specs.Delay.{answeredBy, decideDelay}
 use Rattle.delay_order.specs.StrongDelay.{sourceStrongDelay, targetStrongDelay, decideStrongDelay}
 use Rattle.repeat_burst.specs.Repeat.{decideRepeat}
@@ -37,6 +38,8 @@ use Rattle.event_chain.specs.Reaction.{dueBut, decideReaction}
 use Rattle.repetition.specs.Repetition.{placed, decideRepetition}
 use Rattle.synchronizations.specs.Synchronization.{decideSynchronization}
 use Rattle.examples.specs.Vectors.{unlimited-delays, silences, execution-times, repetitions, long-clocks, reactions, synchronizations}
+
+-- end imports
 
 -- ---- what the machine computes
 
@@ -100,8 +103,7 @@ allCompute : List Example → Bool
 allCompute [] = true
 allCompute (e ∷ later) = computes e && allCompute later
 
--- Made by release/row-types.py.
-
+-- begin computed: made by release/row-types.py
 all-computed : (allCompute examples ≡ true) × (allCompute unlimited-delays ≡ true) × (allCompute silences ≡ true)
     × (allCompute execution-times ≡ true) × (allCompute repetitions ≡ true) × (allCompute long-clocks ≡ true) × (allCompute reactions ≡ true)
     × (allCompute synchronizations ≡ true)
@@ -112,7 +114,7 @@ unfolding allCompute computes playOf sameAnswers isVerdict play rowOf brokenRow 
     decideSynchronization
 all-computed = (refl, refl, refl, refl, refl, refl, refl, refl)
 
--- End of what is made.
+-- end computed
 
 -- ---- so each reads by the definitions what the machine computes
 
@@ -143,6 +145,8 @@ all-read (e ∷ later) computed = let parts = and-true (computes e) (allCompute 
 pub examples-hold : AllRead examples
 examples-hold = all-read examples (all-computed .0)
 
+-- begin hold: made by release/row-types.py
+
 -- §5.1.6, §5.1.7
 pub unlimited-delays-hold : AllRead unlimited-delays
 unlimited-delays-hold = all-read unlimited-delays (all-computed .1)
@@ -170,6 +174,8 @@ reactions-hold = all-read reactions (all-computed .6)
 -- §5.11 to §5.11.5
 pub synchronizations-hold : AllRead synchronizations
 synchronizations-hold = all-read synchronizations (all-computed .7)
+
+-- end hold
 
 -- ---- a table of two rows
 

@@ -19,7 +19,8 @@ const GROUP: usize = 16;
 // The line that heads each group of rows.
 const HYPHENS: [u8; 73] =
     *b"------------------------------------------------------------------------\n";
-// The names by the number of the type, as release/row-types.py makes them, left-aligned in 24. 0 is no type's number.
+// The names of the types by their numbers, left-aligned in 24. 0 is not a type.
+// begin names: made by release/row-types.py
 const NAMES: [[u8; 24]; 12] = [
     *b"Unknown                 ",
     *b"Delay                   ",
@@ -34,6 +35,7 @@ const NAMES: [[u8; 24]; 12] = [
     *b"Repetition              ",
     *b"Synchronization         ",
 ];
+// end names
 
 // What a page and a report say of a monitor.
 pub struct Summary {

@@ -10,9 +10,11 @@ use Rattle.constraint.specs.Waiting.{waiting}
 use Rattle.constraint.specs.declared.Answer.the-variants.{Refused}
 use Rattle.constraint.specs.declared.Call.{Call}
 use Rattle.constraint.specs.declared.Constraint.{Constraint}
+-- begin imports: made by release/row-types.py
 use Rattle.constraint.specs.declared.Constraint.the-variants.{Delay, StrongDelay, Repeat, Sporadic, Burst, Order, StrongSynchronization2}
 use Rattle.constraint.specs.declared.Constraint.the-variants.{StrongSynchronization3, StrongSynchronization4, ExecutionTime, Reaction, Repetition}
 use Rattle.constraint.specs.declared.Constraint.the-variants.{Synchronization2, Synchronization3, Synchronization4}
+-- end imports
 use Rattle.constraint.proofs.Streams.{streams}
 use Rattle.constraint.proofs.History.{own-other}
 use Rattle.constraint.proofs.Continuations.{open-before}
@@ -39,7 +41,7 @@ module _ (s t : ℕ) (late : firstColoured ≤ s) (steps : List Step) where
 
   coloured-waits : (c : Constraint) → KindsSuit c → waiting c (steps ++ (event s t ∷ [])) ≡ waiting c steps
   unfolding KindsSuit waiting
-  -- Made by release/row-types.py, to the end of the list.
+  -- begin coloured waits: made by release/row-types.py
   coloured-waits (Delay a b x y) k = same-waits (Delay a b x y) (rw (other a (k .0), other b (k .1 .0)) refl)
   coloured-waits (StrongDelay a b x y) k = same-waits (StrongDelay a b x y) (rw (other a (k .0), other b (k .1 .0)) refl)
   coloured-waits (Repeat a b x y) k = refl
@@ -58,6 +60,7 @@ module _ (s t : ℕ) (late : firstColoured ≤ s) (steps : List Step) where
   coloured-waits (Synchronization2 a b x) k = refl
   coloured-waits (Synchronization3 a b c x) k = refl
   coloured-waits (Synchronization4 a b c d x) k = refl
+  -- end coloured waits
 
 -- ---- so it is never why an event is refused
 

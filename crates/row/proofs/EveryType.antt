@@ -1,7 +1,7 @@
 -- Every row type is exact: by the type, what its own laws prove.
 use Rattle.row.proofs.Names.{Constraint}
 use Rattle.row.proofs.Exact.{Exact, Sound}
--- Made by release/row-types.py.
+-- begin imports: made by release/row-types.py
 use Rattle.constraint.specs.declared.Constraint.the-variants.{Delay}
 use Rattle.constraint.specs.declared.Constraint.the-variants.{StrongDelay}
 use Rattle.constraint.specs.declared.Constraint.the-variants.{Repeat}
@@ -33,8 +33,10 @@ use Rattle.synchronizations.proofs.Laws.Synchronization.{exactSynchronization2}
 use Rattle.synchronizations.proofs.Laws.Synchronization.{exactSynchronization3}
 use Rattle.synchronizations.proofs.Laws.Synchronization.{exactSynchronization4}
 
+-- end imports
+
 pub every-type-exact : (c : Constraint) → Sound c → Exact c
--- Made by release/row-types.py, to the end of the file.
+-- begin exact: made by release/row-types.py
 every-type-exact (Delay source target lower upper) = exactDelay source target lower upper
 every-type-exact (StrongDelay source target lower upper) = exactStrongDelay source target lower upper
 every-type-exact (Repeat event span lower upper) = exactRepeat event span lower upper
@@ -50,3 +52,5 @@ every-type-exact (Repetition event span lower upper jitter) = exactRepetition ev
 every-type-exact (Synchronization2 first second tolerance) = exactSynchronization2 first second tolerance
 every-type-exact (Synchronization3 first second third tolerance) = exactSynchronization3 first second third tolerance
 every-type-exact (Synchronization4 first second third fourth tolerance) = exactSynchronization4 first second third fourth tolerance
+
+-- end exact

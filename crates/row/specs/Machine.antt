@@ -20,7 +20,7 @@ use Rattle.row_type.specs.Machine.{Machine, noMachine}
 use Rattle.row.specs.declared.StepInput.{StepInput}
 use Rattle.row.specs.declared.Row.{Row}
 use Rattle.row.specs.declared.RowStep.{RowStep}
--- Made by release/row-types.py.
+-- begin imports: made by release/row-types.py
 use Rattle.delay_order.specs.Delay.{machineDelay}
 use Rattle.delay_order.specs.StrongDelay.{machineStrongDelay}
 use Rattle.repeat_burst.specs.Repeat.{machineRepeat}
@@ -32,8 +32,11 @@ use Rattle.event_chain.specs.Reaction.{machineReaction}
 use Rattle.repetition.specs.Repetition.{machineRepetition}
 use Rattle.synchronizations.specs.Synchronization.{machineSynchronization}
 
+-- end imports
+
 -- the machines by the numbers of their types; 0 is no type's
 abbrev pub machines : List Machine
+-- begin machines: made by release/row-types.py
 machines =
     noMachine
     ∷ machineDelay
@@ -48,6 +51,8 @@ machines =
     ∷ machineRepetition
     ∷ machineSynchronization
     ∷ []
+
+-- end machines
 
 -- a row of a number that is no type's breaks at its first event
 abbrev pub machineOf : ℕ → Machine

@@ -167,4 +167,7 @@ few-by true n m p q = p
 few-by false n m p q = q
 
 pub words-few : (parameters : Parameters) → startWordCount parameters ≤ waitingLimit
+-- begin start words: made by release/row-types.py
 words-few parameters = few-by (eqb (parameters .tag) 9) 16 _ (omega arith) (omega arith)
+
+-- end start words

@@ -87,11 +87,17 @@ parametersOf c = withFields (fieldsOf c) (noFields (typeOf c))
 
 -- what a row keeps times of waits in it: in a Delay, a StrongDelay and a StrongSynchronization (§6.1 to §6.3), and in no other type (§6.4)
 abbrev pub waitsIn : ℕ → Bool
+-- begin waits in: made by release/row-types.py
 waitsIn tag = eqb tag 1 || eqb tag 2 || eqb tag 7
+
+-- end waits in
 
 -- how many words a row of the rule has from the start, each 0, and these words: a Reaction has two for each colour
 abbrev pub startWordCount : Parameters → ℕ
+-- begin start words: made by release/row-types.py
 startWordCount parameters = cond (eqb (parameters .tag) 9) 16 0
+
+-- end start words
 
 abbrev pub startWords : Parameters → List ℕ
 startWords parameters = replicate (startWordCount parameters) 0

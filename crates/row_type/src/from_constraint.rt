@@ -131,9 +131,10 @@ pub fn parameters_of(c: Constraint) -> Parameters
 pub fn start_word_count(parameters: Parameters) -> usize
     ensures { λ r. ⌜ r ≡ startWordCount parameters ⌝ }
 {
-    // Made by release/row-types.py, to the end of the list.
+    // begin start words: made by release/row-types.py
     if parameters.tag == 9 {
         return 16;
     }
     0
+    // end start words
 }

@@ -14,7 +14,7 @@ const CALLS: usize = 20_000;
 /// The function inside which callgrind counts, and after which it writes its count down.
 const COUNTED: &str = "bench::count::counted";
 
-/// Runs what callgrind is to count, as a function of its own with something after the call.
+/// Runs what callgrind is to count, as a separate function with something after the call.
 #[inline(never)]
 fn counted(act: &mut dyn FnMut()) {
     act();
@@ -30,10 +30,8 @@ pub fn played(lines: &[Line]) {
     }
 }
 
-/// Instructions of a call of each line, as this program has them that is started anew under callgrind and plays the lines.
-///
-/// # Errors
-/// What went wrong, in a line: there is no valgrind, or it did not count.
+/// Instructions per call of each line. This program starts itself again under callgrind, and plays the lines there.  #
+/// Errors What went wrong, in a line: there is no valgrind, or it did not count.
 pub fn instructions(lines: &[Line]) -> Result<Vec<Both<f64>>, String> {
     let program = env::current_exe().map_err(|error| format!("the program's own name: {error}"))?;
     let file = env::temp_dir().join(format!("delkuthi-count-{}", std::process::id()));

@@ -18,7 +18,7 @@ const WAITING: u64 = 64;
 /// In how many rounds a rare signal comes once.
 const RARELY: u64 = 64;
 
-/// The events of one stream: one in each round, or in each so many rounds, from the round `lag` on.
+/// The events of one stream: one in each round, or in every n-th round, from the round `lag` on.
 #[derive(Clone, Copy)]
 struct Signal {
     stream: u8,
@@ -74,7 +74,7 @@ impl Signals {
         Constraint::Reaction(Reaction { stimulus, response, minimum: APART, maximum: LAST_TIME / 2 })
     }
 
-    /// A source, and so many targets that are so many rounds behind it.
+    /// A source, and several targets a number of rounds behind it.
     fn group(&mut self, number: usize, lag: u64) -> Vec<Signal> {
         if self.full {
             let mut targets: Vec<Signal> = (0..number).map(|_| self.next(WAITING)).collect();
@@ -84,7 +84,7 @@ impl Signals {
         (0..=number).map(|place| self.next(if place == 0 { 0 } else { lag })).collect()
     }
 
-    /// A source, and a target that is so many rounds behind it.
+    /// A source, and a target a number of rounds behind it.
     fn pair(&mut self, lag: u64) -> (Signal, Signal) {
         let group = self.group(1, lag);
         (group[0], group[1])
@@ -155,7 +155,7 @@ fn sporadic(event: Signal, upper: u64) -> Constraint {
     Constraint::Sporadic(Sporadic { event: event.stream, lower, upper, jitter: WOBBLE, minimum: PERIOD - WOBBLE })
 }
 
-/// Points in a rhythm, so many places apart.
+/// Points in a rhythm, a number of places apart.
 fn repetition(event: Signal, span: u8) -> Constraint {
     let length = u64::from(span) * PERIOD;
     Constraint::Repetition(Repetition { event: event.stream, span, lower: length, upper: length, jitter: WOBBLE })
@@ -174,7 +174,7 @@ pub struct Table {
 }
 
 impl Table {
-    /// So many events of the signals, round by round.
+    /// This many events of the signals, round by round.
     pub fn drive(&self, events: usize) -> Vec<Step> {
         (0..).flat_map(|round| self.signals.round(round)).take(events).collect()
     }
@@ -185,9 +185,9 @@ impl Table {
     }
 }
 
-/// Each row has kinds of its own, but that a Burst or a Sporadic shares a Repeat's, and the ExecutionTime's start is a
-/// Sporadic's event: an event concerns one row, or two. All plain kinds are used, and all colours of the Reaction's.
-/// A full table has 64 sources or groups waiting in each row in which they can, but between a target and the next source.
+/// Each row has its own kinds, except that a Burst or a Sporadic shares a Repeat's, and the ExecutionTime's start is a
+/// Sporadic's event: an event concerns one row, or two. All plain kinds are used, and all colours of the Reaction's. A
+/// full table has 64 sources or groups waiting in each row in which they can, but between a target and the next source.
 pub fn sparse(full: bool) -> Table {
     let mut signals = Signals { full, ..Signals::default() };
     let mut rows: Vec<Constraint> = LAGS.iter().map(|lag| delay(signals.pair(*lag))).collect();
@@ -206,8 +206,8 @@ pub fn sparse(full: bool) -> Table {
     Table { rows, signals }
 }
 
-/// Nearly all rows share two kinds, of which an event concerns 24 rows or 25. An execution and a run through a chain, which
-/// need kinds of their own, come once in so many rounds. Full as the sparse one is.
+/// Nearly all rows share two kinds, of which an event concerns 24 rows or 25. An execution and a run through a chain,
+/// which need their own kinds, come once in a number of rounds. Full as the sparse one is.
 pub fn dense(full: bool) -> Table {
     let mut signals = Signals { full, ..Signals::default() };
     let pair = signals.pair(40);

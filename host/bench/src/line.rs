@@ -73,7 +73,7 @@ impl Line {
         }
     }
 
-    /// The calls, so many of those that count.
+    /// The calls: this many of those that count.
     pub fn load(&self, calls: usize) -> Load {
         let events = match (self.alone, self.dense) {
             (false, false) => sparse,

@@ -57,7 +57,7 @@ fn refused(clock: u64, last: u8) -> Vec<Call> {
     steps.into_iter().map(Call::Step).chain([Call::Withdraw]).collect()
 }
 
-/// So many events of the drive over the sparse table.
+/// This many events of the drive over the sparse table.
 pub fn sparse(events: usize) -> Load {
     Load::new("sparse", drive::sparse(false), events)
 }
@@ -67,7 +67,7 @@ pub fn dense(events: usize) -> Load {
     Load::new("dense", drive::dense(false), events)
 }
 
-/// So many events over Synchronizations alone, sparse.
+/// This many events over Synchronizations alone, sparse.
 pub fn sparse_synchronizations(events: usize) -> Load {
     Load::new("Synchronization, sparse", drive::sparse_synchronizations(), events)
 }
@@ -77,7 +77,7 @@ pub fn dense_synchronizations(events: usize) -> Load {
     Load::new("Synchronization, dense", drive::dense_synchronizations(), events)
 }
 
-/// So many events over the sparse table, from where 64 wait on.
+/// This many events over the sparse table, from the point where 64 wait.
 pub fn sparse_full(events: usize) -> Load {
     Load::full("sparse", drive::sparse(true), events)
 }
@@ -103,7 +103,7 @@ impl Load {
         load
     }
 
-    /// So many steps of the same drive with a tick at every time at which no event comes.
+    /// This many steps of the same drive with a tick at every time at which no event comes.
     pub fn ticking(self, steps: usize) -> Load {
         let ticks = |from: Step, to: Step| (time(from) + 1..time(to)).map(|time| Call::Step(Step::Tick { time }));
         let filled =
@@ -112,7 +112,7 @@ impl Load {
         Load { name: format!("{}, ticks", self.name), calls, ..self }
     }
 
-    /// So many calls that are refused for other reasons than 64 waiting, after the first events of the same drive.
+    /// This many calls that are refused for other reasons than 64 waiting, after the first events of the same drive.
     pub fn refusing(self, calls: usize) -> Load {
         let mut ahead = self.calls[..AHEAD].to_vec();
         let plain = self.steps[..AHEAD].iter().rposition(|step| matches!(step, Step::Event { .. }));
@@ -124,7 +124,7 @@ impl Load {
         Load { name: format!("{}, refused", self.name), ahead, calls, refused: true, ..self }
     }
 
-    /// So many sources that are refused with 12, in turn those of each kind of which 64 wait.
+    /// This many sources that are refused with 12, in turn those of each kind of which 64 wait.
     pub fn crowding(self, calls: usize) -> Load {
         let Some(Call::Step(last)) = self.ahead.last() else { return self };
         let mut sources: Vec<u8> = self.rows.iter().filter_map(|row| row.as_type().crowding_kind()).collect();
@@ -159,7 +159,7 @@ impl Load {
         recording_bytes(&self.steps)
     }
 
-    /// The same drive over so many of the rows, from all over the table.
+    /// The same drive over this many of the rows, from all over the table.
     pub fn with_rows(&self, number: usize) -> Load {
         let each = self.rows.len() / number;
         Load { rows: self.rows.iter().step_by(each).cloned().collect(), ..self.clone() }

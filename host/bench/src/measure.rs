@@ -158,7 +158,7 @@ fn time(act: &mut dyn FnMut()) -> Duration {
     thread_time() - start
 }
 
-/// Times a line of so many calls, on which both agree, in so many runs.
+/// Times a line of calls, on which both agree, in a number of runs.
 pub fn times(line: &Line, calls: usize, runs: usize) -> Times {
     let load = line.load(calls);
     agree(&load);

@@ -29,7 +29,7 @@ fn place_of_count() -> usize {
     found[0]
 }
 
-/// A fresh monitor with its count as after so many steps: no test can take as many as the count goes to.
+/// A fresh monitor with a step count to start from: no test can take as many steps as the count allows.
 pub fn counting_from(rows: &[Constraint], count: u64) -> Monitor {
     let mut words = *fresh(rows).words();
     words[place_of_count()] = count;
@@ -69,14 +69,14 @@ pub struct Beside {
 }
 
 impl Beside {
-    /// A list of so many calls from a fresh monitor over an accepted table.
+    /// A list of this many calls from a fresh monitor over an accepted table.
     pub fn new(random: &mut Random, rows: &[Constraint], calls: usize) -> Beside {
         let beside = Beside { play: Play::new(random.fork(), rows, calls), monitor: fresh(rows) };
         beside.compare("fresh", &mut Seen::default());
         beside
     }
 
-    /// The same, with the count as after so many steps.
+    /// The same, with a step count to start from.
     pub fn counting_from(random: &mut Random, rows: &[Constraint], calls: usize, count: u64) -> Beside {
         let play = Play::counting_from(random.fork(), rows, calls, count);
         Beside { play, monitor: counting_from(rows, count) }

@@ -111,10 +111,7 @@ impl Form {
         taken(answer).map(|length| length as usize)
     }
 
-    /// The report on a recording, by a monitor of its own and by a lent one: both are the same.
-    ///
-    /// # Panics
-    /// If they are not.
+    /// The report on a recording, without and with a lent monitor: both are the same.  # Panics If they are not.
     pub fn report(&self, monitor: &mut Monitor, table: &[u8], recording: &[u8]) -> String {
         let (mut one, mut other) = ([0; REPORT_LIMIT], [0; REPORT_LIMIT]);
         let (t, n, r, m) = (table.as_ptr(), table.len(), recording.as_ptr(), recording.len());

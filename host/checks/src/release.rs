@@ -7,7 +7,8 @@ use std::path::{Path, PathBuf};
 use std::process::{Command, Output};
 use std::{env, fs};
 
-/// `make` in a folder of sources, with the archive that the tests have, and with no setting of whoever started the tests.
+/// `make` in a folder of sources, with the archive that the tests have, and without the settings of the process that
+/// started the tests.
 pub fn make_in(sources: &Path) -> Command {
     let mut command = Command::new("make");
     // the tests may have been started by make themselves
@@ -18,10 +19,7 @@ pub fn make_in(sources: &Path) -> Command {
     command
 }
 
-/// `make` at the repository's root, and what it builds in a folder of its own.
-///
-/// # Panics
-/// If there is no `make`.
+/// `make` at the repository's root, and what it builds in a separate folder.  # Panics If there is no `make`.
 pub fn make(build: &Path, words: &[&str]) -> Output {
     let mut command = make_in(&root());
     command.arg(format!("BUILD={}", build.display())).args(words);
@@ -118,7 +116,7 @@ pub fn interface() -> String {
     version().rsplit_once('.').expect("three numbers").0.to_string()
 }
 
-/// A Rust program of its own that depends on the crate `delkuthi` by its path, as a buyer's would.
+/// A separate Rust program that depends on the crate `delkuthi` by its path, as a buyer's would.
 pub struct RustHost {
     folder: Folder,
 }

@@ -6,8 +6,8 @@ use model::types::{self, Field};
 
 /// The row as the Rust crate has it.
 pub fn row_of(row: &Constraint) -> Row<'_> {
+    // begin rows: made by release/row-types.py
     match *row {
-        // Made by release/row-types.py, to the end of the list.
         Constraint::Delay(types::Delay { source, target, lower, upper }) => Row::Delay { source, target, lower, upper },
         Constraint::StrongDelay(types::StrongDelay { source, target, lower, upper }) => {
             Row::StrongDelay { source, target, lower, upper }
@@ -36,6 +36,7 @@ pub fn row_of(row: &Constraint) -> Row<'_> {
             Row::Synchronization { kinds, tolerance }
         }
     }
+    // end rows
 }
 
 /// Writes rows to the buffer with the Rust crate; gives the number of bytes written.

@@ -33,7 +33,7 @@ fn stamp(monitor: &Monitor, row: usize) -> u64 {
 /// What a word says of withdrawals, if it says anything of them. A withdrawal puts every other word back.
 pub fn of_withdrawals(place: usize) -> Option<&'static str> {
     match place {
-        SOONEST => Some("the time before which no row is due: 0 after a withdrawal, and found anew at the next step"),
+        SOONEST => Some("the time before which no row is due: 0 after a withdrawal, and found again at the next step"),
         ROOM => Some("1 while a place is free in every row: 0 stays where an event that is withdrawn has filled one"),
         _ if LAST_STEP.contains(&place) => {
             Some("whether the last step may be withdrawn, and what it changed beside the rows")
@@ -57,11 +57,9 @@ pub fn withdrawn(before: &Monitor, stepped: &Monitor) -> Monitor {
     Monitor::from_words(words)
 }
 
-/// Whether a place is free in every row, after a step that is taken: 1 only where fewer than 64 wait in each. An event after every 32
-/// steps finds it anew where it was 0; else only an event changes it, from 1 to 0.
-///
-/// # Panics
-/// If it is another number.
+/// Whether a place is free in every row, after a step that is taken: 1 only where fewer than 64 wait in each. An event
+/// after every 32 steps finds it again where it was 0; else only an event changes it, from 1 to 0.  # Panics If it is
+/// another number.
 pub fn room_after(before: &Monitor, stepped: &Monitor, event: bool) {
     let (room, then) = (stepped.words()[ROOM], before.words()[ROOM]);
     let waiting = |monitor: &Monitor| (0..monitor.rows()).map(|row| monitor.row_waiting(row)).max().unwrap_or(0);

@@ -109,7 +109,7 @@ fn two_threads_each_its_own() {
     assert!(threads.into_iter().all(|thread| thread.join().is_ok()));
 }
 
-/// A copy of a monitor is a monitor of its own, and goes on as the first one would have.
+/// A copy of a monitor is an independent monitor, and continues as the first one would have.
 #[test]
 fn a_copy_goes_its_own_way() {
     let mut random = Random::new(106);

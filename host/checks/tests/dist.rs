@@ -4,6 +4,7 @@ use checks::documents::text_of;
 use checks::hosts::{Ran, c_compiler, done, ran, say};
 use checks::places::{Folder, archive_folder, root};
 use checks::release::{make_in, path_without, version};
+use std::collections::{HashMap, HashSet};
 use std::fs;
 use std::path::{Path, PathBuf};
 use std::process::Command;
@@ -185,22 +186,137 @@ fn the_manifest() {
     }
 }
 
-/// The list of parts has every file that is delivered to be linked, with its checksum, and says that nothing of the kit is in it.
+/// A list of parts in the form of SPDX, as its tags and values; a text of several lines is one value.
+fn tags(text: &str) -> Vec<(String, String)> {
+    let (mut found, mut lines) = (Vec::new(), text.lines());
+    while let Some(line) = lines.next() {
+        if line.is_empty() {
+            continue;
+        }
+        let (tag, value) = line.split_once(": ").unwrap_or_else(|| panic!("neither a tag nor a value: {line}"));
+        let mut value = value.to_string();
+        while value.starts_with("<text>") && !value.ends_with("</text>") {
+            value = format!("{value}\n{}", lines.next().expect("the end of a text"));
+        }
+        found.push((tag.to_string(), value));
+    }
+    found
+}
+
+/// The parts of the list that begin with a tag, each with its own tags up to the next part.
+fn parts<'a>(tags: &'a [(String, String)], begin: &str) -> Vec<HashMap<&'a str, Vec<&'a str>>> {
+    let begins = |tag: &str| ["FileName", "PackageName", "LicenseID"].contains(&tag);
+    let whole = tags.chunk_by(|_, next| !begins(&next.0));
+    let part = |part: &'a [(String, String)]| {
+        let mut by_tag: HashMap<&str, Vec<&str>> = HashMap::new();
+        part.iter().for_each(|(tag, value)| by_tag.entry(tag).or_default().push(value));
+        by_tag
+    };
+    whole.filter(|part| part[0].0 == begin).map(part).collect()
+}
+
+/// Every file of the release is in the list, with the checksum of `SHA256SUMS`, a licence and a relation to the package; the sum over all
+/// files is right; each identity stands once, and each relation names what is there.
 #[test]
 fn the_list_of_parts() {
     let Some(release) = release() else { return };
-    let text = text_of(&release.join("delkuthi.spdx"));
-    for line in
-        ["SPDXVersion: SPDX-2.3", "PackageName: delkuthi", "Relationship: SPDXRef-Kit BUILD_TOOL_OF SPDXRef-Delkuthi"]
-    {
-        assert!(text.lines().any(|found| found == line), "{line}");
+    let tags = tags(&text_of(&release.join("delkuthi.spdx")));
+    let files = parts(&tags, "FileName");
+    let sums: HashMap<String, String> = text_of(&release.join("SHA256SUMS"))
+        .lines()
+        .filter_map(|line| line.split_once("  ").map(|(sum, name)| (format!("./{name}"), format!("SHA256: {sum}"))))
+        .filter(|(name, _)| name != "./delkuthi.spdx")
+        .collect();
+    let listed =
+        files.iter().map(|file| (file["FileName"][0].to_string(), file["FileChecksum"][1].to_string())).collect();
+    assert!(sums == listed, "the list of parts and SHA256SUMS differ");
+    let mut first: Vec<&str> = files.iter().map(|file| file["FileChecksum"][0].trim_start_matches("SHA1: ")).collect();
+    first.sort();
+    let folder = Folder::new();
+    let sum = done(Command::new("sha1sum").arg(folder.write("sums", first.concat().as_bytes())));
+    let packages = parts(&tags, "PackageName");
+    let code = packages[0]["PackageVerificationCode"][0].split(' ').next().expect("a sum");
+    assert!(sum.starts_with(code), "{sum} {code}");
+    for file in &files {
+        let relation = format!("SPDXRef-Delkuthi CONTAINS {}", file["SPDXID"][0]);
+        assert!(
+            file["Relationship"] == [relation.as_str()] && file["LicenseConcluded"] == ["LicenseRef-Delkuthi"],
+            "{file:?}"
+        );
+        assert!(
+            ["LicenseInfoInFile", "FileCopyrightText", "FileType"].iter().all(|tag| file.contains_key(tag)),
+            "{file:?}"
+        );
     }
-    for file in ["include/delkuthi.h", "lib/libdelkuthi.a", "bin/delkuthi"] {
-        let sum = done(Command::new("sha256sum").arg(release.join(file)));
-        let after = text.split(&format!("FileName: ./{file}\n")).nth(1).unwrap_or_else(|| panic!("{file} in the list"));
-        let line = after.lines().find_map(|line| line.strip_prefix("FileChecksum: SHA256: ")).expect("a checksum");
-        assert!(sum.starts_with(line), "{file}");
+    for package in &packages {
+        let needed = [
+            "PackageDownloadLocation",
+            "PackageLicenseConcluded",
+            "PackageLicenseDeclared",
+            "PackageCopyrightText",
+            "SPDXID",
+        ];
+        assert!(needed.iter().all(|tag| package.contains_key(tag)), "{package:?}");
     }
+    assert_eq!(parts(&tags, "LicenseID")[0]["LicenseID"], ["LicenseRef-Delkuthi"]);
+    names_what_is_there(&tags);
+}
+
+/// Each identity of a list of parts stands once, and each relation is between two of them.
+fn names_what_is_there(tags: &[(String, String)]) {
+    let of =
+        |name: &str| tags.iter().filter(|(tag, _)| tag == name).map(|(_, value)| value.as_str()).collect::<Vec<&str>>();
+    let (each, once) = (of("SPDXID"), of("SPDXID").into_iter().collect::<HashSet<&str>>());
+    assert_eq!(each.len(), once.len());
+    for relation in of("Relationship") {
+        let words: Vec<&str> = relation.split(' ').collect();
+        assert!(words.len() == 3 && once.contains(words[0]) && once.contains(words[2]), "{relation}");
+    }
+    for tag in ["SPDXVersion", "DataLicense", "DocumentName", "DocumentNamespace", "Created"] {
+        assert_eq!(of(tag).len(), 1, "{tag}");
+    }
+}
+
+/// A folder with a tarball and the file of its checksum, as `make dist` leaves them.
+fn to_sign() -> (Folder, String) {
+    let (folder, name) = (Folder::new(), format!("delkuthi-{}.sha256", version()));
+    folder.write("packed.tar.gz", b"a tarball");
+    let sum = done(Command::new("sha256sum").arg("packed.tar.gz").current_dir(folder.path()));
+    folder.write(&name, sum.as_bytes());
+    (folder, name)
+}
+
+/// `make sign` with a key; the status and what it said.
+fn sign(folder: &Folder, key: &Path) -> (bool, String) {
+    let mut command = make_in(&root());
+    command.arg("sign").arg(format!("BUILD={}", folder.path().display())).arg(format!("KEY={}", key.display()));
+    let output = command.output().expect("make can be run");
+    (output.status.success(), String::from_utf8_lossy(&output.stderr).into_owned())
+}
+
+/// The checksums are signed with a key for this test, the signature is good, and it is not for other checksums. What does not fit its
+/// checksum is not signed.
+#[test]
+fn the_checksums_can_be_signed() {
+    let (folder, name) = to_sign();
+    let (key, public) = (folder.path().join("secret"), folder.path().join("public"));
+    assert!(sign(&folder, Path::new("")).1.contains("make sign KEY=.."));
+    if !checks::hosts::found("minisign") {
+        return say("minisign is not installed: nothing was signed");
+    }
+    done(Command::new("minisign").args(["-G", "-W", "-f", "-s"]).arg(&key).arg("-p").arg(&public));
+    let (signed, said) = sign(&folder, &key);
+    assert!(signed, "{said}");
+    let verified = |file: &str| {
+        let mut minisign = Command::new("minisign");
+        minisign.args(["-V", "-q", "-p"]).arg(&public).arg("-m").arg(folder.path().join(file));
+        minisign.output().expect("minisign can be run").status.success()
+    };
+    assert!(verified(&name));
+    fs::write(folder.path().join(&name), "0  packed.tar.gz\n").expect("a file");
+    assert!(!verified(&name));
+    let (signed, said) = sign(&folder, &key);
+    assert!(!signed && said.contains("nothing is signed"), "{said}");
 }
 
 /// From the tarball alone and without the kit: the lines of its README, a host by pkg-config, the program.

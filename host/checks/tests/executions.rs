@@ -7,7 +7,7 @@ use model::random::executions::{SeenWays, next_step, row, way};
 use model::types::ExecutionTime;
 use model::{Monitor, Step, Verdict};
 
-/// Plays a list until the row is broken or the recording closed, at most so many steps; gives the number of steps.
+/// Plays a list until the row is broken or the recording closed, up to a number of steps. Returns the number of steps.
 fn play(random: &mut Random, row: &ExecutionTime, steps: u64, wrong: u64, ways: &mut SeenWays) -> u64 {
     let rows = [row.clone().into()];
     let (mut monitor, mut model) = (fresh(&rows), Monitor::fresh(&rows).expect("an accepted row"));

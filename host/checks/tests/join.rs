@@ -16,7 +16,7 @@ use std::fs;
 /// What stands in a lent buffer before the call, so that a byte that is written is seen.
 const BEFORE: u8 = 0xA5;
 
-/// The library's answer, as the model gives it, in a buffer of so many bytes; bytes that are not written stay.
+/// The library's answer, as the model gives it, in a buffer of this size. Bytes that are not written stay.
 fn library(first: &[u8], second: &[u8], room: usize) -> Result<Vec<u8>, JoinRefusal> {
     let mut buffer = vec![BEFORE; room];
     match delkuthi::join(first, second, &mut buffer) {
@@ -197,7 +197,7 @@ fn long_recordings() {
     assert_eq!(library(&first, &second, room), Ok(expected));
 }
 
-/// The files of `examples/join`: two recordings, their join, and its report. To write them anew after a change here:
+/// The files of `examples/join`: two recordings, their join, and its report. To write them again after a change here:
 /// `JOIN=write cargo test --test join`.
 #[test]
 fn the_example() {

@@ -214,7 +214,13 @@ fn missing_packages_are_named() {
     let output = bash.output();
     let output = output.expect("bash can be run");
     let said = String::from_utf8_lossy(&output.stdout).into_owned();
-    let tools = ["aarch64-linux-gnu-gcc", "arm-linux-gnueabihf-gcc", "riscv64-linux-gnu-gcc", "s390x-linux-gnu-gcc", "arm-none-eabi-gcc"];
+    let tools = [
+        "aarch64-linux-gnu-gcc",
+        "arm-linux-gnueabihf-gcc",
+        "riscv64-linux-gnu-gcc",
+        "s390x-linux-gnu-gcc",
+        "arm-none-eabi-gcc",
+    ];
     for name in tools.into_iter().chain(["qemu-user", "qemu-system-arm", "rustc", "INSTALL=--install"]) {
         assert!(said.contains(name), "{name} in {said}");
     }

@@ -42,7 +42,7 @@ fn copies() -> [Installed; 2] {
 }
 
 /// What is installed beside the headers and the files of the shared library.
-const INSTALLED: [&str; 22] = [
+const INSTALLED: [&str; 24] = [
     "bin/delkuthi",
     "lib/cmake/delkuthi/delkuthi-config-version.cmake",
     "lib/cmake/delkuthi/delkuthi-config.cmake",
@@ -55,7 +55,9 @@ const INSTALLED: [&str; 22] = [
     "share/doc/delkuthi/LICENSE",
     "share/doc/delkuthi/MISRA.md",
     "share/doc/delkuthi/NOTICE",
+    "share/doc/delkuthi/QUALIFICATION.md",
     "share/doc/delkuthi/SAFETY.md",
+    "share/doc/delkuthi/SUPPORT.md",
     "share/doc/delkuthi/TRACE.md",
     "share/doc/delkuthi/examples/bench_loop.c",
     "share/doc/delkuthi/examples/file.c",
@@ -321,7 +323,7 @@ fn a_host_of_cmake() {
     }
 }
 
-/// The flags of whoever builds are used, and do not take the program's own away.
+/// The build uses the user's flags, and they do not remove the program's own flags.
 #[test]
 fn flags_from_outside() {
     let folder = Folder::new();

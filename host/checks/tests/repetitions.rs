@@ -8,7 +8,7 @@ use model::random::repetitions::{SeenOutcomes, next_step, outcome, row};
 use model::types::Repetition;
 use model::{Monitor, REPETITION_SPAN_LIMIT, Step, Verdict};
 
-/// Plays a list until the row is broken, or so many steps and the close; counts what became of the row.
+/// Plays a list until the row is broken, or this many steps and the close. Counts what became of the row.
 fn play(random: &mut Random, row: &Repetition, span: u8, seen: &mut SeenOutcomes) {
     // from event span + 1 on, or not at all
     let (steps, wrong_at) = (5 * u64::from(span) + 12, usize::from(span) + random.place(5 * usize::from(span) + 12));

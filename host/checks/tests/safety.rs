@@ -4,6 +4,8 @@ use checks::contract::{clauses, text};
 use checks::documents::text_of;
 use checks::places::{Folder, root};
 use checks::release::make;
+use std::collections::BTreeSet;
+use std::fs;
 use std::process::Command;
 
 /// The rows of the trace, cell by cell.
@@ -89,7 +91,9 @@ fn a_promise_without_a_row_or_a_test_is_named() {
 #[test]
 fn names_of_the_header() {
     let header = text_of(&root().join("include/delkuthi.h"));
-    for file in ["docs/SAFETY.md", "docs/DATASHEET.md", "release/delkuthi.3.in"] {
+    for file in
+        ["docs/SAFETY.md", "docs/QUALIFICATION.md", "docs/SUPPORT.md", "docs/DATASHEET.md", "release/delkuthi.3.in"]
+    {
         let text = text_of(&root().join(file));
         let words = text.split(|letter: char| !letter.is_ascii_alphanumeric() && letter != '_');
         let names = words.filter(|word| word.to_ascii_lowercase().starts_with("delkuthi_") && *word != "delkuthi_cli");
@@ -117,4 +121,25 @@ fn the_page_for_the_assessor() {
         text.lines().filter_map(|line| Some(line.strip_prefix("| D")?.split(' ').next()?.to_string())).collect();
     assert_eq!(duties, (1..=duties.len()).map(|number| number.to_string()).collect::<Vec<String>>());
     assert!(duties.len() >= 8 && text.split_whitespace().count() < 2_000, "{} words", text.split_whitespace().count());
+}
+
+/// The placeholders of a text, as "[SELLER: name]".
+fn placeholders(text: &str) -> BTreeSet<String> {
+    let ends = |rest: &str| rest.split_once(']').map(|(name, _)| name.to_string());
+    text.split("[SELLER: ").skip(1).filter_map(ends).filter(|name| name != "..").collect()
+}
+
+/// Every placeholder for the seller is in the one list, the list has no other, and the release says that they are not filled in.
+#[test]
+fn the_placeholders_of_the_seller() {
+    let support = text_of(&root().join("docs/SUPPORT.md"));
+    let (before, list) = support.split_once("## What the seller fills in").expect("the list");
+    let mut used = placeholders(before);
+    for folder in [".", "docs", "release", "python", "examples", "host/kit/c"] {
+        let files = fs::read_dir(root().join(folder)).expect("a folder").map(|file| file.expect("a file").path());
+        let texts = files.filter(|file| file.is_file() && !file.ends_with("SUPPORT.md"));
+        used.extend(texts.filter_map(|file| fs::read_to_string(file).ok()).flat_map(|text| placeholders(&text)));
+    }
+    assert!(!used.is_empty());
+    assert_eq!(placeholders(list), used);
 }

@@ -1,5 +1,5 @@
-//! The shortest stretch that breaks a row: the exported function beside the model, which tries every stretch with a monitor of its own.
-//! Clauses: §8.22, §8.23, §14.1 to §14.6.
+//! The shortest stretch that breaks a row: the exported function beside the model, which tries every stretch with its
+//! own monitor. Clauses: §8.22, §8.23, §14.1 to §14.6.
 
 use checks::contract::{blocks, text};
 use checks::places::root;

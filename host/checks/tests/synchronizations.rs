@@ -23,7 +23,7 @@ enum End {
 const ENDS: [End; 5] = [End::Tick, End::Own, End::Other, End::CloseBroken, End::CloseKept];
 /// A kind that no row here has.
 const STRANGER: u8 = 40;
-/// A list has at least so many steps before its end.
+/// A list has at least this many steps before its end.
 const LONG: u64 = 90;
 
 fn row(random: &mut Random, n: usize, tolerance: u64) -> Synchronization {

@@ -1,5 +1,5 @@
-//! Lists of calls in which steps are withdrawn, beside the model that strikes them out and takes the rest anew.
-//! Clauses: §3.12 to §3.15, §8.21, §9.2.
+//! Lists of calls in which steps are withdrawn, beside the model that removes them and takes the rest again. Clauses:
+//! §3.12 to §3.15, §8.21, §9.2.
 
 use checks::beside::{counting_from, fresh, take, take_all, verdict};
 use checks::words::{Differing, differing, room_after, untouched, withdrawn};
@@ -24,7 +24,7 @@ struct Found {
     closes: usize,
 }
 
-/// A monitor of the library beside the model, both with the count as after so many steps.
+/// A monitor of the library beside the model, both with a step count to start from.
 struct Beside<'a> {
     rows: &'a [Constraint],
     count: u64,
@@ -82,7 +82,7 @@ impl<'a> Beside<'a> {
     }
 }
 
-/// Plays so many random calls, and about half as many withdrawals between them.
+/// Plays this many random calls, and about half as many withdrawals between them.
 fn play(random: &mut Random, rows: &[Constraint], number: usize, count: u64, found: &mut Found) {
     let mut beside = Beside::new(rows, count);
     for call in calls(random, rows, number) {
@@ -143,7 +143,7 @@ fn waiting_rows() -> Vec<Constraint> {
     ]
 }
 
-/// A request where 64 wait or nearly so many: a source mostly, another kind, a tick, or a withdrawal.
+/// A request where 64 or nearly 64 wait: a source mostly, another kind, a tick, or a withdrawal.
 fn near_the_limit(random: &mut Random, clock: u64) -> Option<Step> {
     let time = clock + random.below(2);
     match random.below(10) {

@@ -5,13 +5,17 @@ use crate::refusal::Refusal;
 
 /// The length of the longest table: a version byte, and for each of 32 rows a length field and at most 34 bytes.
 pub const TABLE_LIMIT: usize = 1153;
+// begin no limit: made by release/row-types.py
 /// The upper of a Delay, Repeat or Sporadic that has no upper limit.
 pub const NO_LIMIT: u64 = u64::MAX;
+// end no limit
 
 /// The newest edition of the table: the largest version byte of a table. Every function that takes a table takes all editions.
 pub const NEWEST_EDITION: u8 = 2;
+// begin first edition: made by release/row-types.py
 /// The last type that the first edition of the table has.
 const FIRST_EDITION_TYPES: u8 = 10;
+// end first edition
 
 /// The bytes of a row for the writer: as many as the longest row has. The rest are 0.
 const ROW_SIZE: usize = 34;
@@ -22,7 +26,7 @@ const ASKED: usize = crate::ROW_LIMIT + 1;
 #[derive(Clone, Copy, Debug, PartialEq, Eq, Hash)]
 #[allow(missing_docs)]
 pub enum Row<'a> {
-    // Made by release/row-types.py, to the end of the list.
+    // begin rows: made by release/row-types.py
     /// After each source a target comes, `lower` to `upper` later.
     Delay { source: u8, target: u8, lower: u64, upper: u64 },
     /// The same, and each source has its own target, in order.
@@ -45,6 +49,7 @@ pub enum Row<'a> {
     Repetition { event: u8, span: u8, lower: u64, upper: u64, jitter: u64 },
     /// Each event of the kinds, 2 to 4 of them, lies in a window of `tolerance` in which every kind has an event.
     Synchronization { kinds: &'a [u8], tolerance: u64 },
+    // end rows
 }
 
 /// Writes the table of some rows, in the lowest edition that has all their types. Returns the number of bytes written. Bytes
@@ -72,8 +77,8 @@ impl Row<'_> {
 
     /// The row's type byte and fields, as many bytes as the longest row has.
     fn body(&self) -> [u8; ROW_SIZE] {
+        // begin bodies: made by release/row-types.py
         match *self {
-            // Made by release/row-types.py, to the end of the list.
             Row::Delay { source, target, lower, upper } => body(&[1, source, target], &[lower, upper]),
             Row::StrongDelay { source, target, lower, upper } => body(&[2, source, target], &[lower, upper]),
             Row::Repeat { event, span, lower, upper } => body(&[3, event, span], &[lower, upper]),
@@ -102,6 +107,7 @@ impl Row<'_> {
                 body(&bytes[..2 + n], &[tolerance])
             }
         }
+        // end bodies
     }
 }
 

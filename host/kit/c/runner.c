@@ -212,7 +212,7 @@ static void state(void)
     same_monitor();
 }
 
-/* A monitor over so many rows, as it is at the start. */
+/* A monitor over this many rows, as it is at the start. */
 static void expect_fresh(uint64_t rows)
 {
     uint64_t row;

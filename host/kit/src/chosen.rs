@@ -155,7 +155,7 @@ fn one_recording(bytes: &[u8]) -> Vector {
     vector
 }
 
-/// A recording of so many records (§8.22): none breaks the row, or the last.
+/// A recording of this many records (§8.22): none breaks the row, or the last.
 fn record_limit(records: usize) -> Vector {
     let mut vector = Vector::new("chosen, many records");
     let ticks: Vec<Step> = (1..records as u64).map(|time| Step::Tick { time }).collect();
@@ -188,7 +188,7 @@ fn short_buffers(less: usize) -> Vector {
     vector
 }
 
-/// So many rows for the table writer (§8.3).
+/// This many rows for the table writer (§8.3).
 fn rows_written(number: usize) -> Vector {
     let mut vector = Vector::new("chosen, rows written");
     vector.write(1, &vec![order(); number], ROOM);

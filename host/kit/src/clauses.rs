@@ -1,4 +1,4 @@
-//! The list of clauses: for each clause of the contract that has no example of its own, what a vector has to show to cover it, or why no
+//! The list of clauses: for each clause of the contract that has no separate example, what a vector has to show to cover it, or why no
 //! vector can. A clause with an example is covered by the vectors of that example.
 
 /// A clause, and the facts that one vector has to show together; "not:" and a reason if the kit cannot execute it.

@@ -173,7 +173,7 @@ impl Vector {
         }
     }
 
-    /// The monitor's count as after so many steps (§1.7).
+    /// The step count that the monitor starts from (§1.7).
     pub fn count(&mut self, count: u64) {
         self.item(Item::Count);
         put_number(&mut self.bytes, count);
@@ -284,7 +284,7 @@ impl Vector {
         self.state = after;
     }
 
-    /// The page of the monitor, for a buffer of so many bytes (§7.14).
+    /// The page of the monitor, for a buffer of this size (§7.14).
     pub fn page(&mut self, room: usize) {
         self.item(Item::Page);
         let monitor = self.monitor.as_ref().expect("a monitor");
@@ -298,7 +298,7 @@ impl Vector {
         self.shows(if closed { "page of a closed monitor" } else { "page of an open monitor" });
     }
 
-    /// The report of the monitor, for a buffer of so many bytes (§7.23).
+    /// The report of the monitor, for a buffer of this size (§7.23).
     pub fn report_of(&mut self, room: usize) {
         self.item(Item::ReportOf);
         let text = report_of(self.monitor.as_ref().expect("a monitor"));
@@ -349,7 +349,7 @@ impl Vector {
         self.shows(if fits { what.to_string() } else { format!("{what} too long") });
     }
 
-    /// The table writer of an edition, for rows and a buffer of so many bytes (§9.7, §9.8).
+    /// The table writer of an edition, for rows and a buffer of this size (§9.7, §9.8).
     pub fn write(&mut self, edition: u8, rows: &[Constraint], room: usize) {
         self.item(Item::Write);
         self.bytes.push(edition);

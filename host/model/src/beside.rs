@@ -1,4 +1,4 @@
-//! Steps that one row cannot tell apart (§3.10).
+//! Steps that look the same to one row (§3.10).
 
 use crate::steps::Step;
 use crate::types::Constraint;

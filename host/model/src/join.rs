@@ -20,7 +20,7 @@ pub struct JoinRefusal {
     pub refusal: Refusal,
 }
 
-/// The joined recording for a buffer of so many bytes, with the questions in their order (§13.5).
+/// The joined recording for a buffer of this size, with the questions in their order (§13.5).
 pub fn join(first: &[u8], second: &[u8], room: usize) -> Result<Vec<u8>, JoinRefusal> {
     let at = |input| move |refusal| JoinRefusal { input: Some(input), refusal };
     let one = records(first).map_err(at(Input::First))?;

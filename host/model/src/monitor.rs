@@ -48,7 +48,7 @@ impl Monitor {
         Ok(Monitor { rows, steps: Vec::new(), recorded: History::default(), broken, may: false })
     }
 
-    /// The same, with the count as after so many steps (§1.7).
+    /// The same, with a step count to start from (§1.7).
     pub fn counting_from(rows: &[Constraint], count: u64) -> Result<Monitor, u8> {
         Ok(Monitor { recorded: History::counting_from(count), ..Monitor::fresh(rows)? })
     }
@@ -83,7 +83,8 @@ impl Monitor {
         Ok(())
     }
 
-    /// Strikes the last step out and takes those before it anew, or 21 where it may not be withdrawn (§3.12, §8.21).
+    /// Removes the last step and takes the steps before it again, or answers 21 if it may not be withdrawn (§3.12,
+    /// §8.21).
     pub fn withdraw(&mut self) -> Answer {
         ask(21, self.may)?;
         let from = self.recorded.count() - self.steps.len() as u64;

@@ -46,7 +46,7 @@ impl Random {
         self.below(length as u64) as usize
     }
 
-    /// True in so many of 100 cases.
+    /// True in this many of 100 cases.
     pub fn chance(&mut self, percent: u64) -> bool {
         self.below(100) < percent
     }
@@ -56,7 +56,7 @@ impl Random {
         &list[self.place(list.len())]
     }
 
-    /// A generator with numbers of its own.
+    /// A generator with a separate sequence of numbers.
     pub fn fork(&mut self) -> Random {
         Random::new(self.number())
     }

@@ -96,7 +96,7 @@ impl Default for History {
 }
 
 impl History {
-    /// Nothing recorded, with the count as after so many steps: no test can take as many as the count goes to.
+    /// Nothing recorded, with a step count to start from: no test can take as many steps as the count allows.
     pub fn counting_from(count: u64) -> History {
         History { count, ..History::default() }
     }

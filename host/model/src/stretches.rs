@@ -1,4 +1,5 @@
-//! The shortest stretch of consecutive records that breaks a row (section 14): every stretch tried, each by a monitor of its own.
+//! The shortest stretch of consecutive records that breaks a row (section 14): tries every stretch, each with its own
+//! monitor.
 
 use crate::limits::NEWEST_EDITION;
 use crate::monitor::{Monitor, Verdict};

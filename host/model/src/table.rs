@@ -78,7 +78,7 @@ pub fn read_table(bytes: &[u8]) -> Result<Vec<Constraint>, Refusal> {
     read_table_up_to(NEWEST_EDITION, bytes)
 }
 
-/// Reads the row at the start of the bytes, with so many rows before it; gives it and the number of bytes it takes.
+/// Reads the row at the start of the bytes, with this many rows before it. Returns it and the number of bytes it takes.
 fn read_row(edition: u8, bytes: &[u8], before: usize) -> Result<(Constraint, usize), u8> {
     let body = body_at_start(bytes);
     // §8.2

@@ -1,6 +1,6 @@
 //! The row types (§4.5): a file for each, with all that the model says of it, and here the list of them.
 
-// Made by release/row-types.py.
+// begin modules: made by release/row-types.py
 
 mod burst;
 mod delay;
@@ -26,7 +26,7 @@ pub use strong_delay::{StrongDelay, strong_delay};
 pub use strong_synchronization::{StrongSynchronization, strong_synchronization};
 pub use synchronization::{Synchronization, synchronization};
 
-// End of what is made.
+// end modules
 
 use crate::continuation::Event;
 use crate::limits::{FIRST_COLOURED, LAST_COLOUR, LAST_TIME, NO_LIMIT, stream};
@@ -34,7 +34,7 @@ use crate::random::Random;
 use crate::random::tables::Draw;
 use crate::steps::{Events, History};
 
-/// What goes by the fields of a type alone: made by [`row_type`] of their names and roles.
+/// What follows from the fields of a type alone. [`row_type`] makes it from their names and roles.
 pub trait Fields {
     /// The row of the fields that are given, if they are, asked for in the order of the bytes (§4.5).
     fn read(given: &mut dyn Given) -> Option<Self>
@@ -307,7 +307,7 @@ macro_rules! row_types {
 }
 
 row_types! {
-    // Made by release/row-types.py, to the end of the list.
+    // begin list: made by release/row-types.py
     1 => Delay from 1,
     2 => StrongDelay from 1,
     3 => Repeat from 1,
@@ -319,6 +319,7 @@ row_types! {
     9 => Reaction from 1,
     10 => Repetition from 1,
     11 => Synchronization from 2,
+    // end list
 }
 
 impl Constraint {

@@ -1,6 +1,6 @@
-//! The drive of `examples/`: its table and recording are what is written down here, and its report and its page are
-//! the stored ones.
-//! Times are microseconds. To write the files anew after a change here: `DRIVE=write cargo test --test drive`.
+//! The drive of `examples/`: its table and recording are what is written down here, and its report and its page are the
+//! stored ones. Times are microseconds. To write the files again after a change here: `DRIVE=write cargo test --test
+//! drive`.
 
 use std::fs;
 use std::path::{Path, PathBuf};

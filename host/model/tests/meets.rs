@@ -9,7 +9,7 @@ use model::random::Random;
 use model::random::tables::Scale;
 use model::{Constraint, Events, History, NO_LIMIT, Step, meets};
 
-/// Rising times: so many, with gaps of the scale.
+/// Rising times: this many, with gaps of the scale.
 fn rising(random: &mut Random, number: u64, scale: Scale) -> Vec<u64> {
     let mut time = 0;
     let next = |_| {
@@ -235,7 +235,7 @@ fn repeat_and_burst_corners() {
 
 #[test]
 fn signals_that_stop() {
-    // the last event, and with a larger span the oldest that has none so many places after it
+    // the last event, and with a larger span the oldest that has no event span places after it
     assert!(of(&repeat(1, 4, 4), "0@0, 0@4, tick 8") && !of(&repeat(1, 4, 4), "0@0, 0@4, tick 9"));
     assert!(of(&repeat(2, 4, 5), "0@1, 0@3, tick 6") && !of(&repeat(2, 4, 5), "0@1, 0@3, tick 7"));
     assert!(of(&repeat(2, 4, 5), "0@1, 0@3, 0@6, 9@8") && !of(&repeat(2, 4, 5), "0@1, 0@3, 0@6, 9@9"));

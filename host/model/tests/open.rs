@@ -42,7 +42,7 @@ fn next_step(random: &mut Random, row: &Constraint, recorded: &History) -> Step 
     }
 }
 
-/// Compares both decisions after every step of so many random lists over rows of a type. Both answers must come up
+/// Compares both decisions after every step of this many random lists over rows of a type. Both answers must come up
 /// often, before the close and after it.
 fn compare(type_byte: u8, lists: u64) {
     let mut random = Random::new(u64::from(type_byte));
@@ -119,7 +119,7 @@ fn types_of_later_editions_beside_the_search() {
     types_in(NEWEST_EDITION).into_iter().filter(|one| !types_in(1).contains(one)).for_each(|one| compare(one, 8_000));
 }
 
-/// Compares both decisions after every list of at most so many steps that can be accepted, up to a last time.
+/// Compares both decisions after every list of steps that can be accepted, up to a length and a last time.
 fn compare_all(row: &Constraint, recorded: &History, last: u64, steps: usize) -> u64 {
     assert_eq!(open(row, recorded), open_by_search(row, recorded), "{row:?} after {recorded:?}");
     if steps == 0 || recorded.closed() {

@@ -10,7 +10,7 @@ use model::random::seen::Seen;
 use model::random::tables::{any_table, damaged_rows, damaged_table, table};
 use model::{Constraint, Monitor, read_recording, read_table, report, table_bytes, write_table};
 
-/// Plays a list of so many calls; every call's answer and every row's verdict after it is counted.
+/// Plays a list of this many calls and counts every call's answer and every row's verdict after it.
 fn play(random: &mut Random, rows: &[Constraint], number: usize, seen: &mut Seen) {
     let mut play = Play::new(random.fork(), rows, number);
     while let Some((_, answer)) = play.call() {

@@ -16,7 +16,7 @@ EventOf = Union[str, TaskSource]
 Field = Union[EventOf, tuple[EventOf, ...], tuple[int, ...], int, None]
 #: The types that a constraint may need and that the library does not have yet. One that comes is a name less here.
 LATER = ("Age", "OutputSynchronization", "InputSynchronization", "Pattern", "Arbitrary")
-#: So many events a synchronization has.
+#: The largest number of events in a synchronization.
 _TOGETHER = 4
 
 

@@ -31,7 +31,7 @@ def unique(paths: Iterable[str], name: Callable[[list[str]], str]) -> dict[str, 
 
 
 def _alike(parts: dict[str, list[str]], depth: dict[str, int], name: Callable[[list[str]], str]) -> dict[str, list[str]]:
-    """The paths of each name, where a name has so many parts of its path."""
+    """The paths of each name, where a name consists of a number of parts of its path."""
     found: dict[str, list[str]] = defaultdict(list)
     for path, several in parts.items():
         found[name(several[-depth[path] :])].append(path)

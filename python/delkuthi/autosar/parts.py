@@ -1,6 +1,6 @@
 """The parts of an ARXML file that are about timing, found in one pass: each is a small tree that is forgotten once it was looked at.
 
-Elements go by their local names, in any namespace. Document types, and with them entities, are refused.
+Elements are recognised by their local names, in any namespace. Document types, and with them entities, are refused.
 """
 from __future__ import annotations
 

@@ -1,4 +1,4 @@
-"""The readers of logs, a module for each format. A new one is a class in a module of its own and its name in ``READERS``."""
+"""The readers of logs, a module for each format. To add a reader, write a class in a new module and add its name to ``READERS``."""
 from __future__ import annotations
 
 from typing import Sequence

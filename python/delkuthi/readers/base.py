@@ -32,7 +32,7 @@ class Stamped(NamedTuple):
 
 Lines = Iterable[Stamped]
 _Found = TypeVar("_Found")
-#: So many names that are no events of the table are noted.
+#: The largest number of names kept that are not events of the table.
 OTHERS = 500
 #: How the files of each ending are unpacked, and what they begin with.
 PACKED: dict[str, Callable[..., Any]] = {".gz": gzip.open, ".bz2": bz2.open, ".xz": lzma.open}
@@ -198,7 +198,7 @@ class Reader:
                                     "table, or --round") from None
 
     def advance(self, size: int) -> None:
-        """So many bytes more were read."""
+        """Counts the bytes that were read."""
         if self.progress is not None:
             self.progress(size)
 

@@ -1,12 +1,17 @@
 """CTF, the Common Trace Format of LTTng, barectf and Zephyr: a folder with a file ``metadata``, read by babeltrace 2."""
 from __future__ import annotations
 
+import json
+import subprocess
+import sys
+import tempfile
+from decimal import Decimal
+from importlib.util import find_spec
 from pathlib import Path
-from typing import Any, Iterator
+from typing import IO, Any, Iterator
 
 from .base import LogError, Reader, Stamped
 from .streams import Streams, sample_of
-
 
 #: The file that makes a folder a trace.
 METADATA = "metadata"
@@ -18,63 +23,45 @@ def is_ctf(path: str) -> bool:
 
 
 class CtfReader(Reader):
-    """An event of the trace is that of its name, and its fields are samples: ``sched_switch.next_tid``. Stamps are in ns."""
+    """An event of the trace is that of its name, and its fields are samples: ``sched_switch.next_tid``. Stamps are in ns; an event without
+    one has that of the event before it."""
 
     endings = (".ctf",)
     word = "event"
 
     def lines(self) -> Iterator[Stamped]:
         streams, number, before = Streams(self), 0, 0
-        wanted = {name.rpartition(".")[0] for name in streams.sampled}
-        for name, event, stamp, lost in self._events():
+        wanted = {name[:place] for name in streams.sampled for place, character in enumerate(name) if character == "."}
+        for name, stamp, lost, fields in self._events(wanted):
+            self.lost += lost
             if lost:
-                self.lost += lost
                 continue
             number += 1
-            kinds = streams.event(name)
-            for field, value in _fields(event) if name.lower() in wanted else ():
-                kinds += streams.sample(f"{name}.{field}", value, number)
             before = before if stamp is None else stamp
+            kinds = [*streams.event(name), *(kind for field, value in fields.items()
+                                             for kind in streams.sample(f"{name}.{field}", sample_of(value), number))]
             yield Stamped(self.time(str(before), "ns", number), tuple(dict.fromkeys(kinds)), number)
 
-    def _events(self) -> Iterator[tuple[str, Any, int | None, int]]:
-        """The name of each event of the trace, the event, its stamp if it has one, and how many events are lost where some are."""
-        try:
-            import bt2
-        except ImportError:
-            raise LogError(self.path, "", "reading CTF needs babeltrace 2 for Python (Debian: python3-bt2)") from None
-        try:
-            # With the component named: babeltrace's own search for one aborts Python where a trace is damaged.
-            trace = bt2.ComponentSpec.from_named_plugin_and_component_class("ctf", "fs", {"inputs": [self.file]})
-            for message in bt2.TraceCollectionMessageIterator(trace):
-                if hasattr(message, "event"):
-                    clock = message.default_clock_snapshot if message.event.stream.cls.default_clock_class is not None else None
-                    yield message.event.name or "", message.event, None if clock is None else int(clock.ns_from_origin), 0
-                elif "Discarded" in type(message).__name__:
-                    yield "", None, None, int(message.count or 1)
-        except (LogError, OSError):
-            raise
-        except Exception as error:  # babeltrace has no one exception for a trace that it cannot read
-            said = str(error).strip().splitlines()
-            raise LogError(self.path, "", f"babeltrace cannot read it: {said[-1] if said else type(error).__name__}") from None
+    def _events(self, wanted: set[str]) -> Iterator[list[Any]]:
+        """The events of the trace, as another process writes them: babeltrace may end the whole process where a trace is damaged."""
+        if find_spec("bt2") is None:
+            raise LogError(self.path, "", "reading CTF needs babeltrace 2 for Python (Debian: python3-bt2)")
+        program = str(Path(__file__).with_name("ctf_events.py"))
+        with tempfile.TemporaryFile("w+", encoding="utf-8", errors="replace") as said:
+            with subprocess.Popen([sys.executable, program, self.file, *sorted(wanted)], stdout=subprocess.PIPE, stderr=said) as process:
+                assert process.stdout is not None
+                try:
+                    yield from (json.loads(line, parse_float=Decimal) for line in process.stdout if line.endswith(b"\n"))
+                    ended = True
+                except GeneratorExit:
+                    ended = False
+                    process.kill()
+            if ended and process.returncode:
+                raise LogError(self.path, "", f"babeltrace cannot read it: {_last_line(said, process.returncode)}")
 
 
-def _fields(event: Any) -> Iterator[tuple[str, Any]]:
-    """The fields of an event, with those of its context, as samples; a field within a field has both names."""
-    waiting = [("", part) for part in (event.common_context_field, event.specific_context_field, event.payload_field) if part is not None]
-    while waiting:
-        before, field = waiting.pop(0)
-        for name in field:
-            value, path = field[name], f"{before}{name}"
-            if hasattr(value, "keys"):
-                waiting.append((f"{path}.", value))
-            else:
-                yield path, sample_of(_plain(value))
-
-
-def _plain(value: Any) -> object:
-    """A value of babeltrace as one of Python; what is none, such as an array, is nothing."""
-    for name, kind in (("Bool", bool), ("String", str), ("Real", float), ("Integer", int), ("Enumeration", int)):
-        if name in type(value).__name__:
-            return kind(value)
-    return None
+def _last_line(said: IO[str], status: int) -> str:
+    """What babeltrace said last, or how it ended."""
+    said.seek(0)
+    lines = [line.strip() for line in said if line.strip()]
+    return lines[-1] if lines and status > 0 else f"it ended with {'the signal' if status < 0 else 'status'} {abs(status)}"

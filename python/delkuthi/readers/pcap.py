@@ -137,7 +137,7 @@ class PcapReader(Reader):
         return Packet(_decimal((high << 32 | low) + one.offset * one.resolution, one.resolution), one.link, one.name, body[20 : 20 + size])
 
     def _taken(self, file: IO[bytes], size: int, place: int) -> bytes:
-        """So many bytes of the file, which have to be there."""
+        """Reads this many bytes of the file, which must be there."""
         if not 0 <= size <= _LONGEST:
             raise self.error(place, f"expected a packet, found one of {size} bytes")
         data = file.read(size)

@@ -45,7 +45,7 @@ class PythonCanReader(Reader):
         return self.policy.format or ending(self.path)
 
     def _reader(self, folder: str) -> Any:
-        """python-can's reader. It goes by the name's ending, so that a file with another name gets one in the folder."""
+        """python-can's reader. It chooses the format by the ending of the name, so a file with another ending gets a second name in the folder."""
         try:
             import can
         except ImportError:

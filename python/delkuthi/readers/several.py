@@ -1,4 +1,4 @@
-"""One log in several files, one behind the other: each place is that of its own file."""
+"""One log in several files, one after the other. Each place is a place in its file."""
 from __future__ import annotations
 
 from typing import Iterator, Sequence
@@ -7,7 +7,7 @@ from ..batches import Batch, Codes
 from ..table import Table
 from .base import Lines, LogError, Policy, Reader, Stamped
 
-#: A place is the place in a file and the number of the file, so many bits above it.
+#: A place holds the place in a file and, this many bits above it, the number of the file.
 _BITS = 48
 
 

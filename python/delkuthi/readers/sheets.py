@@ -21,7 +21,7 @@ _BRACKETS = re.compile(r".*[\[(<{]\s*(.*?)\s*[\])>}]")
 #: Last words of a head that are no unit: there the stamps are in the table's.
 _NO_UNIT = ("time", "stamp", "timestamp", "date", "zeit", "uhrzeit", "zeitstempel", "abs", "absolute", "rel", "relative", "elapsed", "utc", "gmt",
             "local", "day", "start", "offset", "axis", "column")
-#: So many lines may stand above a header.
+#: The largest number of lines above a header.
 PREAMBLE = 200
 _TIME = re.compile(r"(?:time(?:stamp)?|date|uhrzeit|zeit(?:stempel)?)(?:$|[\W_])")
 
@@ -41,7 +41,7 @@ def named_kinds(table: Table) -> dict[str, tuple[int, ...]]:
 
 
 def _as_a_word(capital: re.Match[str]) -> str:
-    """A capital within a word, as in ``timeMs``, where a word of its own begins."""
+    """A capital within a word, as in ``timeMs``, where a new word begins."""
     return f"_{capital[0].lower()}"
 
 

@@ -18,7 +18,7 @@ class Streams:
     def __init__(self, reader: Reader):
         self._reader = reader
         columns = [(event, source) for event in reader.table.events for source in event.sources if isinstance(source, ColumnSource)]
-        # Where a column's samples say when an event comes, a value of its own name is none by itself.
+        # If a column's samples say when an event comes, a value with the event's name is not an event by itself.
         by_column = {event.name for event, _ in columns if CsvSource(event.name) not in event.sources}
         self._kinds = {name: kinds for name, kinds in named_kinds(reader.table).items() if name not in by_column}
         self._samples: dict[str, list[tuple[int, Condition, Edge]]] = {}
@@ -52,13 +52,15 @@ class Streams:
 
 
 def sample_of(value: object) -> Sample | None:
-    """A value of a log as a sample; ``None`` where it is no number and no text."""
+    """A value of a log as a sample; ``None`` if it is neither a number nor text."""
     if isinstance(value, bytes):
         value = value.decode("utf-8", "replace").rstrip("\0")
     if isinstance(value, str):
         return number_or_text(value)
     if isinstance(value, (bool, int)):
         return int(value)
+    if isinstance(value, Decimal):
+        return value
     if isinstance(value, float):
         return Decimal(repr(value)) if math.isfinite(value) else None
     return None

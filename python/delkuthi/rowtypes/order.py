@@ -14,7 +14,7 @@ if TYPE_CHECKING:
 
 
 def reason(case: Case) -> Reason | None:
-    """The first pair that is the wrong way round, or whoever has no partner."""
+    """Returns the first pair that is the wrong way round, or the event that has no partner."""
     source, target = case.number("source"), case.number("target")
     sources, targets = case.times("source"), case.times("target")
     for index, (begin, end) in enumerate(zip(sources, targets)):

@@ -17,7 +17,7 @@ if TYPE_CHECKING:
 
 
 def reason(case: Case) -> Reason | None:
-    """The first pair that is wrong, or whoever has no partner."""
+    """Returns the first pair that is wrong, or the event that has no partner."""
     source, target = case.number("source"), case.number("target")
     lower, upper = case.number("lower"), case.number("upper")
     sources, targets = case.times("source"), case.times("target")

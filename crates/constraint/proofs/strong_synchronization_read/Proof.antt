@@ -1,4 +1,4 @@
--- The n says which row it is. Made by release/row-types.py.
+-- The n says which row it is; made by release/row-types.py
 use borrow.Author.Needs.{needs}
 use borrow.Author.Tests.{ne-eqb}
 use Rattle.constraint.specs.Types.{strongSynchronizationRead}

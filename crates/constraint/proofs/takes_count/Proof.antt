@@ -1,4 +1,4 @@
--- The tests are those of `takesCount`, in its order. Made by release/row-types.py.
+-- The tests are those of `takesCount`, in its order; made by release/row-types.py
 use borrow.Author.Tests.{eq-eqb, ne-eqb}
 use Rattle.constraint.proofs.takes_count.Statement.{statement}
 use Rattle.constraint.proofs.takes_count.Tie as tie

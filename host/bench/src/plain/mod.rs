@@ -11,7 +11,7 @@ use model::{Answer, Constraint, FIRST_COLOURED, LAST_COLOUR, LAST_COUNT, LAST_KI
 use rule::{Before, Left, Rule};
 pub use rule::{LAST_EDITION, LAST_TYPE};
 
-/// A row: its rule, the last clock at which it is open without an event of its own, and the step that broke it (or 0).
+/// A row: its rule, the last clock at which it is open if no event of the row comes, and the step that broke it (or 0).
 #[derive(Clone, Debug)]
 struct Row {
     rule: Rule,

@@ -41,7 +41,7 @@ impl Ring {
         if self.is_empty() { None } else { Some(self.at_head()) }
     }
 
-    /// The oldest two. There must be so many.
+    /// The oldest two. There must be at least two.
     pub fn two(&self) -> (u64, u64) {
         debug_assert!(self.length() > 1);
         (self.at_head(), self.times[(self.ends.head + 1) % SIZE])

@@ -45,12 +45,13 @@ pub struct Play {
 }
 
 impl Play {
-    /// A list of so many calls from a fresh monitor over an accepted table. The last are a close and some after it.
+    /// A list of this many calls from a fresh monitor over an accepted table. The last are a close and some calls after
+    /// it.
     pub fn new(random: Random, rows: &[Constraint], calls: usize) -> Play {
         Play::counting_from(random, rows, calls, 0)
     }
 
-    /// The same, with the count as after so many steps.
+    /// The same, with a step count to start from.
     pub fn counting_from(mut random: Random, rows: &[Constraint], calls: usize, count: u64) -> Play {
         let monitor = Monitor::counting_from(rows, count).expect("an accepted table");
         let manner = manner(&mut random, rows);
@@ -255,7 +256,7 @@ fn manner(random: &mut Random, rows: &[Constraint]) -> Manner {
     }
 }
 
-/// A random list of so many calls over an accepted table.
+/// A random list of this many calls over an accepted table.
 pub fn calls(random: &mut Random, rows: &[Constraint], number: usize) -> Vec<Step> {
     let mut play = Play::new(random.fork(), rows, number);
     std::iter::from_fn(|| play.call()).map(|(call, _)| call).collect()

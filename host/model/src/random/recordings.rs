@@ -7,8 +7,8 @@ use crate::recording::recording_bytes;
 use crate::steps::Step;
 use crate::types::Constraint;
 
-/// The bytes of a recording of at most so many records over an accepted table. Mostly all of it is accepted; at times
-/// the refused calls of a list stand in it too.
+/// The bytes of a recording over an accepted table, with at most this many records. Mostly all of it is accepted; at
+/// times the refused calls of a list stand in it too.
 pub fn recording(random: &mut Random, rows: &[Constraint], records: usize) -> Vec<u8> {
     let with_refused = random.chance(15);
     let mut play = Play::new(random.fork(), rows, records);

@@ -10,7 +10,7 @@ use std::collections::BTreeMap;
 /// Why an event leaves a Repetition no points (§5.10.1 to §5.10.3).
 #[derive(Clone, Copy, Debug, PartialEq, Eq, PartialOrd, Ord)]
 pub enum Way {
-    /// Upper is below the span: no point so many places on can rise far enough.
+    /// Upper is below the span: no point span places later can rise far enough.
     NoRoom,
     /// A chain, every span-th event, has no points even taken singly: the event is too early, or too late.
     TooEarly,
@@ -19,7 +19,7 @@ pub enum Way {
     Rise,
 }
 
-/// What became of a row of a span: open with more than so many spans of events, or broken by the event of this place.
+/// What became of a row of a span: open with more than this many spans of events, or broken by the event at this place.
 #[derive(Clone, Copy, Debug, PartialEq, Eq, PartialOrd, Ord)]
 pub enum Outcome {
     OpenBeyondTheSecondSpan,

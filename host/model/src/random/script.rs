@@ -118,8 +118,8 @@ fn put_searches(random: &mut Random, rows: &[Constraint], script: &mut Vec<Strin
     script.push(format!("stretch{} {} {} 0", any_form(random), hex(&row), hex(&damaged_recording(random, rows, 6))));
 }
 
-/// So many times a list of calls on a monitor with withdrawals and pages among them, and reports, a table, joins, late stamps
-/// and stretches.
+/// This many lists of calls on a monitor with withdrawals and pages among them, and reports, a table, joins, late
+/// stamps and stretches.
 pub fn script(seed: u64, number: u64) -> String {
     let mut random = Random::new(seed);
     let mut script = Vec::new();

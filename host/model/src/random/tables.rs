@@ -45,7 +45,7 @@ impl Scale {
     }
 }
 
-/// So many different kinds of a pool that has at least as many.
+/// Different kinds from a pool that has at least as many.
 pub fn different(random: &mut Random, pool: &[u8], number: usize) -> Vec<u8> {
     let mut left = pool.to_vec();
     (0..number).map(|_| left.swap_remove(random.place(left.len()))).collect()
@@ -95,7 +95,7 @@ impl Draw<'_> {
         self.random.from_to(1, last) as u8
     }
 
-    /// So many different plain kinds, at most 4.
+    /// Different plain kinds, at most 4.
     pub fn different(&mut self, number: usize) -> Vec<u8> {
         different(self.random, self.pool, number)
     }
@@ -118,7 +118,7 @@ pub fn row(random: &mut Random, scale: Scale, pool: &[u8]) -> Constraint {
     row_of_type(random, type_byte, scale, pool)
 }
 
-/// An accepted table of so many rows, mostly of one scale.
+/// An accepted table of this many rows, mostly of one scale.
 pub fn table(random: &mut Random, rows: usize) -> Vec<Constraint> {
     let scales = [Scale::Small, Scale::Patient, Scale::Extreme];
     let pool = pool(random);

@@ -45,10 +45,10 @@ impl RowType for Delay {
         Some(self.source)
     }
 
-    /// For each source with no target yet one of its own: a continuation's own sources only ask for more.
-    ///
-    /// The first of these sources has its target as early as any continuation can give it one. Sources rise by 1 or more,
-    /// so where one has its target in time, the next has it too, at its own source + lower or 1 later than that one.
+    /// Adds one target for each source that has none yet. Sources in the continuation would only ask for more targets.
+    /// The first of these sources has its target as early as any continuation can give it one. Sources rise by 1 or
+    /// more, so where one has its target in time, the next has it too, at its own source + lower or 1 later than that
+    /// one.
     fn earliest_continuation(&self, recorded: &History) -> Vec<Event> {
         let waiting = self.without_target(recorded).into_iter();
         earliest(recorded, self.target, waiting.map(|time| time + self.lower))

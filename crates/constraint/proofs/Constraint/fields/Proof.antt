@@ -8,6 +8,7 @@ unfolding fieldsAs
 fields-spec =
     tie.close
     (tie.spec
+    -- begin fields: made by release/row-types.py
     (λ c. c .match .keys1) free
     (λ c. c .match .keys2) free
     (λ c. c .match .keys3) free
@@ -38,3 +39,4 @@ fields-spec =
     (λ c. rw (c .before .before .self13 .given .1, c .new13 .ensures) (record { typed = refl; all = refl; bytes = refl; times = refl }))
     (λ c. rw (c .before .before .self14 .given .1, c .new14 .ensures) (record { typed = refl; all = refl; bytes = refl; times = refl }))
     (λ c. rw (c .before .before .self15 .given .1, c .new15 .ensures) (record { typed = refl; all = refl; bytes = refl; times = refl })))
+    -- end fields

@@ -1,4 +1,4 @@
--- The type byte says which row it is. Made by release/row-types.py.
+-- The type byte says which row it is; made by release/row-types.py
 use mathlib.Core.Path.{sym, _∙_}
 use borrow.Author.Needs.{needs}
 use Rattle.constraint.specs.Types.{rowRead}

@@ -2,7 +2,7 @@
 use Rattle.row.proofs.Names.{Machine, _∙_, _≡_, ap, slotsUsedBy, machineOf, needs, noMachine, refl, sym, ℕ, ⊎-elim}
 use Rattle.row.proofs.{Machines.none-of, stored.slots_used_by_type.Statement.statement}
 use Rattle.row.proofs.stored.slots_used_by_type.Tie as tie
--- Made by release/row-types.py.
+-- begin imports: made by release/row-types.py
 use Rattle.delay_order.specs.Delay.{machineDelay}
 use Rattle.delay_order.specs.StrongDelay.{machineStrongDelay}
 use Rattle.repeat_burst.specs.Repeat.{machineRepeat}
@@ -14,12 +14,13 @@ use Rattle.event_chain.specs.Reaction.{machineReaction}
 use Rattle.repetition.specs.Repetition.{machineRepetition}
 use Rattle.synchronizations.specs.Synchronization.{machineSynchronization}
 
+-- end imports
+
 -- how many places one type takes, where it is the one that is chosen
 by-type : (m : Machine) (tag span len : ℕ) {r : ℕ} → r ≡ m .taken span len → machineOf tag ≡ m → r ≡ slotsUsedBy tag span len
 by-type m tag span len e is = e ∙ ap (λ (x : Machine). x .taken span len) (sym is)
 
--- Made by release/row-types.py, to the end of the file.
-
+-- begin arms: made by release/row-types.py
 pub slots-used-by-type-spec : {M : Type 1} → statement M
 slots-used-by-type-spec =
     tie.close
@@ -70,3 +71,5 @@ slots-used-by-type-spec =
     let a = c .before .args in
     by-type noMachine (a .tag) (a .span) (a .len) refl
     (none-of _ (c .match .rest))))
+
+-- end arms

@@ -1,4 +1,4 @@
--- The tests are those of `startWordCount`, in its order. Made by release/row-types.py.
+-- The tests are those of `startWordCount`, in its order; made by release/row-types.py
 use borrow.Author.Tests.{eq-eqb, ne-eqb}
 use Rattle.row_type.proofs.from_constraint.start_word_count.Statement.{statement}
 use Rattle.row_type.proofs.from_constraint.start_word_count.Tie as tie

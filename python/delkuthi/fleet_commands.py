@@ -173,11 +173,11 @@ def add_fleet(commands: Any) -> None:
     two.add_argument("after", metavar="B", help="the same for the second build")
     two.add_argument("--table", metavar="TABLE", help="A and B are logs; check them against this table")
     two.add_argument("--jobs", metavar="N", type=positive, default=1, help="check N logs at a time")
-    two.add_argument("--exercised", action="store_true", help="a row that a log never exercises is a failure of that log")
+    two.add_argument("--exercised", action="store_true", help="a row that a log never exercises counts as a failure of that log")
     two.add_argument("--fail-on", metavar="WHAT", type=_fail_on, default=FAIL_BY_DEFAULT,
-                     help=f"status 1 on these: some of {','.join(FAIL_ON)}, or none ({','.join(FAIL_BY_DEFAULT)})")
+                     help=f"end with status 1 on these: some of {','.join(FAIL_ON)}, or none ({','.join(FAIL_BY_DEFAULT)})")
     two.add_argument("--shrink", metavar="AMOUNT", type=_threshold, default=Threshold.read("10%"),
-                     help="by how much a margin may shrink: a share of it or a time (10%%)")
+                     help="how much a margin may shrink, as a share of it or a time (10%%)")
     _add_outputs(two)
     add_options(two)
     two.set_defaults(run=compare)

@@ -340,13 +340,13 @@ def _slack(text: str) -> Fraction:
 
 def add_propose(commands: Any) -> None:
     """The command."""
-    one = commands.add_parser("propose", help="a table to begin with, from what a log shows",
+    one = commands.add_parser("propose", help="write a table to begin with, from what a log shows",
                               description="A table to begin with, from what a log shows. With --events only for the events of that table.")
     one.add_argument("log", metavar="LOG")
-    one.add_argument("-o", "--output", metavar="FILE", help="where to")
+    one.add_argument("-o", "--output", metavar="FILE", help="the file to write")
     one.add_argument("--slack", metavar="SHARE", type=_slack, default=_slack(SLACK),
-                     help=f"widen what was seen by so much ({SLACK.replace('%', '%%')})")
-    one.add_argument("--least", metavar="N", type=positive, default=LEAST, help=f"a row needs so many instances ({LEAST})")
+                     help=f"widen what was seen by this share ({SLACK.replace('%', '%%')})")
+    one.add_argument("--least", metavar="N", type=positive, default=LEAST, help=f"a row needs this many instances ({LEAST})")
     add_edges(one)
     add_options(one)
     one.set_defaults(run=propose, table=None)

@@ -74,7 +74,7 @@ def test_asc_that_is_none(tmp_path):
     path = tmp_path / "a.asc"
     assert error(path, "0.1 1 1A0 Rx d 0\n").startswith("a.asc:1: expected the header of an ASC file first")
     assert error(path, "base hex timestamps absolute\n0.1 1 1A0 Rx d 2 01\n") == "a.asc:2: expected 2 bytes of data, found 01"
-    assert error(path, b"\xff\xfe" * 9).startswith("a.asc:1: byte 1 of the line, 0xFF, is not text in utf-8: --encoding says")
+    assert error(path, b"\xff\xfe" * 9).startswith("a.asc:1: byte 1 of the line, 0xFF, is not text in utf-8; give the encoding")
     assert error(path, "base hex timestamps absolute\n0.0000001 1 1A0 Rx d 0\n").startswith("a.asc:2: the stamp 0.0000001 s is not a whole")
 
 

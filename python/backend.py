@@ -106,7 +106,8 @@ def build_sdist(sdist_directory: str, config_settings: object = None) -> str:
     """Writes the sources and answers the name of the archive."""
     base = f"delkuthi-{_version()}"
     with tarfile.open(Path(sdist_directory) / f"{base}.tar.gz", "w:gz", dereference=True) as archive:
-        for path in [HERE / "pyproject.toml", HERE / "backend.py", HERE / "README.md", HERE / "TUTORIAL.md", *sorted((HERE / "editors").iterdir()), *_sources()]:
+        texts = [HERE / name for name in ("pyproject.toml", "backend.py", "README.md", "TUTORIAL.md")]
+        for path in [*texts, *sorted((HERE / "editors").iterdir()), *_sources()]:
             archive.add(path, f"{base}/{path.relative_to(HERE)}")
         for path in [*(BESIDE / name for name in LICENCES), *_examples()]:
             archive.add(path, f"{base}/{path.relative_to(BESIDE)}")

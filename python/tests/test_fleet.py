@@ -146,11 +146,13 @@ def test_results_of_a_farm(builds, command):
 
 
 def some(log, state="kept", margin=100, asks="Delay a -> b, 0 .. 5 ms"):
-    row = RowResult("a", asks, state, 3, quantity="latency", upper=5000, least=10, greatest=4900, margin=margin, sketch={bucket(10): 1, bucket(4900): 2})
+    row = RowResult("a", asks, state, 3, quantity="latency", upper=5000, least=10, greatest=4900, margin=margin,
+                    sketch={bucket(10): 1, bucket(4900): 2})
     return Result(log, "us", (row,))
 
 
-@given(st.lists(st.tuples(st.integers(-50, 50), st.sampled_from(["kept", "broken", "idle", "so-far", "open"])), min_size=1, max_size=30), st.randoms())
+@given(st.lists(st.tuples(st.integers(-50, 50), st.sampled_from(["kept", "broken", "idle", "so-far", "open"])),
+                min_size=1, max_size=30), st.randoms())
 def test_the_order_of_results_does_not_matter(found, chance):
     """And each is what was written."""
     results = [some(f"{number}.csv", state, margin) for number, (margin, state) in enumerate(found)]
@@ -167,7 +169,8 @@ def test_lines_that_are_no_results(tmp_path, command):
     """Each is said with its place and is a reason for status 2; the others are merged."""
     good = line_of(some("a.csv"))
     data = json.loads(good)
-    damaged = [{**data, "delkuthi_result": 2}, {**data, "rows": 3}, {**data, "unit": "furlong"}, {**data, "rows": [{**data["rows"][0], "margin": "1"}]},
+    damaged = [{**data, "delkuthi_result": 2}, {**data, "rows": 3}, {**data, "unit": "furlong"},
+               {**data, "rows": [{**data["rows"][0], "margin": "1"}]},
                {**data, "rows": [{**data["rows"][0], "sketch": [1]}]}, {**data, "rows": [{**data["rows"][0], "state": "good"}]},
                {**data, "rows": [{**data["rows"][0], "more": 1}]}, {**data, "log": None}, [], {}]
     for one in damaged:
@@ -187,7 +190,8 @@ def test_lines_that_are_no_results(tmp_path, command):
     assert status == 2 and "nowhere.jsonl" in error and "Traceback" not in error
 
 
-numbers = st.one_of(st.integers(), st.integers(-2**70, 2**70), st.just(10**4000), st.floats(), st.booleans(), st.none(), st.text(max_size=3), st.just([]))
+numbers = st.one_of(st.integers(), st.integers(-2**70, 2**70), st.just(10**4000), st.floats(), st.booleans(), st.none(),
+                    st.text(max_size=3), st.just([]))
 
 
 @given(st.data())

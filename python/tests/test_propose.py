@@ -27,7 +27,8 @@ def rows_of(text):
     return [line for line in text.splitlines() if line and not line.startswith(("#", "event", "unit"))]
 
 
-@given(st.lists(st.tuples(st.integers(0, 300), EVENTS), min_size=1, max_size=80), st.sampled_from(["0%", "20%", "100%"]), st.none() | st.integers(300, 900))
+@given(st.lists(st.tuples(st.integers(0, 300), EVENTS), min_size=1, max_size=80), st.sampled_from(["0%", "20%", "100%"]),
+       st.none() | st.integers(300, 900))
 def test_the_log_keeps_what_it_proposes(tmp_path, steps, slack, end):
     """For random logs: no row is left out as not kept, and each is kept."""
     log = written(tmp_path / "log.csv", steps, end)

@@ -33,7 +33,8 @@ def work(tmp_path):
     for build, latencies in (("build_a", (17, 22, 25, 27)), ("build_b", (18, 27, 35, 42))):
         (work / build).mkdir()
         for number, latency in enumerate(latencies, 1):
-            steps = sorted([*((time, "wheel") for time in range(0, 130, 10)), (23, "pedal"), (23 + latency, "light"), (73, "pedal"), (73 + latency, "light")])
+            wheel = ((time, "wheel") for time in range(0, 130, 10))
+            steps = sorted([*wheel, (23, "pedal"), (23 + latency, "light"), (73, "pedal"), (73 + latency, "light")])
             lines = "".join(f"{time},{event}\n" for time, event in steps)
             (work / build / f"drive_{number}.csv").write_text(f"time_ms,event\n{lines}", encoding="utf-8")
     shutil.copy(EXAMPLES / "bench/tasks.btf", work)

@@ -15,8 +15,8 @@ def run_through(text, folder):
         (tools / name).write_text(f'#!/bin/sh\nexec {sys.executable} {words} "$@"\n', encoding="utf-8")
         (tools / name).chmod(0o755)
     (folder / "work").mkdir(exist_ok=True)
-    environment = {**os.environ, "PATH": f"{tools}:{os.environ['PATH']}", "PYTEST_PLUGINS": "delkuthi.pytest_plugin", "COLUMNS": "80", "LC_ALL": "C.UTF-8",
-                   "PYTHONDONTWRITEBYTECODE": "1", "PYTEST_ADDOPTS": "-p no:cacheprovider"}
+    environment = {**os.environ, "PATH": f"{tools}:{os.environ['PATH']}", "PYTEST_PLUGINS": "delkuthi.pytest_plugin",
+                   "COLUMNS": "80", "LC_ALL": "C.UTF-8", "PYTHONDONTWRITEBYTECODE": "1", "PYTEST_ADDOPTS": "-p no:cacheprovider"}
     status = 0
 
     def done(block):

@@ -2,7 +2,7 @@
 
 The drive is made here, the same each time: a million lines of 40 events, in pairs of a request and its answer, over 32 rows of which 20 are
 Delays and StrongDelays and 12 Repeats; as CSV, candump, ASC, TRC, BLF and BTF. By signals, each of 40 frames has one that an event of the
-table goes by, and each line changes it; four sampled columns of a CSV file change all the time, and each line in four is an event. All rows
+table reads, and each line changes it; four sampled columns of a CSV file change all the time, and each line in four is an event. All rows
 are kept, but for the lines that say so: there one of them breaks at the end. Times are processor time, the best of nine runs, all kinds of
 logs taking turns. `speed.py LINES RUNS` takes other numbers.
 """

@@ -15,7 +15,7 @@ from .units import NUMBER, UNITS, NotWhole, in_unit, shown
 
 #: What can become of a row, the worst first, and how that is called.
 CHANGES = {"broken": "newly broken", "worse": "broken in more logs", "lost": "no longer judged", "shrunk": "margin shrank",
-           "asked": "asks something else", "added": "new row", "mended": "no longer broken", "same": "unchanged"}
+           "asked": "asks something else", "added": "new row", "fixed": "no longer broken", "same": "unchanged"}
 #: What a build server can fail on, besides any of these.
 FAIL_ON = ("broken", "worse", "lost", "shrunk", "asked", "added", "refused")
 FAIL_BY_DEFAULT = ("broken", "worse", "lost", "refused")
@@ -117,7 +117,7 @@ class Comparison:
             return "asked"
         if before.margin is not None and after.margin is not None and self.threshold.exceeded(before.margin, after.margin, self.unit):
             return "shrunk"
-        return "mended" if broken[0] and not broken[1] else "same"
+        return "fixed" if broken[0] and not broken[1] else "same"
 
     @property
     def refused(self) -> int:

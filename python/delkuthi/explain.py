@@ -47,7 +47,7 @@ class RowHistory:
         other._case = replace(self._case, events=events, memory=deepcopy(self._case.memory))
         return other
 
-    def anew(self) -> RowHistory:
+    def emptied(self) -> RowHistory:
         """A history of the same row without events, that forgets none."""
         other: RowHistory = object.__new__(RowHistory)
         other.__dict__.update(self.__dict__)

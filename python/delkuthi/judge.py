@@ -77,7 +77,7 @@ class RowJudge:
         self._lone = 0
         self._alone = begin is not None and self.row.type.beginning.lone is not None
         if self._alone:
-            self._first = history.anew()
+            self._first = history.emptied()
 
     @property
     def best(self) -> Past:

@@ -13,7 +13,7 @@ from .results import LOG_STATES
 from .sketch import ERROR_TEXT
 from .template import Markup, fill
 
-_COLOURS = {"broken": "broken", "worse": "broken", "shrunk": "idle", "lost": "idle", "asked": "idle", "added": "", "mended": "kept", "same": ""}
+_COLOURS = {"broken": "broken", "worse": "broken", "shrunk": "idle", "lost": "idle", "asked": "idle", "added": "", "fixed": "kept", "same": ""}
 
 
 def fleet_page(fleet: Fleet, made: Provenance) -> str:

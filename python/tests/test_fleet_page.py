@@ -50,7 +50,7 @@ def test_the_pages(tmp_path):
     assert names[1] == ["drive_1.csv", "drive_0.csv", "drive_3.csv", "drive_2.csv"], "by the margin of the first row"
     assert names[2] == names[1][::-1] and names[3] == ["drive_3.csv"]
     for screen in found.values():
-        assert screen["scroll"] <= screen["wide"], "what is wide scrolls in a box of its own"
+        assert screen["scroll"] <= screen["wide"], "what is wide scrolls in its box"
     page = compare_page(Comparison(before, after, Threshold.read("10%")), made)
     found = run(tmp_path, {"wide": (page, 1400), "phone": (page, 420)}, _WIDTH)
     assert all(screen["scroll"] <= screen["wide"] for screen in found.values()) and "newly broken" in page

@@ -243,13 +243,13 @@ impl Vector {
         self.item(Item::Withdraw);
         let monitor = self.monitor.as_mut().expect("a monitor");
         let answer = number(monitor.withdraw());
-        let mended = self.state.verdicts.iter().zip(monitor.verdicts()).any(|(before, after)| *before != after);
+        let changed = self.state.verdicts.iter().zip(monitor.verdicts()).any(|(before, after)| *before != after);
         self.bytes.push(answer);
         self.refused(answer);
         if answer == 0 {
             self.shows("withdrawal");
         }
-        if mended {
+        if changed {
             self.shows("break withdrawn");
         }
         self.put_state();

@@ -1,4 +1,4 @@
-"""The events of a CTF trace as lines of JSON, for :mod:`delkuthi.readers.ctf`: a program of its own, as babeltrace may end the whole process
+"""The events of a CTF trace as lines of JSON, for :mod:`delkuthi.readers.ctf`: a separate program, because babeltrace may end the whole process
 where a trace is damaged. Its words are the trace, and the names, in small letters, of the events whose fields are wanted."""
 from __future__ import annotations
 

@@ -57,7 +57,7 @@ def _examples() -> list[Path]:
     return sorted(path for path in (BESIDE / "examples").rglob("*") if path.is_file() and path.suffix not in (".html", ".svg", ".xml"))
 
 
-def _files(tag: str, library: Path | None) -> Iterator[tuple[str, bytes]]:
+def _files(tag: str, library: Path | None, build: str) -> Iterator[tuple[str, bytes]]:
     """The files of the wheel, without its list of them."""
     info = f"delkuthi-{_version()}.dist-info"
     for path in _sources():
@@ -72,7 +72,8 @@ def _files(tag: str, library: Path | None) -> Iterator[tuple[str, bytes]]:
         yield f"delkuthi-{_version()}.data/data/share/delkuthi/{path.relative_to(BESIDE)}", path.read_bytes()
     yield f"{info}/METADATA", _metadata().encode()
     pure = str(library is None).lower()
-    yield f"{info}/WHEEL", f"Wheel-Version: 1.0\nGenerator: delkuthi\nRoot-Is-Purelib: {pure}\nTag: {tag}\n".encode()
+    lines = ["Wheel-Version: 1.0", "Generator: delkuthi", f"Root-Is-Purelib: {pure}", f"Tag: {tag}", *([f"Build: {build}"] if build else [])]
+    yield f"{info}/WHEEL", ("\n".join(lines) + "\n").encode()
     groups = {"console_scripts": _project()["scripts"], **_project()["entry-points"]}
     lines = [line for group, found in groups.items() for line in (f"[{group}]", *(f"{name} = {place}" for name, place in found.items()))]
     yield f"{info}/entry_points.txt", "\n".join([*lines, ""]).encode()
@@ -82,7 +83,7 @@ def _wheel(folder: str, tag: str, library: Path | None = None, build: str = "") 
     """Writes a wheel, the same to the byte whenever it is made of the same files, and answers its name."""
     name, record = f"delkuthi-{_version()}-{build and build + '-'}{tag}.whl", ""
     with zipfile.ZipFile(Path(folder) / name, "w", zipfile.ZIP_DEFLATED) as wheel:
-        for place, data in _files(tag, library):
+        for place, data in _files(tag, library, build):
             wheel.writestr(zipfile.ZipInfo(place), data, zipfile.ZIP_DEFLATED)
             digest = base64.urlsafe_b64encode(hashlib.sha256(data).digest()).rstrip(b"=").decode()
             record += f"{place},sha256={digest},{len(data)}\n"

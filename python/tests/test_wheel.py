@@ -4,8 +4,11 @@ import subprocess
 import sys
 import tarfile
 import zipfile
+from pathlib import Path
 
+import pytest
 from delkuthi import __version__
+from delkuthi.library import INTERFACE, candidates
 
 from conftest import EXAMPLES, ROOT
 
@@ -62,3 +65,22 @@ def test_the_sources_are_enough_for_a_wheel(tmp_path):
         with zipfile.ZipFile(tmp_path / str(number) / done.stdout.strip()) as file:
             names.append(file.namelist())
     assert names[0] == names[1] and any(name.endswith("share/delkuthi/examples/bench/tasks.btf") for name in names[0])
+
+
+@pytest.mark.parametrize(("library", "machine", "inside"), [("delkuthi.dll", "win_amd64", f"delkuthi-{INTERFACE}.dll"),
+                                                          ("some.so", "linux_aarch64", f"libdelkuthi.so.{INTERFACE}")])
+def test_a_wheel_for_another_machine_says_that_it_is_not_proved(tmp_path, library, machine, inside):
+    (tmp_path / library).write_bytes(b"a library")
+    words = [sys.executable, "backend.py", tmp_path, tmp_path / library, machine, "0_tested_not_proved"]
+    made = Path(subprocess.run(words, cwd=ROOT / "python", capture_output=True, text=True, check=True).stdout.strip())
+    assert made.name == f"delkuthi-{__version__}-0_tested_not_proved-py3-none-{machine}.whl"
+    with zipfile.ZipFile(made) as wheel:
+        assert wheel.read(f"delkuthi/{inside}") == b"a library"
+        info = next(name for name in wheel.namelist() if name.endswith("/WHEEL"))
+        assert f"Tag: py3-none-{machine}\nBuild: 0_tested_not_proved\n" in wheel.read(info).decode()
+
+
+def test_on_windows_a_dll_is_looked_for(monkeypatch, tmp_path):
+    monkeypatch.setattr(sys, "platform", "win32")
+    monkeypatch.setenv("DELKUTHI_LIB", str(tmp_path))
+    assert list(candidates()) == [str(tmp_path / f"delkuthi-{INTERFACE}.dll")]

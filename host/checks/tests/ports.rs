@@ -202,27 +202,47 @@ fn what_is_not_understood_is_refused() {
     }
 }
 
-/// Where the packages for other machines are missing, `make test-ports` says which, and ends with a status that is not 0.
-#[test]
-fn missing_packages_are_named() {
+/// A program of `release` with no other program in its path than the shell: what it prints, and whether it ends well.
+fn without_packages(program: &str) -> (String, bool) {
     let folder = Folder::new();
-    for tool in ["bash", "dirname"] {
+    for tool in ["bash", "dirname", "cat"] {
         std::os::unix::fs::symlink(format!("/usr/bin/{tool}"), folder.path().join(tool)).expect("a link");
     }
     let mut bash = Command::new("/usr/bin/bash");
-    bash.arg(root().join("release/test-ports")).env("PATH", folder.path()).env("RUSTC", "/no/rustc");
-    let output = bash.output();
-    let output = output.expect("bash can be run");
-    let said = String::from_utf8_lossy(&output.stdout).into_owned();
-    let tools = [
+    bash.arg(root().join("release").join(program)).env("PATH", folder.path()).env("RUSTC", "/no/rustc");
+    let output = bash.output().expect("bash can be run");
+    (String::from_utf8_lossy(&output.stdout).into_owned(), output.status.success())
+}
+
+/// Where packages for other machines are missing, `make test-ports` and `make dist PORTS=yes` say which, and end with a status that is
+/// not 0.
+#[test]
+fn missing_packages_are_named() {
+    let tested = [
         "aarch64-linux-gnu-gcc",
         "arm-linux-gnueabihf-gcc",
         "riscv64-linux-gnu-gcc",
         "s390x-linux-gnu-gcc",
         "arm-none-eabi-gcc",
+        "qemu-system-arm",
     ];
-    for name in tools.into_iter().chain(["qemu-user", "qemu-system-arm", "rustc", "INSTALL=--install"]) {
-        assert!(said.contains(name), "{name} in {said}");
+    let released = ["aarch64-linux-gnu-gcc", "x86_64-w64-mingw32-gcc", "wine64"];
+    for (program, tools) in [("test-ports", &tested[..]), ("port-binaries", &released[..])] {
+        let (said, well) = without_packages(program);
+        for name in tools.iter().chain(&["qemu-user", "rustc", "INSTALL=--install"]) {
+            assert!(said.contains(name), "{program}: {name} in {said}");
+        }
+        assert!(!well, "{program}");
     }
-    assert!(!output.status.success());
+}
+
+/// The page of a release for another machine says that it is tested and not proved, first of all; so do the names of folder and wheel.
+#[test]
+fn other_machines_are_marked() {
+    let page = text_of(&root().join("release/PORT.md.in"));
+    assert!(page.lines().next().is_some_and(|line| line.ends_with("TESTED, NOT PROVED")));
+    assert!(page.contains("**This library is not the proved archive.**"));
+    let program = text_of(&root().join("release/port-binaries"));
+    assert!(program.contains("-tested-not-proved\n") && program.contains(" 0_tested_not_proved "));
+    assert!(text_of(&root().join("release/port.spdx.in")).contains("Tested, not proved."));
 }

@@ -39,6 +39,9 @@ class Sketch:
     def __init__(self, counts: Mapping[int, int] | None = None):
         self.counts: dict[int, int] = dict(counts or {})
 
+    def __eq__(self, other: object) -> bool:
+        return isinstance(other, Sketch) and self.counts == other.counts
+
     def add(self, value: int) -> None:
         """One more value."""
         number = bucket(value)

@@ -84,7 +84,7 @@ def test_completion(command):
 
 def test_completion_of_other_shells(command):
     zsh, fish = command("completion", "zsh")[1], command("completion", "fish")[1]
-    assert "'propose:a table to begin with, from what a log shows'" in zsh
+    assert "'propose:write a table to begin with, from what a log shows'" in zsh
     assert "'completion:a script that completes commands and options in a shell'" in zsh and ":''" not in zsh
     assert "complete -c delkuthi -n '__fish_seen_subcommand_from check' -l equal -x -a 'refuse drop later'" in fish
     if shutil.which("zsh"):

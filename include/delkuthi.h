@@ -152,7 +152,7 @@
  *
  * THE TABLE
  *
- * begin table: made by release/row-types.py
+ * begin table: made by a program
  * A table is one byte, its version, followed by the rows. The first row is row
  * 0. The version is 1 or 2 (EDITIONS below). Each row is a length field of two
  * bytes, then its type and its fields in as many bytes as the length field
@@ -224,7 +224,7 @@
  * Limits include their ends. CONTRACT.md has the special cases and examples of
  * each type, from clause 5.1 on.
  *
- * begin rows: made by release/row-types.py
+ * begin rows: made by a program
  *   1 Delay       For each source, at time s, a target comes at s + lower or
  *                 later and at s + upper or earlier. One target may answer
  *                 several sources, and extra targets do no harm. A source
@@ -433,14 +433,14 @@ extern "C" {
 #define DELKUTHI_MONITOR_STACK 1024
 #define DELKUTHI_STEP_STACK    1024
 
-/* begin no limit: made by release/row-types.py */
+/* begin no limit: made by a program */
 /* The upper of a Delay, Repeat or Sporadic that has no upper limit. */
 #define DELKUTHI_NO_LIMIT UINT64_C(18446744073709551615)
 /* end no limit */
 
 /* The newest edition of the table, and the last type that the first has. */
 #define DELKUTHI_NEWEST_EDITION 2
-/* begin first edition: made by release/row-types.py */
+/* begin first edition: made by a program */
 #define DELKUTHI_FIRST_EDITION_TYPES 10
 /* end first edition */
 
@@ -673,7 +673,7 @@ static inline delkuthi_row delkuthi_row_time(delkuthi_row row, size_t place,
 }
 
 /* A function for each type. */
-/* begin makers: made by release/row-types.py */
+/* begin makers: made by a program */
 
 static inline delkuthi_row delkuthi_delay(uint8_t source, uint8_t target,
                                           uint64_t lower, uint64_t upper)

@@ -15,7 +15,7 @@ from os.path import commonprefix
 sys.dont_write_bytecode = True
 import row_definitions
 import row_machines
-from row_list import MADE, ROOT, TYPES, declared, having, length, listed, names, one, small, snake, text_of, wrapped
+from row_list import INSTALLED, MADE, ROOT, TYPES, declared, having, length, listed, names, one, small, snake, text_of, wrapped
 from delkuthi.fields import MOST
 from delkuthi.library import NEWEST_EDITION
 from delkuthi.text import grammar
@@ -296,7 +296,7 @@ def found(text, name):
     """The text before a part, the part, and the text after it. Blank lines beside the markers belong to what stands around the part."""
     if not name:
         return "", text, ""
-    begin, end = (rf"^[^\w\n]*{words}[^\w\n]*\n" for words in (rf"begin {name}: {re.escape(MADE)}", f"end {name}"))
+    begin, end = (rf"^[^\w\n]*{words}[^\w\n]*\n" for words in (rf"begin {name}: (?:{re.escape(MADE)}|{INSTALLED})", f"end {name}"))
     places = list(re.finditer(rf"({begin}\n*)(.*?)(\n*{end})", text, re.M | re.S))
     if len(places) != 1:
         return None

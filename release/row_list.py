@@ -12,6 +12,8 @@ from delkuthi.rowtypes import TYPES
 
 #: What a begin marker says after the name of its part. A proof that is made whole says it in its first line.
 MADE = "made by release/row-types.py"
+#: The same in a file that is installed, where that program is not.
+INSTALLED = "made by a program"
 
 
 def text_of(path):

@@ -44,7 +44,7 @@ exact-from bytes before {end = end} {requests = requests} {numbers = numbers} (b
             refused = left-refused table recording (on .left-by);
             used = left-used table recording (on .left-by);
           };
-      refused = λ table number after anew above. fresh-refused anew above;
+      refused = λ table number after begun above. fresh-refused begun above;
     }
 
 -- §11.2, §16.3: over what is given to a call that makes a monitor fresh, of whichever editions it takes

@@ -59,3 +59,4 @@ pub record RowIs (count i : ℕ) (c : Constraint) (rows : List Constraint) : Typ
 pub record FindsRow (newest : ℕ) (bytes : List ℕ) (i : ℕ) (r : Numbered) : Type 0 where
   pub scans : Scans newest bytes (r .scan)
   pub found : (rows : List Constraint) → ReadsTableUpTo newest bytes (table-of rows) → RowIs (r .scan .rows) i (r .row) rows
+  pub none : r .scan .rows ≤ i → r .row ≡ filler

@@ -1,5 +1,5 @@
 -- The table has as many rows as judging it counts, so a number that is not below the count is no row's.
-use Rattle.table.proofs.Names.{arith, at, needs, now}
+use Rattle.table.proofs.Names.{arith, at, needs, now, refl}
 use Rattle.table.proofs.{Scanning.scan-count, Scanning.scan-start, scan.row_numbered.Statement.statement}
 use Rattle.table.proofs.scan.row_numbered.Tie as tie
 
@@ -11,6 +11,7 @@ returns c =
       found = λ rows reads.
           let counted = scan-count (now (a .bytes)) rows (scan .result .answer) (scan .result .rows) (scan .ensures) reads in
           record { counted = counted; is = λ there. absurd (omega (arith, counted, there, c .if1 .taken)) };
+      none = λ past. refl;
     }
 
 returns-2 : tie.Need-returns-2
@@ -23,6 +24,7 @@ returns-2 c =
             counted = scan-count (now (a .bytes)) rows (scan .result .answer) (scan .result .rows) (scan .ensures) reads;
             is = c .row-behind .ensures (at (now (a .bytes)) 0) rows (scan-start (now (a .bytes)) rows reads);
           };
+      none = λ past. absurd (omega (arith, past, c .before .if1 .left));
     }
 
 pub row-numbered-spec : {M : Type 1} → statement M

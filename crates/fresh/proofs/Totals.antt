@@ -1,4 +1,4 @@
--- The lists of all kinds together have at most four entries for each row: a row has four numbers for its kinds, and each of them is one kind at most.
+-- The lists of all kinds together have at most five entries for each row: a row has five numbers for its kinds, and each of them is one kind at most.
 use Rattle.fresh.proofs.Names.{Bool, List, Monitor, Parameters, [], _*_, _+_, _||_, _∙_, _∷_, _≡_, _≤_, among, ap, arith, cond, eqb, eqb-true}
 use Rattle.fresh.proofs.Names.{false}
 use Rattle.fresh.proofs.Names.{isOf, length, length-append, listedTo, numbers, refl, rowAt, split, suc, true, zero, ℕ}
@@ -63,7 +63,7 @@ module _ (m : Monitor) where
   no-rows zero = refl
   no-rows (suc kind) = omega (arith, length-append (listedTo m 0 kind) [], no-rows kind)
 
-  pub listed-few : (n kinds : ℕ) → length (listedTo m n kinds) ≤ 4 * n
+  pub listed-few : (n kinds : ℕ) → length (listedTo m n kinds) ≤ 5 * n
   listed-few zero kinds = omega (arith, no-rows kinds)
   listed-few (suc n) kinds =
       let parameters : Parameters = rowAt m n .parameters in
@@ -72,5 +72,5 @@ module _ (m : Monitor) where
         row-more n kinds,
         listed-few n kinds,
         among-few
-            (parameters .first ∷ parameters .second ∷ parameters .third ∷ parameters .fourth ∷ []) kinds,
+            (parameters .first ∷ parameters .second ∷ parameters .third ∷ parameters .fourth ∷ parameters .fifth ∷ []) kinds,
       )

@@ -15,7 +15,7 @@ zeros = replicate 35 (replicate 2 (replicate 64 0))
 
 abbrev pub zeroParameters : Parameters
 zeroParameters =
-    record { tag = 0; first = 0; second = 0; third = 0; fourth = 0; span = 0; lower = 0; upper = 0; jitter = 0; minimum = 0 }
+    record { tag = 0; first = 0; second = 0; third = 0; fourth = 0; fifth = 0; span = 0; lower = 0; upper = 0; jitter = 0; minimum = 0 }
 
 abbrev pub zeroRow : Row
 zeroRow = rowFrom zeroParameters (replicate 64 0) noState

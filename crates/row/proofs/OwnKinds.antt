@@ -1,4 +1,4 @@
--- The row's test of an event's kind is right: its four numbers are the constraint's kinds and, for those that it lacks, 64, which is no kind; and
+-- The row's test of an event's kind is right: its five numbers are the constraint's kinds and, for those that it lacks, 64, which is no kind; and
 -- an event is of one of the row's streams just where it is of one of its kinds.
 use Rattle.row.proofs.Names.{Constraint, KindsFit, KindsSuit, List, [], _++_, _<_, _||_, _∙_, _∷_, _≡_, _≤_, among, among-kinds, among-where}
 use Rattle.row.proofs.Names.{ap, arith, concerns, eqb, false, fieldsOf, kind-small, kindOf, kinds, kinds-are, kinds-small, length, ne-eqb}
@@ -19,7 +19,7 @@ among-first k (suc n) m (j ∷ ks) h few =
     (λ e. among-first k n m ks h (omega arith))
 
 concerns-kind : (c : Constraint) (k : ℕ) → ¬ (k ≡ noKind) → concerns (parametersOf c) k ≡ among k (kinds c)
-concerns-kind c k h = ap (among k) (kinds-are c) ∙ among-first k 4 4 (kinds c) h (regular c .sized .few-kinds)
+concerns-kind c k h = ap (among k) (kinds-are c) ∙ among-first k 5 5 (kinds c) h (omega (arith, regular c .sized .few-kinds))
 
 pub concerns-stream : (c : Constraint) (s : ℕ) → s < streamCount → concerns (parametersOf c) (kindOf s) ≡ among (kindOf s) (kinds c)
 concerns-stream c s h = concerns-kind c (kindOf s) (λ e. omega (arith, kind-small s h))

@@ -64,7 +64,8 @@ decide parameters = machineOf (parameters .tag) .decide parameters
 
 -- the event is of one of the row's kinds
 abbrev pub concerns : Parameters → ℕ → Bool
-concerns parameters kind = among kind (parameters .first ∷ parameters .second ∷ parameters .third ∷ parameters .fourth ∷ [])
+concerns parameters kind = among kind (parameters .first ∷ parameters .second ∷ parameters .third ∷ parameters .fourth
+    ∷ parameters .fifth ∷ [])
 
 -- a row of its rule, its times and what it keeps beside them
 abbrev pub rowFrom : Parameters → List ℕ → State → Row

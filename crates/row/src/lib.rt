@@ -52,7 +52,9 @@ pub fn concerns(parameters: Parameters, kind: u64) -> bool
     ensures { λ r. ⌜ r ≡ concerns parameters kind ⌝ }
 {
     kind == parameters.first
-        || (kind == parameters.second || (kind == parameters.third || kind == parameters.fourth))
+        || (kind == parameters.second
+            || (kind == parameters.third
+                || (kind == parameters.fourth || kind == parameters.fifth)))
 }
 
 // Whether what occurs may change a row: one that is not broken and is overdue, or that the close finds, or that the event concerns.

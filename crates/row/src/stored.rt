@@ -141,6 +141,7 @@ fn put_parameters(w: &mut [u64; SIZE], parameters: Parameters)
     w[row_words::UPPER] = parameters.upper;
     w[row_words::JITTER] = parameters.jitter;
     w[row_words::MINIMUM] = parameters.minimum;
+    w[row_words::FIFTH] = parameters.fifth;
 }
 
 // What a row keeps is put into its numbers.

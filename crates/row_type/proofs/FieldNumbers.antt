@@ -78,15 +78,15 @@ tag-kept (time (plain tolerance) x ∷ fields) r = tag-kept fields r
 pub tag-is : (c : Constraint) → parametersOf c .tag ≡ typeOf c
 tag-is c = tag-kept (fieldsOf c) (noFields (typeOf c))
 
--- the four kinds among the numbers
+-- the five kinds among the numbers
 abbrev pub kindsOf : Parameters → List ℕ
-kindsOf r = r .first ∷ r .second ∷ r .third ∷ r .fourth ∷ []
+kindsOf r = r .first ∷ r .second ∷ r .third ∷ r .fourth ∷ r .fifth ∷ []
 
-kind-first : (x : ℕ) (fields : List Field) (r : Parameters) → kindsOf (withFields fields r) ≡ take 4 (kindsIn fields ++ kindsOf r)
-    → kindsOf (withKind x (withFields fields r)) ≡ x ∷ take 3 (kindsIn fields ++ kindsOf r)
-kind-first x fields r e = ap (λ (ks : List ℕ). x ∷ ks) (ap (take 3) e ∙ take-take 3 4 (kindsIn fields ++ kindsOf r) (omega arith))
+kind-first : (x : ℕ) (fields : List Field) (r : Parameters) → kindsOf (withFields fields r) ≡ take 5 (kindsIn fields ++ kindsOf r)
+    → kindsOf (withKind x (withFields fields r)) ≡ x ∷ take 4 (kindsIn fields ++ kindsOf r)
+kind-first x fields r e = ap (λ (ks : List ℕ). x ∷ ks) (ap (take 4) e ∙ take-take 4 5 (kindsIn fields ++ kindsOf r) (omega arith))
 
-kinds-first : (fields : List Field) (r : Parameters) → kindsOf (withFields fields r) ≡ take 4 (kindsIn fields ++ kindsOf r)
+kinds-first : (fields : List Field) (r : Parameters) → kindsOf (withFields fields r) ≡ take 5 (kindsIn fields ++ kindsOf r)
 kinds-first [] r = refl
 kinds-first (byte kind x ∷ fields) r = kind-first x fields r (kinds-first fields r)
 kinds-first (byte coloured x ∷ fields) r = kind-first x fields r (kinds-first fields r)
@@ -101,5 +101,5 @@ kinds-first (time (plain len) x ∷ fields) r = kinds-first fields r
 kinds-first (time (plain tolerance) x ∷ fields) r = kinds-first fields r
 
 -- so the kinds of a rule are its constraint's, and 64 for those that it lacks
-pub kinds-are : (c : Constraint) → kindsOf (parametersOf c) ≡ take 4 (kinds c ++ replicate 4 noKind)
+pub kinds-are : (c : Constraint) → kindsOf (parametersOf c) ≡ take 5 (kinds c ++ replicate 5 noKind)
 kinds-are c = kinds-first (fieldsOf c) (noFields (typeOf c))

@@ -18,7 +18,7 @@ use Rattle.row_type.specs.declared.Change.{Change}
 
 -- the places after the last number are 0
 abbrev pub spare : List ℕ
-spare = replicate 30 0
+spare = replicate 29 0
 
 -- what a row was before its last step: what it kept, where the step wrote into its ring and the words there, and the number of that step
 pub record UndoRecord : Type 0 where
@@ -37,7 +37,7 @@ numberWords parameters state past =
     ∷ past .state .registers .last ∷ past .state .registers .first ∷ past .state .registers .second ∷ past .state .registers .third
     ∷ past .state .registers .fourth
     ∷ past .state .head ∷ past .state .len ∷ past .state .due ∷ past .state .kept ∷ past .state .broken
-    ∷ past .place ∷ past .first ∷ past .second ∷ past .step ∷ spare
+    ∷ past .place ∷ past .first ∷ past .second ∷ past .step ∷ parameters .fifth ∷ spare
 
 unfoldable pub rowWords : Parameters → List ℕ → State → UndoRecord → List (List ℕ)
 rowWords parameters times state past = times ∷ numberWords parameters state past ∷ []
@@ -51,6 +51,7 @@ parametersAt w =
       second = getD w 2 0;
       third = getD w 3 0;
       fourth = getD w 4 0;
+      fifth = getD w 34 0;
       span = getD w 5 0;
       lower = getD w 6 0;
       upper = getD w 7 0;

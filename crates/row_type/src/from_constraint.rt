@@ -28,6 +28,7 @@ fn no_fields(tag: u8) -> Parameters
         second: NO_KIND as u64,
         third: NO_KIND as u64,
         fourth: NO_KIND as u64,
+        fifth: NO_KIND as u64,
         span: 0,
         lower: 0,
         upper: 0,
@@ -52,6 +53,7 @@ fn with_byte(parameters: Parameters, role: u8, value: u8) -> Parameters
         next.second = parameters.first;
         next.third = parameters.second;
         next.fourth = parameters.third;
+        next.fifth = parameters.fourth;
         return next;
     }
     next.span = value as u64;

@@ -18,6 +18,8 @@ pub struct Parameters {
     pub third: u64,
     // resume or fourth kind
     pub fourth: u64,
+    // fifth kind
+    pub fifth: u64,
     // span or maximum
     pub span: u64,
     // lower, minimum or length

@@ -92,6 +92,9 @@ pub const UNDO_WORD_1: usize = 32;
 
 pub const UNDO_STEP: usize = 33;
 
+// The fifth kind of the constraint.
+pub const FIFTH: usize = 34;
+
 // The constraint's numbers as a rule.
 pub fn parameters_at(w: &[u64; SIZE]) -> Parameters
     ensures { λ r. ⌜ r ≡ parametersAt (now (w .entry)) ⌝ }
@@ -102,6 +105,7 @@ pub fn parameters_at(w: &[u64; SIZE]) -> Parameters
         second: w[SECOND],
         third: w[THIRD],
         fourth: w[FOURTH],
+        fifth: w[FIFTH],
         span: w[SPAN],
         lower: w[LOWER],
         upper: w[UPPER],

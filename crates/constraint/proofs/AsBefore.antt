@@ -1,15 +1,17 @@
--- What colours leave as it was, for tables and events of plain kinds: their questions have the answers that they had, and a row of any type but 9
--- is open just where it was over continuations of kinds 0 to 63, since of any continuation the row's own events alone will do.
+-- What colours leave as it was, for tables and events of plain kinds: their questions have the answers that they had, and a row without a coloured
+-- field is open just where it was over continuations of kinds 0 to 63, since of any continuation the row's own events alone will do.
 use Rattle.constraint.proofs.Names.{Answer, Call, Constraint, Continues, EventInOrder, Field, InRange, Judged, KindsFit, KindsSuit, List}
-use Rattle.constraint.proofs.Names.{LowerFirst, Meets, Open, Question, Room, KindClassesFit, Step, [], _++_, _<_, _↔_, _∙_, _∷_, _≡_, _≤_}
+use Rattle.constraint.proofs.Names.{LowerFirst, Meets, Open, Question, Room, EachField, KindClassFits, Step, [], _++_, _<_, _↔_, _∙_, _∷_, _≡_, _≤_}
 use Rattle.constraint.proofs.Names.{among, ap}
+use Rattle.constraint.proofs.Names.{Age, Arbitrary, Burst, Comparison, Delay, ExecutionTime, InputSynchronization, Order, OutputSynchronization, Pattern}
+use Rattle.constraint.proofs.Names.{Reaction, Repeat, Repetition, Sporadic, StrongDelay, StrongSynchronization, Synchronization, kindFields, lastType, plain as neither, tolerance}
 use Rattle.constraint.proofs.Names.{arith, at, byte, clock, clockFrom, close, closed, coloured, cond, count, event, false, fieldsOf}
 use Rattle.constraint.proofs.Names.{firstColoured, kind, kinds, lastCount, lastKind, lastTime, length, more, own, questions, refl}
 use Rattle.constraint.proofs.Names.{rowQuestions, span, stop, sym, tick, time, times, true, typeOf, ℕ}
 use Rattle.constraint.proofs.History.{clock-append, clock-event, closed-event, own-append, times-append, times-other}
 use Rattle.constraint.proofs.Lists.{Each, both, each-cons, each-none, split}
 use Rattle.constraint.proofs.Streams.{among-where, streams, streamsIn}
-use Rattle.constraint.proofs.{Continuations.meets-same, Judged.put-in, Judged.skipped, Types.Uncoloured, Types.regular}
+use Rattle.constraint.proofs.{Continuations.meets-same, Judged.put-in, Judged.skipped}
 
 -- ---- questions
 
@@ -98,8 +100,17 @@ module _ (ks : List ℕ) (small : Each (λ k. k ≤ lastKind) ks) where
       (later .0, rw (clock-event k t a) at (later .1)))
       refl
 
+-- no field is a coloured kind
+abbrev pub Uncoloured : List Field → Type 0
+Uncoloured [] = Unit {0}
+Uncoloured (byte kind x ∷ fields) = Uncoloured fields
+Uncoloured (byte coloured x ∷ fields) = ⊥
+Uncoloured (byte count x ∷ fields) = Uncoloured fields
+Uncoloured (byte (span limit) x ∷ fields) = Uncoloured fields
+Uncoloured (time role x ∷ fields) = Uncoloured fields
+
 -- the streams of fields of which none is coloured are plain kinds
-plain-streams : (fields : List Field) → KindClassesFit fields → Uncoloured fields → Each (λ k. k ≤ lastKind) (streamsIn fields)
+plain-streams : (fields : List Field) → EachField KindClassFits fields → Uncoloured fields → Each (λ k. k ≤ lastKind) (streamsIn fields)
 plain-streams [] suit plain = each-none (λ k. k ≤ lastKind)
 plain-streams (byte kind x ∷ fields) suit plain =
     each-cons (λ k. k ≤ lastKind) x (streamsIn fields) (omega (arith, suit .0)) (plain-streams fields (suit .1) plain)
@@ -108,13 +119,13 @@ plain-streams (byte count x ∷ fields) suit plain = plain-streams fields (suit 
 plain-streams (byte (span limit) x ∷ fields) suit plain = plain-streams fields (suit .1) plain
 plain-streams (time role x ∷ fields) suit plain = plain-streams fields (suit .1) plain
 
--- §2.4: a row of any type but 9 whose kinds are plain is open just where it was; and its verdict is read off that alone (§2.4, §2.5, §2.6)
-pub open-as-before : (c : Constraint) → KindsSuit c → ¬ (typeOf c ≡ 9) → (steps : List Step) → Open c steps ↔ OpenBefore c steps
+-- §2.4: a row without a coloured field is open just where it was; and its verdict is read off that alone (§2.4, §2.5, §2.6)
+pub open-as-before : (c : Constraint) → KindsSuit c → Uncoloured (fieldsOf c) → (steps : List Step) → Open c steps ↔ OpenBefore c steps
 unfolding KindsSuit
-open-as-before c suit other steps = (
+open-as-before c suit plain steps = (
   λ (further, follows, meets).
       let ks = streams c in
-      let small = plain-streams (fieldsOf c) suit (regular c .uncoloured other) in
+      let small = plain-streams (fieldsOf c) suit plain in
       let left = continues-thin ks small follows steps refl (λ k e. refl) (omega arith) in (
         thin ks further,
         left .0,
@@ -125,3 +136,28 @@ open-as-before c suit other steps = (
       ),
   λ (further, follows, meets). (further, continues-still follows, meets),
 )
+
+-- the kinds of a list without colours
+plain-fields : (ks : List ℕ) (later : List Field) → Uncoloured later → Uncoloured (kindFields kind ks ++ later)
+plain-fields [] later h = h
+plain-fields (k ∷ ks) later h = plain-fields ks later h
+
+-- so it is of every row of the first edition but a Reaction
+pub first-edition-plain : (c : Constraint) → typeOf c ≤ lastType 1 → ¬ (typeOf c ≡ 9) → Uncoloured (fieldsOf c)
+first-edition-plain (Delay a b x y) first other = tt
+first-edition-plain (StrongDelay a b x y) first other = tt
+first-edition-plain (Repeat a b x y) first other = tt
+first-edition-plain (Sporadic a x y z w) first other = tt
+first-edition-plain (Burst a b x y) first other = tt
+first-edition-plain (Order a b) first other = tt
+first-edition-plain (StrongSynchronization ks x) first other = plain-fields ks (time (neither tolerance) x ∷ []) tt
+first-edition-plain (ExecutionTime a b c d x y) first other = tt
+first-edition-plain (Reaction a b x y) first other = absurd (other refl)
+first-edition-plain (Repetition a b x y z) first other = tt
+first-edition-plain (Synchronization ks x) first other = plain-fields ks (time (neither tolerance) x ∷ []) tt
+first-edition-plain (Age a b x y) first other = absurd (omega (arith, first))
+first-edition-plain (OutputSynchronization a ks x) first other = absurd (omega (arith, first))
+first-edition-plain (InputSynchronization ks a x) first other = absurd (omega (arith, first))
+first-edition-plain (Pattern a x y z xs) first other = absurd (omega (arith, first))
+first-edition-plain (Arbitrary a ps) first other = absurd (omega (arith, first))
+first-edition-plain (Comparison a x y) first other = tt

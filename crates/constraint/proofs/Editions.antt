@@ -1,7 +1,7 @@
 -- What the second edition leaves as it was: a table of the first is read as before by a call that takes both, and its rows are accepted in the
 -- second too, since that has all types of the first.
-use Rattle.constraint.proofs.Names.{AcceptedIn, Constraint, Judged, List, ReadsTable, ReadsTableUpTo, TableRead, Taken, VersionUpTo, [], _+_}
-use Rattle.constraint.proofs.Names.{_<_, _↔_, _∷_, _≡_, _≤_, arith, at, lastType, rowLimit, rowQuestions, rowsQuestions, suc, typeOf}
+use Rattle.constraint.proofs.Names.{AcceptedIn, Constraint, Judged, List, ReadsTable, ReadsTableUpTo, TableRead, Taken, TypeKnown, VersionUpTo, [], _+_}
+use Rattle.constraint.proofs.Names.{_<_, _↔_, _∷_, _≡_, _≤_, arith, at, countOf, lastType, rowLimit, rowQuestions, rowsQuestions, suc, typeOf}
 use Rattle.constraint.proofs.Names.{version-refused, version-taken, zero, ℕ}
 use Rattle.constraint.proofs.{Accepted.rows-taken, Judged.judged-all, Judged.judged-parts, Judged.judged-yes}
 
@@ -30,14 +30,18 @@ reads-as-before bytes first read =
 
 -- rows that are accepted in an edition are accepted in one that has its types
 module _ (edition later : ℕ) (more : lastType edition ≤ lastType later) where
+  type-later : (t n : ℕ) → TypeKnown edition t n → TypeKnown later t n
+  type-later t n known =
+      record { type-known = (known .type-known .0, omega (arith, known .type-known .1, more)); n-known = known .n-known }
+
   rows-later : (i : ℕ) (rows : List Constraint) → Judged (rowsQuestions edition i rows []) Taken → Judged (rowsQuestions later i rows []) Taken
   unfolding rowsQuestions
   rows-later i [] judged = judged
   rows-later i (c ∷ rows) judged =
       let room = judged-all 3 (i < rowLimit) _ judged in
-      let known = judged-all 4 (typeOf c ≤ lastType edition) _ (room .1) in
+      let known = judged-all 4 (TypeKnown edition (typeOf c) (countOf c)) _ (room .1) in
       let parts = judged-parts (rowQuestions c) (rowsQuestions edition (i + 1) rows []) (known .1) in
-      rows-taken later i c rows [] Taken (room .0) (judged-yes 4 _ _ Taken (omega (arith, known .0, more)) (parts .0))
+      rows-taken later i c rows [] Taken (room .0) (judged-yes 4 _ _ Taken (type-later (typeOf c) (countOf c) (known .0)) (parts .0))
       (rows-later (i + 1) rows (parts .1))
 
 -- §16.2: those of the first edition are accepted in the second

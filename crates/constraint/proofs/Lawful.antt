@@ -1,8 +1,10 @@
 -- What each type shows of its definition: it looks only at the row's own events and the clock, and what is met at a clock is met at every earlier
 -- one; and what its examples show: it can be met, and can be missed.
-use Rattle.constraint.proofs.Names.{Constraint, List, Meets, NotLater, Step, [], _∙_, _∷_, _≡_, _≤_, among, ap, arith, at, clock, close, cond}
+use Rattle.constraint.proofs.Names.{Constraint, Field, List, Meets, NotLater, Step, [], _++_, _<_, _∙_, _∷_, _≡_, _≤_, among, ap, arith, at, clock, close}
+use Rattle.constraint.proofs.Names.{coloured, cond, kind, kindFields, length, plain, suc, time, tolerance, zero}
 use Rattle.constraint.proofs.Names.{eqb, event, inl, inr, lastColour, ne-eqb, own, refl, stream, subst, sym, tick, times, true, waiting, ℕ}
-use Rattle.constraint.proofs.{Lists.Each, Lists.both, Lists.split, Streams.among-at, Streams.colour-at, Streams.colours, Streams.streams}
+use Rattle.constraint.proofs.{Lists.Each, Lists.both, Lists.each-cons, Lists.each-left, Lists.each-right, Lists.each-tail, Lists.split, Streams.among-at}
+use Rattle.constraint.proofs.Streams.{colour-at, colours, streams, streamsIn}
 
 -- ---- a row looks only at its own events and the clock
 
@@ -35,6 +37,31 @@ same-times ks a b same i h =
 pub of-colour : (k : ℕ) (a b : List Step) → SameTimes (colours k) a b → (colour : ℕ) → colour ≤ lastColour → times (stream k colour) a
     ≡ times (stream k colour) b
 of-colour k a b same colour few = subst (λ (s : ℕ). times s a ≡ times s b) (colour-at k colour few) (same colour (omega arith))
+
+-- the same times of the kinds of a list, before a tolerance
+pub listed-same : (ks : List ℕ) (x : ℕ) (a b : List Step) → SameTimes (streamsIn (kindFields kind ks ++ (time (plain tolerance) x ∷ []))) a b
+    → SameTimes ks a b
+listed-same [] x a b same = same
+listed-same (k ∷ ks) x a b same =
+    let Alike : ℕ → Type 0 = λ k. times k a ≡ times k b in
+    each-cons Alike k ks (same 0 (omega arith))
+    (listed-same ks x a b (each-tail Alike k (streamsIn (kindFields kind ks ++ (time (plain tolerance) x ∷ []))) same))
+
+-- the same times of each colour of the kinds of a list, before other fields
+pub coloured-same : (ks : List ℕ) (later : List Field) (a b : List Step) → SameTimes (streamsIn (kindFields coloured ks ++ later)) a b
+    → (j : ℕ) → j < length ks → SameTimes (colours (at ks j)) a b
+coloured-same [] later a b same j h = absurd (omega arith)
+coloured-same (k ∷ ks) later a b same zero h =
+    each-left (λ s. times s a ≡ times s b) (colours k) (streamsIn (kindFields coloured ks ++ later)) same
+coloured-same (k ∷ ks) later a b same (suc j) h =
+    coloured-same ks later a b (each-right (λ s. times s a ≡ times s b) (colours k) (streamsIn (kindFields coloured ks ++ later)) same) j (omega arith)
+
+-- and the fields after them
+pub after-coloured : (ks : List ℕ) (later : List Field) (a b : List Step) → SameTimes (streamsIn (kindFields coloured ks ++ later)) a b
+    → SameTimes (streamsIn later) a b
+after-coloured [] later a b same = same
+after-coloured (k ∷ ks) later a b same =
+    after-coloured ks later a b (each-right (λ s. times s a ≡ times s b) (colours k) (streamsIn (kindFields coloured ks ++ later)) same)
 
 -- what is met at a clock is met at every earlier one
 pub not-later-earlier : {upper : ℕ} (x now later : ℕ) → now ≤ later → NotLater upper x later → NotLater upper x now

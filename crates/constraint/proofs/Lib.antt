@@ -14,8 +14,6 @@ pub mod Counting
 pub mod Judged
 pub mod LastQuestion
 pub mod FittingKinds
-pub mod FieldByField
-pub mod Rows
 pub mod Accepted
 pub mod Editions
 pub mod Runs
@@ -23,3 +21,4 @@ pub mod Withdrawals
 pub mod AsBefore
 pub mod LongerClocks
 pub mod Sanity
+pub mod SameMeaning

@@ -1,12 +1,12 @@
 -- What longer clocks leave as they found it. The rows' fields have a wider range, so a table that was accepted is. With `nextFree` of a stream
 -- one more than its last time, each event raises the sum of all 176 by one at least, each tick raises the clock, and the close comes once: so up
 -- to the earlier last time the count fits by itself, and calls and withdrawals none of which was answered 10 have the answers that they had.
-use Rattle.constraint.proofs.Names.{Accepted, Answer, Bool, Call, Constraint, EventInOrder, Field, FieldsInRange, InRange, Judged, KindsFit}
-use Rattle.constraint.proofs.Names.{KindsSuit, Left, List, LowerFirst, Question, Refused, Request, Room, Run, Step, Taken, [], _*_, _++_, _+_}
+use Rattle.constraint.proofs.Names.{Accepted, Answer, Bool, Call, Constraint, EventInOrder, EachField, Field, FieldInRange, InRange, Judged, KindsFit}
+use Rattle.constraint.proofs.Names.{KindsSuit, Left, List, LowerFirst, Question, Refused, Request, Room, Run, Step, Taken, TypeKnown, [], _*_, _++_, _+_}
 use Rattle.constraint.proofs.Names.{_-_, _<_, _^_, _∙_, _∷_, _≡_, _≤_, _⊎_, ap, ap₂, arith, asks, by-cases, byte, clock, clockFrom, close}
-use Rattle.constraint.proofs.Names.{closed, coloured, cond, count, done, event, false, fieldsOf, firstColoured, inl, inr, kind, kinds}
-use Rattle.constraint.proofs.Names.{lastColour, lastCount, lastKind, lastTime, lastType, leftBy, length, length-append, lower, noLimit}
-use Rattle.constraint.proofs.Names.{noneLeft, plain, questions, refl, request, requestQuestions, rowLimit, rowsQuestions, span, stepFor}
+use Rattle.constraint.proofs.Names.{closed, compared, cond, countOf, done, event, false, fieldsOf, firstColoured, inl, inr, kinds}
+use Rattle.constraint.proofs.Names.{lastColour, lastCount, lastKind, lastTime, leftBy, length, length-append, lower, noLimit}
+use Rattle.constraint.proofs.Names.{noneLeft, offset, plain, questions, refl, request, requestQuestions, rowLimit, rowsQuestions, stepFor}
 use Rattle.constraint.proofs.Names.{stream, subst, suc, tick, time, times, true, typeOf, upper, upper-or-none, withdraws, zero, ℕ, ℕ-discrete}
 use Rattle.constraint.proofs.Names.{⊎-elim}
 use Rattle.constraint.proofs.History.{Accepts, Past, Valid, clock-close, clock-event, clock-tick, closed-close, closed-event, closed-tick}
@@ -24,35 +24,35 @@ earlier t h = omega arith
 
 -- ---- tables
 
--- the ranges of a row's fields then
-abbrev pub FieldsInRangeBefore : List Field → Type 0
-FieldsInRangeBefore [] = Unit {0}
-FieldsInRangeBefore (byte kind x ∷ fields) = FieldsInRangeBefore fields
-FieldsInRangeBefore (byte coloured x ∷ fields) = FieldsInRangeBefore fields
-FieldsInRangeBefore (byte count x ∷ fields) = FieldsInRangeBefore fields
-FieldsInRangeBefore (byte (span limit) x ∷ fields) = (1 ≤ x) × (x ≤ limit) × FieldsInRangeBefore fields
-FieldsInRangeBefore (time (plain what) x ∷ fields) = (x ≤ lastTimeBefore) × FieldsInRangeBefore fields
-FieldsInRangeBefore (time lower x ∷ fields) = (x ≤ lastTimeBefore) × FieldsInRangeBefore fields
-FieldsInRangeBefore (time upper x ∷ fields) = (x ≤ lastTimeBefore) × FieldsInRangeBefore fields
-FieldsInRangeBefore (time upper-or-none x ∷ fields) = ((x ≤ lastTimeBefore) ⊎ (x ≡ noLimit)) × FieldsInRangeBefore fields
+-- the range of a field then
+abbrev pub FieldInRangeBefore : Field → Type 0
+FieldInRangeBefore (byte role x) = FieldInRange (byte role x)
+FieldInRangeBefore (time (plain what) x) = x ≤ lastTimeBefore
+FieldInRangeBefore (time lower x) = x ≤ lastTimeBefore
+FieldInRangeBefore (time upper x) = x ≤ lastTimeBefore
+FieldInRangeBefore (time upper-or-none x) = (x ≤ lastTimeBefore) ⊎ (x ≡ noLimit)
+FieldInRangeBefore (time offset x) = x ≤ lastTimeBefore
+FieldInRangeBefore (time compared x) = x ≤ lastTimeBefore
 
-range-still : (fields : List Field) → FieldsInRangeBefore fields → FieldsInRange fields
+field-still : (f : Field) → FieldInRangeBefore f → FieldInRange f
+field-still (byte role x) h = h
+field-still (time (plain what) x) h = omega arith
+field-still (time lower x) h = omega arith
+field-still (time upper x) h = omega arith
+field-still (time upper-or-none x) h = ⊎-elim (λ small. inl (omega arith)) inr h
+field-still (time offset x) h = omega arith
+field-still (time compared x) h = omega arith
+
+range-still : (fields : List Field) → EachField FieldInRangeBefore fields → EachField FieldInRange fields
 range-still [] h = tt
-range-still (byte kind x ∷ fields) h = range-still fields h
-range-still (byte coloured x ∷ fields) h = range-still fields h
-range-still (byte count x ∷ fields) h = range-still fields h
-range-still (byte (span limit) x ∷ fields) h = (h .0, h .1, range-still fields (h .2))
-range-still (time (plain what) x ∷ fields) h = (omega (arith, h .0), range-still fields (h .1))
-range-still (time lower x ∷ fields) h = (omega (arith, h .0), range-still fields (h .1))
-range-still (time upper x ∷ fields) h = (omega (arith, h .0), range-still fields (h .1))
-range-still (time upper-or-none x ∷ fields) h = (⊎-elim (λ small. inl (omega arith)) inr (h .0), range-still fields (h .1))
+range-still (f ∷ fields) h = (field-still f (h .0), range-still fields (h .1))
 
 -- the questions of a table's rows then
 abbrev pub rowsQuestionsBefore : ℕ → List Constraint → List Question
 rowsQuestionsBefore i [] = []
 rowsQuestionsBefore i (c ∷ rows) =
-    (3, i < rowLimit) ∷ (4, typeOf c ≤ lastType 1) ∷ (5, KindsFit (kinds c)) ∷ (18, KindsSuit c) ∷ (6, FieldsInRangeBefore (fieldsOf c))
-    ∷ (7, LowerFirst c) ∷ rowsQuestionsBefore (i + 1) rows
+    (3, i < rowLimit) ∷ (4, TypeKnown 1 (typeOf c) (countOf c)) ∷ (5, KindsFit (kinds c)) ∷ (18, KindsSuit c)
+    ∷ (6, EachField FieldInRangeBefore (fieldsOf c)) ∷ (7, LowerFirst c) ∷ rowsQuestionsBefore (i + 1) rows
 
 rows-still : (i : ℕ) (rows : List Constraint) → Judged (rowsQuestionsBefore i rows) Taken → Judged (rowsQuestions 1 i rows []) Taken
 unfolding rowsQuestions InRange

@@ -1,5 +1,5 @@
 -- Streams and their kinds: the numbering is one to one, and a stream is one of a row's just where its kind is one of the row's.
-use Rattle.constraint.proofs.Names.{Constraint, Field, List, KindClassesFit, [], _++_, _+_, _-_, _/_, _<_, _||_, _∙_, _∷_, _≡_, _≤_, among, ap}
+use Rattle.constraint.proofs.Names.{Constraint, Field, List, EachField, KindClassFits, [], _++_, _+_, _-_, _/_, _<_, _||_, _∙_, _∷_, _≡_, _≤_, among, ap}
 use Rattle.constraint.proofs.Names.{ap₂}
 use Rattle.constraint.proofs.Names.{arith, at, by-cases, byte, coloured, count, decLt, either-true, eq-eqb, eqb, eqb-false, eqb-true, false}
 use Rattle.constraint.proofs.Names.{fieldsOf, firstColoured, kind, kindOf, kindsIn, lastColour, lastKind, le-ltb, length, lt-ltb, ne-eqb, refl}
@@ -113,7 +113,7 @@ coloured-alone s k h =
         (λ e. refl)
 
 -- §1.9: the kinds fitting, a stream is among those of some fields just where its kind is among theirs
-pub among-kinds : (s : ℕ) (fields : List Field) → KindClassesFit fields → among (kindOf s) (kindsIn fields) ≡ among s (streamsIn fields)
+pub among-kinds : (s : ℕ) (fields : List Field) → EachField KindClassFits fields → among (kindOf s) (kindsIn fields) ≡ among s (streamsIn fields)
 among-kinds s [] h = refl
 among-kinds s (byte kind x ∷ fields) h = ap₂ _||_ (plain-alone s x (h .0)) (among-kinds s fields (h .1))
 among-kinds s (byte coloured x ∷ fields) h =

@@ -1,5 +1,5 @@
--- Questions 3 to 7 and 18, row by row. `fresh` and the table writer ask them (§9.7; 01, questions; CR 6). Question 4 asks here only whether the
--- edition has the type, because every `Constraint` has a known n and the length of its type.
+-- Questions 3 to 7 and 18, row by row. `fresh` and the table writer ask them (§9.7; 01, questions; CR 6). Question 4 asks here about
+-- the type and its n, because the fields give the length.
 use Prim.Native.Nat.{ℕ, _+_, _≤_, _<_}
 use mathlib.Core.Path.{_≡_}
 use mathlib.Core.List.{List, [], _∷_, _++_}
@@ -8,10 +8,11 @@ use lib.ListN.{length}
 use Rattle.constraint.specs.Limits.{lastKind, firstColoured, lastTime, noLimit, rowLimit}
 use Rattle.constraint.specs.Steps.{at}
 use Rattle.constraint.specs.Questions.{Question, Judged}
-use Rattle.constraint.specs.Types.{kind, coloured, count, span, plain, lower, upper, upper-or-none, Field, byte, time, typeOf, fieldsOf}
-use Rattle.constraint.specs.Types.{lastType}
+use Rattle.constraint.specs.Meets.{Compares}
+use Rattle.constraint.specs.Types.{kind, coloured, count, span, plain, lower, upper, upper-or-none, offset, compared, Field, byte, time}
+use Rattle.constraint.specs.Types.{typeOf, fieldsOf, countOf, TypeKnown}
 use Rattle.constraint.specs.declared.Answer.the-variants.{Taken}
-use Rattle.constraint.specs.declared.Constraint.{Constraint}
+use Rattle.constraint.specs.Constraint.{Constraint}
 
 -- §8.5; 01, questions: the kinds in a list of fields
 abbrev pub kindsIn : List Field → List ℕ
@@ -30,6 +31,11 @@ kinds c = kindsIn (fieldsOf c)
 unfoldable pub KindsFit : List ℕ → Type 0
 KindsFit ks = ((i : ℕ) → i < length ks → at ks i ≤ lastKind) × ((i j : ℕ) → i < j → j < length ks → ¬ (at ks i ≡ at ks j))
 
+-- §8.6, §8.18: what is asked of a field is true of every field in a list
+abbrev pub EachField : (Field → Type 0) → List Field → Type 0
+EachField Asked [] = Unit {0}
+EachField Asked (f ∷ fields) = Asked f × EachField Asked fields
+
 -- §8.18; CR 6: the field names a plain kind if the type takes plain kinds, and a coloured kind if it takes coloured kinds
 abbrev pub KindClassFits : Field → Type 0
 KindClassFits (byte kind x) = x < firstColoured
@@ -38,51 +44,64 @@ KindClassFits (byte count x) = Unit {0}
 KindClassFits (byte (span limit) x) = Unit {0}
 KindClassFits (time role x) = Unit {0}
 
--- §8.18; CR 6: every field in a list names a kind of the right class
-abbrev pub KindClassesFit : List Field → Type 0
-KindClassesFit [] = Unit {0}
-KindClassesFit (f ∷ fields) = KindClassFits f × KindClassesFit fields
-
 -- §8.18; CR 6: every field of a row names a kind of the right class
 unfoldable pub KindsSuit : Constraint → Type 0
-KindsSuit c = KindClassesFit (fieldsOf c)
+KindsSuit c = EachField KindClassFits (fieldsOf c)
 
--- §8.6, §4.7; 01, table; CR 1, 10: every field in a list is in its range. An upper may be the mark for no limit if the type has it
-abbrev pub FieldsInRange : List Field → Type 0
-FieldsInRange [] = Unit {0}
-FieldsInRange (byte kind x ∷ fields) = FieldsInRange fields
-FieldsInRange (byte coloured x ∷ fields) = FieldsInRange fields
-FieldsInRange (byte count x ∷ fields) = FieldsInRange fields
-FieldsInRange (byte (span limit) x ∷ fields) = (1 ≤ x) × (x ≤ limit) × FieldsInRange fields
-FieldsInRange (time (plain what) x ∷ fields) = (x ≤ lastTime) × FieldsInRange fields
-FieldsInRange (time lower x ∷ fields) = (x ≤ lastTime) × FieldsInRange fields
-FieldsInRange (time upper x ∷ fields) = (x ≤ lastTime) × FieldsInRange fields
-FieldsInRange (time upper-or-none x ∷ fields) = ((x ≤ lastTime) ⊎ (x ≡ noLimit)) × FieldsInRange fields
+-- §8.6, §4.7; 01, table; CR 1, 10: the field is in its range. An upper may be the mark for no limit if the type has it
+abbrev pub FieldInRange : Field → Type 0
+FieldInRange (byte kind x) = Unit {0}
+FieldInRange (byte coloured x) = Unit {0}
+FieldInRange (byte count x) = Unit {0}
+FieldInRange (byte (span limit) x) = (1 ≤ x) × (x ≤ limit)
+FieldInRange (time (plain what) x) = x ≤ lastTime
+FieldInRange (time lower x) = x ≤ lastTime
+FieldInRange (time upper x) = x ≤ lastTime
+FieldInRange (time upper-or-none x) = (x ≤ lastTime) ⊎ (x ≡ noLimit)
+FieldInRange (time offset x) = x ≤ lastTime
+FieldInRange (time compared x) = x ≤ lastTime
 
 -- §4.6, §4.7, §5.9.6, §8.6; 01, questions: every field of a row is in its range
 unfoldable pub InRange : Constraint → Type 0
-InRange c = FieldsInRange (fieldsOf c)
+InRange c = EachField FieldInRange (fieldsOf c)
 
--- §8.7; 01, questions: lower is at most upper in a list of fields. `low` is the lower before these fields, or 0 if there is none
-abbrev pub NotBelow : ℕ → List Field → Type 0
-NotBelow low [] = Unit {0}
-NotBelow low (byte role x ∷ fields) = NotBelow low fields
-NotBelow low (time (plain what) x ∷ fields) = NotBelow low fields
-NotBelow low (time lower x ∷ fields) = NotBelow x fields
-NotBelow low (time upper x ∷ fields) = low ≤ x
-NotBelow low (time upper-or-none x ∷ fields) = low ≤ x
+-- §8.7; 01, questions: the field is not below `low`, the bound that the fields before it give: an upper is at least the lower, an offset is above the
+-- one before it, and what a Comparison says with its operator n is true
+abbrev pub NotBelow : ℕ → ℕ → Field → Type 0
+NotBelow n low (byte role x) = Unit {0}
+NotBelow n low (time (plain what) x) = Unit {0}
+NotBelow n low (time lower x) = Unit {0}
+NotBelow n low (time upper x) = low ≤ x
+NotBelow n low (time upper-or-none x) = low ≤ x
+NotBelow n low (time offset x) = low ≤ x
+NotBelow n low (time compared x) = Compares n low x
 
--- §8.7; 01, questions; CR 6: lower is at most upper in a row
+-- §8.7: the bound for the fields after the field, if `low` is the bound for the field
+abbrev pub boundAfter : ℕ → Field → ℕ
+boundAfter low (byte role x) = low
+boundAfter low (time (plain what) x) = low
+boundAfter low (time lower x) = x
+boundAfter low (time upper x) = 0
+boundAfter low (time upper-or-none x) = 0
+boundAfter low (time offset x) = x + 1
+boundAfter low (time compared x) = 0
+
+-- §8.7; 01, questions: no field in a list is below its bound. `low` is the bound for the first, or 0 if there is none
+abbrev pub Ordered : ℕ → ℕ → List Field → Type 0
+Ordered n low [] = Unit {0}
+Ordered n low (f ∷ fields) = NotBelow n low f × Ordered n (boundAfter low f) fields
+
+-- §8.7; 01, questions; CR 6: lower is at most upper in a row, offsets rise, and a Comparison is true
 unfoldable pub LowerFirst : Constraint → Type 0
-LowerFirst c = NotBelow 0 (fieldsOf c)
+LowerFirst c = Ordered (countOf c) 0 (fieldsOf c)
 
 -- §9.7; 01, questions; CR 6: questions 5, 18, 6 and 7 about one row
 abbrev pub rowQuestions : Constraint → List Question
 rowQuestions c = (5, KindsFit (kinds c)) ∷ (18, KindsSuit c) ∷ (6, InRange c) ∷ (7, LowerFirst c) ∷ []
 
--- §8.4, §9.7, §16.5; 01, questions: question 4, whether the edition has the type, and then the questions above
+-- §8.4, §9.7, §16.5; 01, questions: question 4, whether the edition has the type and the type the n, and then the questions above
 abbrev pub rowQuestionsIn : ℕ → Constraint → List Question
-rowQuestionsIn edition c = (4, typeOf c ≤ lastType edition) ∷ rowQuestions c
+rowQuestionsIn edition c = (4, TypeKnown edition (typeOf c) (countOf c)) ∷ rowQuestions c
 
 -- §8.3, §9.7; 01, questions: for each row question 3, with i rows before it (§8.3), then the row's own questions. `after` are the questions after the
 -- last row

@@ -7,7 +7,7 @@ use lib.ListN.{length, take}
 use Rattle.constraint.specs.Limits.{streamCount}
 use Rattle.constraint.specs.Steps.{Step, event, at, times, clock, closed}
 use Rattle.constraint.specs.Meets.{Meets}
-use Rattle.constraint.specs.declared.Constraint.{Constraint}
+use Rattle.constraint.specs.Constraint.{Constraint}
 use Rattle.constraint.specs.declared.Verdict.{Verdict}
 
 -- §1.3, §8.11; 01, time; CR 6: the time is not before the clock, and it is after all earlier events of the stream

@@ -6,8 +6,7 @@ use Rattle.constraint.specs.declared.Answer.{Answer}
 use Rattle.constraint.specs.declared.Answer.the-variants.{Taken, Refused}
 use Rattle.constraint.specs.declared.Call.{Call}
 use Rattle.constraint.specs.declared.Call.the-variants.{Event, Tick, Close}
-use Rattle.constraint.specs.declared.Constraint.{Constraint}
-use Rattle.constraint.specs.declared.Constraint.the-variants.{Delay, StrongDelay, Repeat, Sporadic, Order, StrongSynchronization2}
+use Rattle.constraint.specs.Constraint.{Constraint, Delay, StrongDelay, Repeat, Sporadic, Order, StrongSynchronization}
 use Rattle.constraint.specs.declared.Verdict.{Verdict}
 use Rattle.constraint.specs.declared.Verdict.the-variants.{Open, Kept, Broken}
 
@@ -54,8 +53,8 @@ examples =
     ∷ reads (Order 0 1) (Event 1 5 ∷ Event 0 5 ∷ Close ∷ []) Kept
     ∷ reads (Order 0 1) (Event 1 5 ∷ Tick 6 ∷ []) (Broken 2)
     -- §10.12: groups that overlap, and a group that comes too late
-    ∷ reads (StrongSynchronization2 0 1 2) (Event 0 5 ∷ Event 0 6 ∷ Event 1 7 ∷ Event 1 8 ∷ Close ∷ []) Kept
-    ∷ reads (StrongSynchronization2 0 1 2) (Event 0 5 ∷ Event 0 6 ∷ Tick 8 ∷ []) (Broken 3)
+    ∷ reads (StrongSynchronization (0 ∷ 1 ∷ []) 2) (Event 0 5 ∷ Event 0 6 ∷ Event 1 7 ∷ Event 1 8 ∷ Close ∷ []) Kept
+    ∷ reads (StrongSynchronization (0 ∷ 1 ∷ []) 2) (Event 0 5 ∷ Event 0 6 ∷ Tick 8 ∷ []) (Broken 3)
     -- §10.14: a step that is withdrawn once, and the one before it that may not be
     ∷ record {
       constraint = Delay 0 1 2 3;

@@ -14,6 +14,7 @@
 --   record, data           all of the lines below hold; it holds in one of the ways below and in no other
 --   {x : A}, pub, abbrev, unfoldable    an x that is clear from the rest; the other words are for the checker alone
 pub mod Limits
+pub mod Constraint
 pub mod Streams
 pub mod Steps
 pub mod Meets

@@ -1,20 +1,18 @@
--- What each row asks of all events together. Some rows also ask something of the clock (§2.2, §5.1 to §5.11; 01, rows 1 to 7; CR 1, 2, 3, 6, 10).
-use Prim.Native.Nat.{ℕ, _+_, _-_, _≤_, _<_}
+-- What each row asks of all events together. Some rows also ask something of the clock (§2.2, §5.1 to §5.17; 01, rows 1 to 7; CR 1, 2, 3, 6, 10).
+use Prim.Native.Nat.{ℕ, zero, suc, _+_, _-_, _≤_, _<_}
 use mathlib.Core.Path.{_≡_}
-use mathlib.Core.List.{List, [], _∷_}
+use mathlib.Core.Bool.{cond}
+use mathlib.Core.List.{List, [], _∷_, map}
 use mathlib.Core.Logic.{_⊎_}
 use mathlib.Core.Option.{Option, none, some}
 use lib.ListN.{length}
+use lib.Dec.{eqb}
 use Rattle.constraint.specs.Limits.{lastColour, noLimit}
 use Rattle.constraint.specs.Streams.{stream}
 use Rattle.constraint.specs.Steps.{Step, at, times, own, clock}
-use Rattle.constraint.specs.declared.Constraint.{Constraint}
--- begin imports: made by release/row-types.py
-use Rattle.constraint.specs.declared.Constraint.the-variants.{Delay, StrongDelay, Repeat, Sporadic, Burst, Order, StrongSynchronization2}
-use Rattle.constraint.specs.declared.Constraint.the-variants.{StrongSynchronization3, StrongSynchronization4, ExecutionTime, Reaction}
-use Rattle.constraint.specs.declared.Constraint.the-variants.{Repetition, Synchronization2, Synchronization3, Synchronization4}
-
--- end imports
+use Rattle.constraint.specs.Constraint.{Constraint, Delay, StrongDelay, Repeat, Sporadic, Burst, Order, StrongSynchronization, ExecutionTime}
+use Rattle.constraint.specs.Constraint.{Reaction, Repetition, Synchronization, Age, OutputSynchronization, InputSynchronization, Pattern}
+use Rattle.constraint.specs.Constraint.{Arbitrary, Comparison}
 
 -- §5.2; 01, row 2: y is lower to upper after x, both ends included
 abbrev pub Between : ℕ → ℕ → ℕ → ℕ → Type 0
@@ -125,7 +123,65 @@ unfoldable pub MeetsReaction : ℕ → ℕ → List ℕ → List ℕ → Type 0
 MeetsReaction minimum maximum stimuli responses =
     (i : ℕ) → i < length stimuli → (0 < length responses) × Between minimum maximum (at stimuli i) (at responses 0)
 
--- §2.1, §2.2, §5.9; 01, rows; CR 3: what a row asks of all events together and of the clock after them
+-- §5.12: for one colour: each response has a stimulus, and is minimum to maximum after the latest stimulus of all
+unfoldable pub MeetsAge : ℕ → ℕ → List ℕ → List ℕ → Type 0
+MeetsAge minimum maximum stimuli responses =
+    (i : ℕ) → i < length responses → (0 < length stimuli) × Between minimum maximum (at stimuli (length stimuli - 1)) (at responses i)
+
+-- §5.13: for one colour: if there is a stimulus, each of the kinds has a response, no stimulus is after a kind's first response, and any two first
+-- responses are at most tolerance apart
+unfoldable pub MeetsOutputSynchronization : ℕ → List ℕ → ℕ → ℕ → List Step → Type 0
+MeetsOutputSynchronization stimulus kinds tolerance colour steps =
+    let stimuli : List ℕ = times (stream stimulus colour) steps in
+    let responses : ℕ → List ℕ = λ j. times (stream (at kinds j) colour) steps in
+    (i j k : ℕ) → i < length stimuli → j < length kinds → k < length kinds
+    → (0 < length (responses j)) × (at stimuli i ≤ at (responses j) 0) × (at (responses j) 0 ≤ at (responses k) 0 + tolerance)
+
+-- §5.14: the latest of some times; times rise within a stream, so it is the last
+abbrev pub latestOf : List ℕ → ℕ
+latestOf ts = at ts (length ts - 1)
+
+-- §5.14: for one colour: if there is a response, each of the kinds has a stimulus, no kind's latest stimulus is after a response, and any two latest
+-- stimuli are at most tolerance apart
+unfoldable pub MeetsInputSynchronization : List ℕ → ℕ → ℕ → ℕ → List Step → Type 0
+MeetsInputSynchronization kinds response tolerance colour steps =
+    let stimuli : ℕ → List ℕ = λ j. times (stream (at kinds j) colour) steps in
+    let responses : List ℕ = times (stream response colour) steps in
+    (i j k : ℕ) → i < length responses → j < length kinds → k < length kinds
+    → (0 < length (stimuli j)) × (latestOf (stimuli j) ≤ at responses i) × (latestOf (stimuli j) ≤ latestOf (stimuli k) + tolerance)
+
+-- §5.15: the number of the j-th event in its group of n events
+unfoldable pub numberOf : ℕ → ℕ → ℕ
+numberOf n zero = 0
+numberOf n (suc j) = cond (eqb (numberOf n j + 1) n) 0 (numberOf n j + 1)
+
+-- §5.15: how much later the point of the j-th event's group is than the first point. A group follows the one before it by a period
+unfoldable pub pointOf : ℕ → ℕ → ℕ → ℕ
+pointOf n period zero = 0
+pointOf n period (suc j) = cond (eqb (numberOf n j + 1) n) (pointOf n period j + period) (pointOf n period j)
+
+-- §5.15: the place of the j-th event, counted from the start
+abbrev pub placeOf : ℕ → List ℕ → ℕ → ℕ
+placeOf period offsets j = pointOf (length offsets) period j + at offsets (numberOf (length offsets) j)
+
+-- §5.15: from some start on each event is at most jitter after its place, and the next event is not overdue at the clock `now`. Consecutive events are
+-- at least minimum apart, and a second group has another point
+unfoldable pub MeetsPattern : ℕ → ℕ → ℕ → List ℕ → List ℕ → ℕ → Type 0
+MeetsPattern period jitter minimum offsets events now =
+    ((start : ℕ) × ((j : ℕ) → j < length events → Between 0 jitter (start + placeOf period offsets j) (at events j))
+    × (0 < length events → now ≤ start + placeOf period offsets (length events) + jitter))
+    × AtLeastApart minimum events × (length offsets < length events → 0 < period)
+
+-- §5.16: for each i from 1 on what a Repeat of span i asks, with the i-th minimum as its lower and the i-th maximum as its upper
+unfoldable pub MeetsArbitrary : List ℕ → List ℕ → List ℕ → ℕ → Type 0
+MeetsArbitrary minima maxima events now = (i : ℕ) → i < length minima → MeetsRepeat (i + 1) (at minima i) (at maxima i) events now
+
+-- §5.17: what the operators 1 to 5 say of two numbers: ≤, <, ≥, >, =
+abbrev pub Compares : ℕ → ℕ → ℕ → Type 0
+Compares operator x y =
+    cond (eqb operator 1) (x ≤ y) (cond (eqb operator 2) (x < y) (cond (eqb operator 3) (y ≤ x) (cond (eqb operator 4) (y < x) (x ≡ y))))
+
+-- §2.1, §2.2, §5.9, §5.12 to §5.17; 01, rows; CR 3: what a row asks of all events together and of the clock after them
 unfoldable pub Meets : Constraint → List Step → Type 0
 Meets (Delay source target lower upper) steps = MeetsDelay lower upper (times source steps) (times target steps)
 Meets (StrongDelay source target lower upper) steps = MeetsStrongDelay lower upper (times source steps) (times target steps)
@@ -133,14 +189,19 @@ Meets (Repeat event span lower upper) steps = MeetsRepeat span lower upper (time
 Meets (Sporadic event lower upper jitter minimum) steps = MeetsSporadic lower upper jitter minimum (times event steps) (clock steps)
 Meets (Burst event maximum len minimum) steps = MeetsBurst maximum len minimum (times event steps)
 Meets (Order source target) steps = MeetsOrder (times source steps) (times target steps)
-Meets (StrongSynchronization2 a b tolerance) steps = MeetsStrongSynchronization (a ∷ b ∷ []) tolerance steps
-Meets (StrongSynchronization3 a b c tolerance) steps = MeetsStrongSynchronization (a ∷ b ∷ c ∷ []) tolerance steps
-Meets (StrongSynchronization4 a b c d tolerance) steps = MeetsStrongSynchronization (a ∷ b ∷ c ∷ d ∷ []) tolerance steps
+Meets (StrongSynchronization kinds tolerance) steps = MeetsStrongSynchronization kinds tolerance steps
 Meets (ExecutionTime start stop preempt resume lower upper) steps =
     MeetsExecutionTime start stop preempt resume lower upper (own (start ∷ stop ∷ preempt ∷ resume ∷ []) steps)
 Meets (Reaction stimulus response minimum maximum) steps =
     (colour : ℕ) → colour ≤ lastColour → MeetsReaction minimum maximum (times (stream stimulus colour) steps) (times (stream response colour) steps)
 Meets (Repetition event span lower upper jitter) steps = MeetsRepetition span lower upper jitter (times event steps)
-Meets (Synchronization2 a b tolerance) steps = MeetsSynchronization (a ∷ b ∷ []) tolerance steps
-Meets (Synchronization3 a b c tolerance) steps = MeetsSynchronization (a ∷ b ∷ c ∷ []) tolerance steps
-Meets (Synchronization4 a b c d tolerance) steps = MeetsSynchronization (a ∷ b ∷ c ∷ d ∷ []) tolerance steps
+Meets (Synchronization kinds tolerance) steps = MeetsSynchronization kinds tolerance steps
+Meets (Age stimulus response minimum maximum) steps =
+    (colour : ℕ) → colour ≤ lastColour → MeetsAge minimum maximum (times (stream stimulus colour) steps) (times (stream response colour) steps)
+Meets (OutputSynchronization stimulus responses tolerance) steps =
+    (colour : ℕ) → colour ≤ lastColour → MeetsOutputSynchronization stimulus responses tolerance colour steps
+Meets (InputSynchronization stimuli response tolerance) steps =
+    (colour : ℕ) → colour ≤ lastColour → MeetsInputSynchronization stimuli response tolerance colour steps
+Meets (Pattern event period jitter minimum offsets) steps = MeetsPattern period jitter minimum offsets (times event steps) (clock steps)
+Meets (Arbitrary event pairs) steps = MeetsArbitrary (map (λ p. p .0) pairs) (map (λ p. p .1) pairs) (times event steps) (clock steps)
+Meets (Comparison operator left right) steps = Compares operator left right

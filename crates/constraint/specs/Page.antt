@@ -7,7 +7,7 @@ use lib.Dec.{eqb}
 use Rattle.constraint.specs.Steps.{Step, at}
 use Rattle.constraint.specs.Types.{typeOf, unknownName, typeNames}
 use Rattle.constraint.specs.Report.{decimal, blank, lineEnd, keptWord, brokenWord, EachReads}
-use Rattle.constraint.specs.declared.Constraint.{Constraint}
+use Rattle.constraint.specs.Constraint.{Constraint}
 use Rattle.constraint.specs.declared.Verdict.{Verdict}
 use Rattle.constraint.specs.declared.Verdict.the-variants.{Open, Kept, Broken}
 

@@ -11,7 +11,7 @@ use Rattle.constraint.specs.declared.Answer.{Answer}
 use Rattle.constraint.specs.declared.Answer.the-variants.{Refused}
 use Rattle.constraint.specs.Accepted.{Accepted}
 use Rattle.constraint.specs.Run.{Request, Left, noneLeft, Run, Keeps}
-use Rattle.constraint.specs.declared.Constraint.{Constraint}
+use Rattle.constraint.specs.Constraint.{Constraint}
 use Rattle.constraint.specs.declared.Verdict.{Verdict}
 
 -- §3.4; 01, time: the result of a request: the answer, and the monitor after it

@@ -11,7 +11,7 @@ use Rattle.constraint.specs.declared.Answer.the-variants.{Taken, Refused
 use Rattle.constraint.specs.Run.{stepFor, questions}
 use Rattle.constraint.specs.Bytes.{numberAt}
 use Rattle.constraint.specs.Table.{lengthAt, bodyAt, WholeAt}
-use Rattle.constraint.specs.declared.Constraint.{Constraint}
+use Rattle.constraint.specs.Constraint.{Constraint}
 
 -- §7.1, §8.19; CR 6: a recording of version 1 has no colours. Whatever byte is there, its colour reads 255, which is not a colour
 abbrev pub colourIn : ℕ → ℕ → ℕ

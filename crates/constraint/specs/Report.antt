@@ -8,7 +8,7 @@ use Rattle.constraint.specs.Steps.{Step, close}
 use Rattle.constraint.specs.Continuation.{Reads}
 use Rattle.constraint.specs.Table.{ReadsTableUpTo, table-of, table-refused}
 use Rattle.constraint.specs.Recording.{ReadsRecording, recording-of, recording-refused}
-use Rattle.constraint.specs.declared.Constraint.{Constraint}
+use Rattle.constraint.specs.Constraint.{Constraint}
 use Rattle.constraint.specs.declared.Verdict.{Verdict}
 use Rattle.constraint.specs.declared.Verdict.the-variants.{Open, Kept, Broken}
 

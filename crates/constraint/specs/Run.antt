@@ -14,7 +14,7 @@ use Rattle.constraint.specs.Questions.{Question, Judged}
 use Rattle.constraint.specs.declared.Answer.{Answer}
 use Rattle.constraint.specs.declared.Answer.the-variants.{Taken, Refused}
 use Rattle.constraint.specs.declared.Call.{Call}
-use Rattle.constraint.specs.declared.Constraint.{Constraint}
+use Rattle.constraint.specs.Constraint.{Constraint}
 
 -- §3.3; 01, time; CR 6: the step that an accepted call makes
 abbrev pub stepFor : Call → Step

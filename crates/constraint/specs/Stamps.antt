@@ -11,8 +11,7 @@ use Rattle.constraint.specs.Questions.{Question, Judged}
 use Rattle.constraint.specs.Table.{ReadsTableUpTo, table-of, table-refused}
 use Rattle.constraint.specs.Recording.{ReadsInOrder, recording-of, recording-refused}
 use Rattle.constraint.specs.declared.Answer.the-variants.{Refused}
-use Rattle.constraint.specs.declared.Constraint.{Constraint}
-use Rattle.constraint.specs.declared.Constraint.the-variants.{Repeat}
+use Rattle.constraint.specs.Constraint.{Constraint, Repeat}
 use Rattle.constraint.specs.declared.StampedVerdict.{StampedVerdict}
 use Rattle.constraint.specs.declared.StampedAnswer.{StampedAnswer}
 

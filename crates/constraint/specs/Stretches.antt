@@ -13,7 +13,7 @@ use Rattle.constraint.specs.Table.{ReadsTableUpTo, table-of, table-refus
 use Rattle.constraint.specs.Recording.{ReadsInOrder, recording-of, recording-refused}
 use Rattle.constraint.specs.declared.Answer.the-variants.{Taken, Refused}
 use Rattle.constraint.specs.declared.Call.{Call}
-use Rattle.constraint.specs.declared.Constraint.{Constraint}
+use Rattle.constraint.specs.Constraint.{Constraint}
 use Rattle.constraint.specs.declared.StretchAnswer.{StretchAnswer}
 
 -- §14.1; CR 11: a stretch of consecutive records: the number of its first record, from 0, and its length

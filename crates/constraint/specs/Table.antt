@@ -1,7 +1,6 @@
 -- The table's format: rows to bytes (§4.1 to §4.8; 01, table), and bytes to rows or a refusal with its number and place (§9.3; 01, questions).
 use Prim.Native.Nat.{ℕ, _+_, _^_, _≤_, _<_}
 use mathlib.Core.Path.{_≡_}
-use mathlib.Core.Bool.{true}
 use mathlib.Core.List.{List, [], _∷_, _++_}
 use lib.ListN.{length, drop}
 use Rattle.constraint.specs.Limits.{rowLimit}
@@ -9,10 +8,10 @@ use Rattle.constraint.specs.Steps.{at}
 use Rattle.constraint.specs.Questions.{Question, Judged}
 use Rattle.constraint.specs.declared.Answer.{Answer}
 use Rattle.constraint.specs.declared.Answer.the-variants.{Taken, Refused}
-use Rattle.constraint.specs.Types.{Field, byte, time, typeOf, fieldsOf, lastType, takesCount, lengthOf}
+use Rattle.constraint.specs.Types.{Field, byte, time, valueOf, typeOf, fieldsOf, lastType, lengthOf, TypeKnown}
 use Rattle.constraint.specs.Accepted.{rowQuestions, rowsQuestions}
 use Rattle.constraint.specs.Bytes.{bytesOf, bytesAt, numberAt}
-use Rattle.constraint.specs.declared.Constraint.{Constraint}
+use Rattle.constraint.specs.Constraint.{Constraint}
 
 -- §4.8; 01, table: two rows are the same: same type, same fields
 abbrev pub Same : Constraint → Constraint → Type 0
@@ -20,10 +19,14 @@ Same c d = (typeOf c ≡ typeOf d) × (fieldsOf c ≡ fieldsOf d)
 
 -- Rows to bytes
 
+-- §4.4; 01, table: the number of bytes of a field
+abbrev pub widthOf : Field → ℕ
+widthOf (byte role x) = 1
+widthOf (time role x) = 8
+
 -- §4.4; 01, table: the bytes of a field
 abbrev pub fieldBytes : Field → List ℕ
-fieldBytes (byte role x) = x ∷ []
-fieldBytes (time role x) = bytesOf 8 x
+fieldBytes f = bytesOf (widthOf f) (valueOf f)
 
 -- §4.4; 01, table: the bytes of several fields in order
 unfoldable pub fieldsBytes : List Field → List ℕ
@@ -65,21 +68,18 @@ writtenTo edition buffer rows (Refused n) = buffer
 -- §8.4, §16.5; 01, questions; CR 2, 6, 10: the edition has the type, the n is known, and the length is that of the type
 pub record ShapeFits (edition : ℕ) (body : List ℕ) : Type 0 where
   pub type-there : 0 < length body
-  pub type-known : (1 ≤ at body 0) × (at body 0 ≤ lastType edition)
-  pub n-there : takesCount (at body 0) ≡ true → 1 < length body
-  pub n-known : takesCount (at body 0) ≡ true → (2 ≤ at body 1) × (at body 1 ≤ 4)
+  pub known : TypeKnown edition (at body 0) (at body 1)
   pub length-right : length body ≡ lengthOf (at body 0) (at body 1)
 
--- §4.4; 01, table: every time in a list of fields fits in eight bytes
-abbrev pub TimesFit : List Field → Type 0
-TimesFit [] = Unit {0}
-TimesFit (byte role x ∷ fields) = TimesFit fields
-TimesFit (time role x ∷ fields) = (x < 256 ^ 8) × TimesFit fields
+-- §4.4; 01, table: every value in a list of fields fits in its bytes
+abbrev pub FieldsFit : List Field → Type 0
+FieldsFit [] = Unit {0}
+FieldsFit (f ∷ fields) = (valueOf f < 256 ^ widthOf f) × FieldsFit fields
 
 -- §4.3; 01, table: the body stands for the row that has these bytes
 pub record StandsFor (body : List ℕ) (c : Constraint) : Type 0 where
   pub bytes : rowBody c ≡ body
-  pub fits : TimesFit (fieldsOf c)
+  pub fits : FieldsFit (fieldsOf c)
 
 -- §4.3; 01, table: the length field at a place
 abbrev pub lengthAt : List ℕ → ℕ → ℕ

@@ -1,21 +1,19 @@
--- The table of types (§4.4 to §4.7; 01, table): the types, their fields in order and the role of each field. It also leads back from the values to
--- the row; `regular` and `read-back` show that the two directions are inverse. The questions about a row, its bytes and its numbers in a monitor
--- follow from it.
-use Prim.Native.Nat.{ℕ, _+_}
-use mathlib.Core.Bool.{Bool, _||_, cond}
-use mathlib.Core.List.{List, [], _∷_}
-use lib.Dec.{eqb}
+-- The table of types (§4.4 to §4.7; 01, table): the types, their fields in order and the role of each field. The questions about a row, its bytes and
+-- its numbers in a monitor follow from it.
+use Prim.Native.Nat.{ℕ, _+_, _*_, _≤_}
+use mathlib.Core.Path.{_≡_}
+use mathlib.Core.Bool.{Bool, true}
+use mathlib.Core.List.{List, [], _∷_, _++_, map}
+use lib.Dec.{ltb}
+use lib.ListN.{length}
 use Rattle.constraint.specs.Limits.{spanLimit, repetitionSpanLimit}
 use Rattle.constraint.specs.Steps.{at}
-use Rattle.constraint.specs.declared.Constraint.{Constraint}
--- begin imports: made by release/row-types.py
-use Rattle.constraint.specs.declared.Constraint.the-variants.{Delay, StrongDelay, Repeat, Sporadic, Burst, Order, StrongSynchronization2}
-use Rattle.constraint.specs.declared.Constraint.the-variants.{StrongSynchronization3, StrongSynchronization4, ExecutionTime, Reaction}
-use Rattle.constraint.specs.declared.Constraint.the-variants.{Repetition, Synchronization2, Synchronization3, Synchronization4}
+use Rattle.constraint.specs.Constraint.{Constraint, Delay, StrongDelay, Repeat, Sporadic, Burst, Order, StrongSynchronization, ExecutionTime}
+use Rattle.constraint.specs.Constraint.{Reaction, Repetition, Synchronization, Age, OutputSynchronization, InputSynchronization, Pattern}
+use Rattle.constraint.specs.Constraint.{Arbitrary, Comparison}
 
--- end imports
-
--- §4.4, §4.6; 01, table; CR 6, 10: the role of a byte. A kind is plain or coloured. A span or maximum has its own limit
+-- §4.4, §4.6; 01, table; CR 6, 10: the role of a byte. A kind is plain or coloured. A count is n, the number of entries of the row's list, or the
+-- operator of a Comparison. A span or maximum has its own limit
 pub data ByteRole : Type 0 where
   kind : ByteRole
   coloured : ByteRole
@@ -29,11 +27,14 @@ pub data Plain : Type 0 where
   len : Plain
   tolerance : Plain
 
--- §4.4, §4.7; 01, table; CR 1: the role of a time. An `upper-or-none` may be the mark for no limit
+-- §4.4, §4.7; 01, table; CR 1: the role of a time. An `upper-or-none` may be the mark for no limit. Offsets rise. The lower before a `compared` is
+-- compared with it
 pub data TimeRole : Type 0 where
   lower : TimeRole
   upper : TimeRole
   upper-or-none : TimeRole
+  offset : TimeRole
+  compared : TimeRole
   plain : Plain → TimeRole
 
 -- §4.4; 01, table: a field: its width, its role and its value
@@ -41,9 +42,21 @@ pub data Field : Type 0 where
   byte : ByteRole → ℕ → Field
   time : TimeRole → ℕ → Field
 
+-- §4.5: a field for each kind of a list
+abbrev pub kindFields : ByteRole → List ℕ → List Field
+kindFields role ks = map (byte role) ks
+
+-- §4.5: a field for each offset of a list
+abbrev pub offsetFields : List ℕ → List Field
+offsetFields xs = map (time offset) xs
+
+-- §4.5: two fields for each pair of a list
+abbrev pub pairFields : List (ℕ × ℕ) → List Field
+pairFields [] = []
+pairFields (p ∷ pairs) = time lower (p .0) ∷ time upper-or-none (p .1) ∷ pairFields pairs
+
 -- §4.5; 01, table; CR 2, 6, 10: a line for each type: its number, and its fields in their order
 abbrev pub typeLine : Constraint → ℕ × List Field
--- begin lines: made by release/row-types.py
 typeLine (Delay source target low high) = (1, byte kind source ∷ byte kind target ∷ time lower low ∷ time upper-or-none high ∷ [])
 typeLine (StrongDelay source target low high) = (2, byte kind source ∷ byte kind target ∷ time lower low ∷ time upper high ∷ [])
 typeLine (Repeat event number low high) = (3, byte kind event ∷ byte (span spanLimit) number ∷ time lower low ∷ time upper-or-none high ∷ [])
@@ -51,21 +64,22 @@ typeLine (Sporadic event low high late apart) =
     (4, byte kind event ∷ time lower low ∷ time upper-or-none high ∷ time (plain jitter) late ∷ time (plain minimum) apart ∷ [])
 typeLine (Burst event most long apart) = (5, byte kind event ∷ byte (span spanLimit) most ∷ time (plain len) long ∷ time (plain minimum) apart ∷ [])
 typeLine (Order source target) = (6, byte kind source ∷ byte kind target ∷ [])
-typeLine (StrongSynchronization2 a b apart) = (7, byte count 2 ∷ byte kind a ∷ byte kind b ∷ time (plain tolerance) apart ∷ [])
-typeLine (StrongSynchronization3 a b c apart) = (7, byte count 3 ∷ byte kind a ∷ byte kind b ∷ byte kind c ∷ time (plain tolerance) apart ∷ [])
-typeLine (StrongSynchronization4 a b c d apart) =
-    (7, byte count 4 ∷ byte kind a ∷ byte kind b ∷ byte kind c ∷ byte kind d ∷ time (plain tolerance) apart ∷ [])
+typeLine (StrongSynchronization kinds apart) = (7, byte count (length kinds) ∷ kindFields kind kinds ++ time (plain tolerance) apart ∷ [])
 typeLine (ExecutionTime start stop preempt resume low high) =
     (8, byte kind start ∷ byte kind stop ∷ byte kind preempt ∷ byte kind resume ∷ time lower low ∷ time upper high ∷ [])
 typeLine (Reaction stimulus response low high) = (9, byte coloured stimulus ∷ byte coloured response ∷ time lower low ∷ time upper high ∷ [])
 typeLine (Repetition event number low high late) =
     (10, byte kind event ∷ byte (span repetitionSpanLimit) number ∷ time lower low ∷ time upper high ∷ time (plain jitter) late ∷ [])
-typeLine (Synchronization2 a b apart) = (11, byte count 2 ∷ byte kind a ∷ byte kind b ∷ time (plain tolerance) apart ∷ [])
-typeLine (Synchronization3 a b c apart) = (11, byte count 3 ∷ byte kind a ∷ byte kind b ∷ byte kind c ∷ time (plain tolerance) apart ∷ [])
-typeLine (Synchronization4 a b c d apart) =
-    (11, byte count 4 ∷ byte kind a ∷ byte kind b ∷ byte kind c ∷ byte kind d ∷ time (plain tolerance) apart ∷ [])
-
--- end lines
+typeLine (Synchronization kinds apart) = (11, byte count (length kinds) ∷ kindFields kind kinds ++ time (plain tolerance) apart ∷ [])
+typeLine (Age stimulus response low high) = (12, byte coloured stimulus ∷ byte coloured response ∷ time lower low ∷ time upper high ∷ [])
+typeLine (OutputSynchronization stimulus responses apart) =
+    (13, byte count (length responses) ∷ byte coloured stimulus ∷ kindFields coloured responses ++ time (plain tolerance) apart ∷ [])
+typeLine (InputSynchronization stimuli response apart) =
+    (14, byte count (length stimuli) ∷ kindFields coloured stimuli ++ byte coloured response ∷ time (plain tolerance) apart ∷ [])
+typeLine (Pattern event period late apart offsets) =
+    (15, byte count (length offsets) ∷ byte kind event ∷ time upper period ∷ time (plain jitter) late ∷ time (plain minimum) apart ∷ offsetFields offsets)
+typeLine (Arbitrary event pairs) = (16, byte count (length pairs) ∷ byte kind event ∷ pairFields pairs)
+typeLine (Comparison operator left right) = (17, byte count operator ∷ time lower left ∷ time compared right ∷ [])
 
 -- §4.5; 01, table: the number of a row's type
 abbrev pub typeOf : Constraint → ℕ
@@ -75,70 +89,62 @@ typeOf c = typeLine c .0
 abbrev pub fieldsOf : Constraint → List Field
 fieldsOf c = typeLine c .1
 
--- begin groups: made by release/row-types.py
+-- §4.4; 01, table: the value of a field
+abbrev pub valueOf : Field → ℕ
+valueOf (byte role x) = x
+valueOf (time role x) = x
 
--- §4.5; 01, table: the StrongSynchronization of as many kinds as its first byte says
-unfoldable pub strongSynchronizationRead : List ℕ → ℕ → Constraint
-strongSynchronizationRead b apart =
-    cond (eqb (at b 0) 2) (StrongSynchronization2 (at b 1) (at b 2) apart)
-    (cond (eqb (at b 0) 3) (StrongSynchronization3 (at b 1) (at b 2) (at b 3) apart)
-    (StrongSynchronization4 (at b 1) (at b 2) (at b 3) (at b 4) apart))
+-- §4.5: the value of the first field
+abbrev pub firstOf : List Field → ℕ
+firstOf [] = 0
+firstOf (f ∷ fields) = valueOf f
 
--- §4.5; 01, table: the Synchronization of as many kinds as its first byte says
-unfoldable pub synchronizationRead : List ℕ → ℕ → Constraint
-synchronizationRead b apart =
-    cond (eqb (at b 0) 2) (Synchronization2 (at b 1) (at b 2) apart)
-    (cond (eqb (at b 0) 3) (Synchronization3 (at b 1) (at b 2) (at b 3) apart)
-    (Synchronization4 (at b 1) (at b 2) (at b 3) (at b 4) apart))
+-- §4.5; 01, table: the n of a row, if its type has one: the first field
+abbrev pub countOf : Constraint → ℕ
+countOf c = firstOf (fieldsOf c)
 
--- end groups
+-- The lists by the type byte. 0 is not a type
 
--- §4.5; 01, table; CR 2, 6, 10: the row that has a type number, the values b of its one-byte fields and its times x
-unfoldable pub rowRead : ℕ → List ℕ → List ℕ → Constraint
--- begin read: made by release/row-types.py
-rowRead t b x =
-    cond (eqb t 1) (Delay (at b 0) (at b 1) (at x 0) (at x 1))
-    (cond (eqb t 2) (StrongDelay (at b 0) (at b 1) (at x 0) (at x 1))
-    (cond (eqb t 3) (Repeat (at b 0) (at b 1) (at x 0) (at x 1))
-    (cond (eqb t 4) (Sporadic (at b 0) (at x 0) (at x 1) (at x 2) (at x 3))
-    (cond (eqb t 5) (Burst (at b 0) (at b 1) (at x 0) (at x 1))
-    (cond (eqb t 6) (Order (at b 0) (at b 1))
-    (cond (eqb t 8) (ExecutionTime (at b 0) (at b 1) (at b 2) (at b 3) (at x 0) (at x 1))
-    (cond (eqb t 9) (Reaction (at b 0) (at b 1) (at x 0) (at x 1))
-    (cond (eqb t 10) (Repetition (at b 0) (at b 1) (at x 0) (at x 1) (at x 2))
-    (cond (eqb t 11) (synchronizationRead b (at x 0))
-    (strongSynchronizationRead b (at x 0)))))))))))
-
--- end read
-
--- §4.5; 01, table; CR 2, 6, 10: the lengths by the type byte. A type with an n adds its n
+-- §4.5; 01, table; CR 2, 6, 10: the lengths without the entries of the row's list
 abbrev pub lengths : List ℕ
--- begin lengths: made by release/row-types.py
-lengths = 0 ∷ 19 ∷ 19 ∷ 19 ∷ 34 ∷ 19 ∷ 3 ∷ 10 ∷ 21 ∷ 19 ∷ 27 ∷ 10 ∷ []
+lengths = 0 ∷ 19 ∷ 19 ∷ 19 ∷ 34 ∷ 19 ∷ 3 ∷ 10 ∷ 21 ∷ 19 ∷ 27 ∷ 10 ∷ 19 ∷ 11 ∷ 11 ∷ 27 ∷ 3 ∷ 18 ∷ []
 
--- end lengths
+-- §4.5: the number of bytes of an entry of the row's list, or 0
+abbrev pub entrySizes : List ℕ
+entrySizes = 0 ∷ 0 ∷ 0 ∷ 0 ∷ 0 ∷ 0 ∷ 0 ∷ 1 ∷ 0 ∷ 0 ∷ 0 ∷ 1 ∷ 0 ∷ 1 ∷ 1 ∷ 8 ∷ 16 ∷ 0 ∷ []
+
+-- §4.5: the least n, or 0 if the type has none
+abbrev pub leastCounts : List ℕ
+leastCounts = 0 ∷ 0 ∷ 0 ∷ 0 ∷ 0 ∷ 0 ∷ 0 ∷ 2 ∷ 0 ∷ 0 ∷ 0 ∷ 2 ∷ 0 ∷ 2 ∷ 2 ∷ 1 ∷ 1 ∷ 1 ∷ []
+
+-- §4.5: the largest n, or 0 if the type has none
+abbrev pub mostCounts : List ℕ
+mostCounts = 0 ∷ 0 ∷ 0 ∷ 0 ∷ 0 ∷ 0 ∷ 0 ∷ 4 ∷ 0 ∷ 0 ∷ 0 ∷ 4 ∷ 0 ∷ 4 ∷ 4 ∷ 8 ∷ 8 ∷ 5 ∷ []
 
 -- §16.2: the last type of each edition of the table, by its version byte. No other number is an edition
 abbrev pub lastTypes : List ℕ
--- begin last types: made by release/row-types.py
 lastTypes = 0 ∷ 10 ∷ 11 ∷ []
-
--- end last types
 
 -- §16.2: the last type of an edition. If there is no such edition it is 0, which is not a type
 abbrev pub lastType : ℕ → ℕ
 lastType edition = at lastTypes edition
 
--- §4.5; 01, table: the types whose first field is n, the number of the kinds that follow it
+-- §4.5; 01, table: the first field of the type is n
 abbrev pub takesCount : ℕ → Bool
--- begin types with an n: made by release/row-types.py
-takesCount t = eqb t 7 || eqb t 11
-
--- end types with an n
+takesCount t = ltb 0 (at mostCounts t)
 
 -- §4.5; 01, table: the length of a row by its type, and by its n if the type has one
 abbrev pub lengthOf : ℕ → ℕ → ℕ
-lengthOf t n = at lengths t + cond (takesCount t) n 0
+lengthOf t n = at lengths t + n * at entrySizes t
+
+-- §8.4, §16.5; 01, questions: the edition has the type, and the n is one of the type's
+pub record TypeKnown (edition t n : ℕ) : Type 0 where
+  pub type-known : (1 ≤ t) × (t ≤ lastType edition)
+  pub n-known : takesCount t ≡ true → (at leastCounts t ≤ n) × (n ≤ at mostCounts t)
+
+-- §8.4, §16.2: some edition has the row's type, and its n is one of the type's
+abbrev pub Known : Constraint → Type 0
+Known c = (edition : ℕ) × TypeKnown edition (typeOf c) (countOf c)
 
 -- the name of a number that is not a type; no table has one: Unknown
 abbrev pub unknownName : List ℕ
@@ -148,7 +154,6 @@ unknownName = 85 ∷ 110 ∷ 107 ∷ 110 ∷ 111 ∷ 119 ∷ 110 ∷ []
 abbrev pub typeNames : List (List ℕ)
 typeNames =
     unknownName
-    -- begin names: made by release/row-types.py
     -- 1 Delay
     ∷ (68 ∷ 101 ∷ 108 ∷ 97 ∷ 121 ∷ [])
     -- 2 StrongDelay
@@ -171,5 +176,16 @@ typeNames =
     ∷ (82 ∷ 101 ∷ 112 ∷ 101 ∷ 116 ∷ 105 ∷ 116 ∷ 105 ∷ 111 ∷ 110 ∷ [])
     -- 11 Synchronization
     ∷ (83 ∷ 121 ∷ 110 ∷ 99 ∷ 104 ∷ 114 ∷ 111 ∷ 110 ∷ 105 ∷ 122 ∷ 97 ∷ 116 ∷ 105 ∷ 111 ∷ 110 ∷ [])
-    -- end names
+    -- 12 Age
+    ∷ (65 ∷ 103 ∷ 101 ∷ [])
+    -- 13 OutputSynchronization
+    ∷ (79 ∷ 117 ∷ 116 ∷ 112 ∷ 117 ∷ 116 ∷ 83 ∷ 121 ∷ 110 ∷ 99 ∷ 104 ∷ 114 ∷ 111 ∷ 110 ∷ 105 ∷ 122 ∷ 97 ∷ 116 ∷ 105 ∷ 111 ∷ 110 ∷ [])
+    -- 14 InputSynchronization
+    ∷ (73 ∷ 110 ∷ 112 ∷ 117 ∷ 116 ∷ 83 ∷ 121 ∷ 110 ∷ 99 ∷ 104 ∷ 114 ∷ 111 ∷ 110 ∷ 105 ∷ 122 ∷ 97 ∷ 116 ∷ 105 ∷ 111 ∷ 110 ∷ [])
+    -- 15 Pattern
+    ∷ (80 ∷ 97 ∷ 116 ∷ 116 ∷ 101 ∷ 114 ∷ 110 ∷ [])
+    -- 16 Arbitrary
+    ∷ (65 ∷ 114 ∷ 98 ∷ 105 ∷ 116 ∷ 114 ∷ 97 ∷ 114 ∷ 121 ∷ [])
+    -- 17 Comparison
+    ∷ (67 ∷ 111 ∷ 109 ∷ 112 ∷ 97 ∷ 114 ∷ 105 ∷ 115 ∷ 111 ∷ 110 ∷ [])
     ∷ []

@@ -6,13 +6,9 @@ use lib.ListN.{length}
 use lib.Dec.{leb, eqb}
 use Rattle.constraint.specs.Limits.{noLimit}
 use Rattle.constraint.specs.Steps.{Step, times}
-use Rattle.constraint.specs.declared.Constraint.{Constraint}
--- begin imports: made by release/row-types.py
-use Rattle.constraint.specs.declared.Constraint.the-variants.{Delay, StrongDelay, Repeat, Sporadic, Burst, Order, StrongSynchronization2}
-use Rattle.constraint.specs.declared.Constraint.the-variants.{StrongSynchronization3, StrongSynchronization4, ExecutionTime, Reaction}
-use Rattle.constraint.specs.declared.Constraint.the-variants.{Repetition, Synchronization2, Synchronization3, Synchronization4}
-
--- end imports
+use Rattle.constraint.specs.Constraint.{Constraint, Delay, StrongDelay, Repeat, Sporadic, Burst, Order, StrongSynchronization, ExecutionTime}
+use Rattle.constraint.specs.Constraint.{Reaction, Repetition, Synchronization, Age, OutputSynchronization, InputSynchronization, Pattern}
+use Rattle.constraint.specs.Constraint.{Arbitrary, Comparison}
 
 -- §6.1: tests whether t is lower to upper after s, where upper may be the mark for no limit. It agrees with `Apart` (`answered-true`, `answered-by`)
 abbrev pub inInterval : ℕ → ℕ → ℕ → ℕ → Bool
@@ -48,19 +44,18 @@ begunIncomplete kinds steps = let counts : List ℕ = map (λ k. length (times k
 unfoldable pub waiting : Constraint → List Step → ℕ
 waiting (Delay source target lower upper) steps = unanswered lower upper (times source steps) (times target steps)
 waiting (StrongDelay source target lower upper) steps = length (times source steps) - length (times target steps)
-waiting (StrongSynchronization2 a b tolerance) steps = begunIncomplete (a ∷ b ∷ []) steps
-waiting (StrongSynchronization3 a b c tolerance) steps = begunIncomplete (a ∷ b ∷ c ∷ []) steps
-waiting (StrongSynchronization4 a b c d tolerance) steps = begunIncomplete (a ∷ b ∷ c ∷ d ∷ []) steps
--- begin nothing waits: made by release/row-types.py
+waiting (StrongSynchronization kinds tolerance) steps = begunIncomplete kinds steps
 waiting (Repeat event span lower upper) steps = 0
 waiting (Sporadic event lower upper jitter minimum) steps = 0
-waiting (Burst event maximum length minimum) steps = 0
+waiting (Burst event maximum len minimum) steps = 0
 waiting (Order source target) steps = 0
 waiting (ExecutionTime start stop preempt resume lower upper) steps = 0
 waiting (Reaction stimulus response minimum maximum) steps = 0
 waiting (Repetition event span lower upper jitter) steps = 0
-waiting (Synchronization2 first second tolerance) steps = 0
-waiting (Synchronization3 first second third tolerance) steps = 0
-waiting (Synchronization4 first second third fourth tolerance) steps = 0
-
--- end nothing waits
+waiting (Synchronization kinds tolerance) steps = 0
+waiting (Age stimulus response minimum maximum) steps = 0
+waiting (OutputSynchronization stimulus responses tolerance) steps = 0
+waiting (InputSynchronization stimuli response tolerance) steps = 0
+waiting (Pattern event period jitter minimum offsets) steps = 0
+waiting (Arbitrary event pairs) steps = 0
+waiting (Comparison operator left right) steps = 0

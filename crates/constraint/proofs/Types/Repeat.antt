@@ -3,12 +3,18 @@ use Rattle.constraint.proofs.Names.{List, Meets, MeetsRepeat, NotLater,
 use Rattle.constraint.proofs.Names.{clockFrom, event, inr, noLimit, refl, subst, suc, tick, times, waiting, zero, ℕ, ⊎-elim}
 use Rattle.constraint.proofs.Lawful.{Contingent, Lawful, not-later-earlier}
 
+-- §5.3: what is met at a clock is met at every earlier one
+pub repeat-earlier : (span lower upper : ℕ) (events : List ℕ) (now later : ℕ) → now ≤ later → MeetsRepeat span lower upper events later
+    → MeetsRepeat span lower upper events now
+unfolding MeetsRepeat
+repeat-earlier span lower upper events now later h m = (m .0, λ i l end. not-later-earlier (at events i) now later h (m .1 i l end))
+
 pub lawfulRepeat : (kind span lower upper : ℕ) → Lawful (Repeat kind span lower upper)
-unfolding Meets MeetsRepeat waiting
+unfolding Meets waiting
 lawfulRepeat kind span lower upper =
     record {
       same = λ a b in-order same earlier m. subst (λ (ts : List ℕ). MeetsRepeat span lower upper ts (clock b)) (same 0 (omega arith))
-          (m .0, λ i h end. not-later-earlier (at (times kind a) i) (clock b) (clock a) earlier (m .1 i h end));
+          (repeat-earlier span lower upper (times kind a) (clock b) (clock a) earlier m);
       waits-same = λ a b same. refl;
     }
 

@@ -1,8 +1,8 @@
 -- A StrongSynchronization looks at the times of each of its kinds, and the groups that are begun and not complete wait.
-use Rattle.constraint.proofs.Names.{List, Meets, MeetsStrongSynchronization, Step, StrongSynchronization2, StrongSynchronization3}
-use Rattle.constraint.proofs.Names.{StrongSynchronization4, [], _-_, _<_, _∷_, _≡_, ap, ap₂, arith, at, begunIncomplete, event, largest, least}
+use Rattle.constraint.proofs.Names.{List, Meets, MeetsStrongSynchronization, Step, StrongSynchronization}
+use Rattle.constraint.proofs.Names.{[], _-_, _<_, _∷_, _≡_, ap, ap₂, arith, at, begunIncomplete, event, largest, least}
 use Rattle.constraint.proofs.Names.{length, map, refl, suc, times, waiting, zero, ℕ}
-use Rattle.constraint.proofs.{Lawful.Contingent, Lawful.Lawful, Lawful.SameTimes, Lists.each-tail}
+use Rattle.constraint.proofs.{Lawful.Contingent, Lawful.Lawful, Lawful.SameTimes, Lawful.listed-same, Lists.each-tail}
 
 group-same : (ks : List ℕ) (tolerance : ℕ) (a b : List Step) → SameTimes ks a b → MeetsStrongSynchronization ks tolerance a
     → MeetsStrongSynchronization ks tolerance b
@@ -18,23 +18,13 @@ group-waits : (ks : List ℕ) (a b : List Step) → SameTimes ks a b → begunIn
 unfolding begunIncomplete
 group-waits ks a b same = ap (λ (counts : List ℕ). largest counts - least counts) (counts-same ks a b same)
 
-pub lawfulStrongSynchronization2 : (x y tolerance : ℕ) → Lawful (StrongSynchronization2 x y tolerance)
+pub lawfulStrongSynchronization : (ks : List ℕ) (tolerance : ℕ) → Lawful (StrongSynchronization ks tolerance)
 unfolding Meets waiting
-lawfulStrongSynchronization2 x y tolerance =
-    let ks = x ∷ y ∷ [] in
-    record { same = λ a b in-order same earlier m. group-same ks tolerance a b same m; waits-same = group-waits ks }
-
-pub lawfulStrongSynchronization3 : (x y z tolerance : ℕ) → Lawful (StrongSynchronization3 x y z tolerance)
-unfolding Meets waiting
-lawfulStrongSynchronization3 x y z tolerance =
-    let ks = x ∷ y ∷ z ∷ [] in
-    record { same = λ a b in-order same earlier m. group-same ks tolerance a b same m; waits-same = group-waits ks }
-
-pub lawfulStrongSynchronization4 : (x y z w tolerance : ℕ) → Lawful (StrongSynchronization4 x y z w tolerance)
-unfolding Meets waiting
-lawfulStrongSynchronization4 x y z w tolerance =
-    let ks = x ∷ y ∷ z ∷ w ∷ [] in
-    record { same = λ a b in-order same earlier m. group-same ks tolerance a b same m; waits-same = group-waits ks }
+lawfulStrongSynchronization ks tolerance =
+    record {
+      same = λ a b in-order same earlier m. group-same ks tolerance a b (listed-same ks tolerance a b same) m;
+      waits-same = λ a b same. group-waits ks a b (listed-same ks tolerance a b same);
+    }
 
 -- kinds that have one event each, all at the same time
 synchronized-alike : (ks : List ℕ) (tolerance t : ℕ) (steps : List Step) → ((j : ℕ) → j < length ks → times (at ks j) steps ≡ t ∷ [])
@@ -43,7 +33,7 @@ unfolding MeetsStrongSynchronization
 synchronized-alike ks tolerance t steps alike j k h g = rw (alike j h, alike k g) (refl, λ i l. omega arith)
 
 -- §2.2
-pub synchronization2-contingent : Contingent (StrongSynchronization2 0 1 2) (event 0 5 ∷ event 1 5 ∷ []) (event 0 5 ∷ [])
+pub synchronization2-contingent : Contingent (StrongSynchronization (0 ∷ 1 ∷ []) 2) (event 0 5 ∷ event 1 5 ∷ []) (event 0 5 ∷ [])
 unfolding Meets MeetsStrongSynchronization times
 synchronization2-contingent =
     record {
@@ -58,7 +48,7 @@ synchronization2-contingent =
     alike (suc (suc j)) h = absurd (omega arith)
 
 -- §2.2
-pub synchronization3-contingent : Contingent (StrongSynchronization3 0 1 2 2) (event 0 5 ∷ event 1 5 ∷ event 2 5 ∷ []) (event 0 5 ∷ event 1 5 ∷ [])
+pub synchronization3-contingent : Contingent (StrongSynchronization (0 ∷ 1 ∷ 2 ∷ []) 2) (event 0 5 ∷ event 1 5 ∷ event 2 5 ∷ []) (event 0 5 ∷ event 1 5 ∷ [])
 unfolding Meets MeetsStrongSynchronization times
 synchronization3-contingent =
     record {
@@ -73,7 +63,7 @@ synchronization3-contingent =
     alike (suc (suc (suc j))) h = absurd (omega arith)
 
 -- §2.2
-pub synchronization4-contingent : Contingent (StrongSynchronization4 0 1 2 3 2) (event 0 5 ∷ event 1 5 ∷ event 2 5 ∷ event 3 5 ∷ [])
+pub synchronization4-contingent : Contingent (StrongSynchronization (0 ∷ 1 ∷ 2 ∷ 3 ∷ []) 2) (event 0 5 ∷ event 1 5 ∷ event 2 5 ∷ event 3 5 ∷ [])
     (event 0 5 ∷ event 1 5 ∷ event 2 5 ∷ [])
 unfolding Meets MeetsStrongSynchronization times
 synchronization4-contingent =

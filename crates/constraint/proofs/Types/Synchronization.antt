@@ -1,8 +1,8 @@
 -- A Synchronization looks at the times of each of its kinds, and nothing waits in it.
-use Rattle.constraint.proofs.Names.{List, Meets, MeetsStrongSynchronization, MeetsSynchronization, Recorded, Step, Synchronization2}
-use Rattle.constraint.proofs.Names.{Synchronization3, Synchronization4, [], _<_, _∷_, _≡_, _≤_, ap, arith, at, by-cases, decLt, event, length}
+use Rattle.constraint.proofs.Names.{List, Meets, MeetsStrongSynchronization, MeetsSynchronization, Recorded, Step, Synchronization}
+use Rattle.constraint.proofs.Names.{[], _<_, _∷_, _≡_, _≤_, ap, arith, at, by-cases, decLt, event, length}
 use Rattle.constraint.proofs.Names.{refl, suc, times, waiting, zero, ℕ, ℕ-discrete}
-use Rattle.constraint.proofs.Lawful.{Contingent, Lawful, SameTimes}
+use Rattle.constraint.proofs.Lawful.{Contingent, Lawful, SameTimes, listed-same}
 
 windows-same : (ks : List ℕ) (tolerance : ℕ) (a b : List Step) → SameTimes ks a b → MeetsSynchronization ks tolerance a
     → MeetsSynchronization ks tolerance b
@@ -11,23 +11,13 @@ windows-same ks tolerance a b same m j s h there =
     let (x, within, full) = m j s h (rw (same j h) there) in
     (x, within, λ k g. let (r, other, near) = full k g in (r, rw (← same k g) other, near))
 
-pub lawfulSynchronization2 : (x y tolerance : ℕ) → Lawful (Synchronization2 x y tolerance)
+pub lawfulSynchronization : (ks : List ℕ) (tolerance : ℕ) → Lawful (Synchronization ks tolerance)
 unfolding Meets waiting
-lawfulSynchronization2 x y tolerance =
-    let ks = x ∷ y ∷ [] in
-    record { same = λ a b in-order same earlier m. windows-same ks tolerance a b same m; waits-same = λ a b same. refl }
-
-pub lawfulSynchronization3 : (x y z tolerance : ℕ) → Lawful (Synchronization3 x y z tolerance)
-unfolding Meets waiting
-lawfulSynchronization3 x y z tolerance =
-    let ks = x ∷ y ∷ z ∷ [] in
-    record { same = λ a b in-order same earlier m. windows-same ks tolerance a b same m; waits-same = λ a b same. refl }
-
-pub lawfulSynchronization4 : (x y z w tolerance : ℕ) → Lawful (Synchronization4 x y z w tolerance)
-unfolding Meets waiting
-lawfulSynchronization4 x y z w tolerance =
-    let ks = x ∷ y ∷ z ∷ w ∷ [] in
-    record { same = λ a b in-order same earlier m. windows-same ks tolerance a b same m; waits-same = λ a b same. refl }
+lawfulSynchronization ks tolerance =
+    record {
+      same = λ a b in-order same earlier m. windows-same ks tolerance a b (listed-same ks tolerance a b same) m;
+      waits-same = λ a b same. refl;
+    }
 
 -- the place of the least of n numbers
 least-place : (n : ℕ) (f : ℕ → ℕ) → 0 < n → (m : ℕ) × (m < n) × ((k : ℕ) → k < n → f m ≤ f k)
@@ -77,7 +67,7 @@ windows-lack ks tolerance j k s steps h g there none meets =
     omega (arith, ap length none)
 
 -- §5.11
-pub window2-contingent : Contingent (Synchronization2 0 1 2) (event 0 5 ∷ event 1 5 ∷ []) (event 0 5 ∷ [])
+pub window2-contingent : Contingent (Synchronization (0 ∷ 1 ∷ []) 2) (event 0 5 ∷ event 1 5 ∷ []) (event 0 5 ∷ [])
 unfolding Meets times
 window2-contingent =
     record {
@@ -91,7 +81,7 @@ window2-contingent =
     alike (suc (suc j)) h = absurd (omega arith)
 
 -- §5.11
-pub window3-contingent : Contingent (Synchronization3 0 1 2 2) (event 0 5 ∷ event 1 5 ∷ event 2 5 ∷ []) (event 0 5 ∷ event 1 5 ∷ [])
+pub window3-contingent : Contingent (Synchronization (0 ∷ 1 ∷ 2 ∷ []) 2) (event 0 5 ∷ event 1 5 ∷ event 2 5 ∷ []) (event 0 5 ∷ event 1 5 ∷ [])
 unfolding Meets times
 window3-contingent =
     record {
@@ -106,7 +96,7 @@ window3-contingent =
     alike (suc (suc (suc j))) h = absurd (omega arith)
 
 -- §5.11
-pub window4-contingent : Contingent (Synchronization4 0 1 2 3 2) (event 0 5 ∷ event 1 5 ∷ event 2 5 ∷ event 3 5 ∷ [])
+pub window4-contingent : Contingent (Synchronization (0 ∷ 1 ∷ 2 ∷ 3 ∷ []) 2) (event 0 5 ∷ event 1 5 ∷ event 2 5 ∷ event 3 5 ∷ [])
     (event 0 5 ∷ event 1 5 ∷ event 2 5 ∷ [])
 unfolding Meets times
 window4-contingent =

@@ -1,8 +1,0 @@
--- A count of 0 is no row.
-use Rattle.constraint.proofs.Names.{refl, rowsOf}
-use Rattle.constraint.proofs.Table.new.Statement.{statement}
-use Rattle.constraint.proofs.Table.new.Tie as tie
-
-pub new-spec : {M : Type 1} → statement M
-unfolding rowsOf
-new-spec = tie.close (tie.spec (λ c. refl))

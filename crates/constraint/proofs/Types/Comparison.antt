@@ -1,0 +1,7 @@
+-- A Comparison looks at no event: it says the same of every list of steps.
+use Rattle.constraint.proofs.Names.{Comparison, Meets, [], arith, refl, waiting, ℕ}
+use Rattle.constraint.proofs.Lawful.{Contingent, Lawful}
+
+pub lawfulComparison : (operator left right : ℕ) → Lawful (Comparison operator left right)
+unfolding Meets waiting
+lawfulComparison operator left right = record { same = λ a b in-order same earlier m. m; waits-same = λ a b same. refl }

@@ -1,10 +1,13 @@
 -- What colours leave as it was, for tables and events of plain kinds: their questions have the answers that they had, and a row without a coloured
 -- field is open just where it was over continuations of kinds 0 to 63, since of any continuation the row's own events alone will do.
 use Rattle.constraint.proofs.Names.{Answer, Call, Constraint, Continues, EventInOrder, Field, InRange, Judged, KindsFit, KindsSuit, List}
-use Rattle.constraint.proofs.Names.{LowerFirst, Meets, Open, Question, Room, EachField, KindClassFits, Step, [], _++_, _<_, _↔_, _∙_, _∷_, _≡_, _≤_}
+use Rattle.constraint.proofs.Names.{LowerFirst, Meets, Open, Question, Room, EachField, KindClassFits, Step, [], _++_, _<_, _↔_, _∙_, _∷_, _≡_}
+use Rattle.constraint.proofs.Names.{_≤_}
 use Rattle.constraint.proofs.Names.{among, ap}
-use Rattle.constraint.proofs.Names.{Age, Arbitrary, Burst, Comparison, Delay, ExecutionTime, InputSynchronization, Order, OutputSynchronization, Pattern}
-use Rattle.constraint.proofs.Names.{Reaction, Repeat, Repetition, Sporadic, StrongDelay, StrongSynchronization, Synchronization, kindFields, lastType, plain as neither, tolerance}
+use Rattle.constraint.proofs.Names.{Age, Arbitrary, Burst, Comparison, Delay, ExecutionTime, InputSynchronization, Order}
+use Rattle.constraint.proofs.Names.{OutputSynchronization, Pattern}
+use Rattle.constraint.proofs.Names.{Reaction, Repeat, Repetition, Sporadic, StrongDelay, StrongSynchronization, Synchronization, kindFields}
+use Rattle.constraint.proofs.Names.{lastType, plain as neither, tolerance}
 use Rattle.constraint.proofs.Names.{arith, at, byte, clock, clockFrom, close, closed, coloured, cond, count, event, false, fieldsOf}
 use Rattle.constraint.proofs.Names.{firstColoured, kind, kinds, lastCount, lastKind, lastTime, length, more, own, questions, refl}
 use Rattle.constraint.proofs.Names.{rowQuestions, span, stop, sym, tick, time, times, true, typeOf, ℕ}
@@ -142,7 +145,7 @@ plain-fields : (ks : List ℕ) (later : List Field) → Uncoloured later → Unc
 plain-fields [] later h = h
 plain-fields (k ∷ ks) later h = plain-fields ks later h
 
--- so it is of every row of the first edition but a Reaction
+-- §16.2: every row of the first edition but a Reaction has no coloured field
 pub first-edition-plain : (c : Constraint) → typeOf c ≤ lastType 1 → ¬ (typeOf c ≡ 9) → Uncoloured (fieldsOf c)
 first-edition-plain (Delay a b x y) first other = tt
 first-edition-plain (StrongDelay a b x y) first other = tt

@@ -1,6 +1,7 @@
 -- What the second edition leaves as it was: a table of the first is read as before by a call that takes both, and its rows are accepted in the
 -- second too, since that has all types of the first.
-use Rattle.constraint.proofs.Names.{AcceptedIn, Constraint, Judged, List, ReadsTable, ReadsTableUpTo, TableRead, Taken, TypeKnown, VersionUpTo, [], _+_}
+use Rattle.constraint.proofs.Names.{AcceptedIn, Constraint, Judged, List, ReadsTable, ReadsTableUpTo, TableRead, Taken, TypeKnown, VersionUpTo}
+use Rattle.constraint.proofs.Names.{[], _+_}
 use Rattle.constraint.proofs.Names.{_<_, _↔_, _∷_, _≡_, _≤_, arith, at, countOf, lastType, rowLimit, rowQuestions, rowsQuestions, suc, typeOf}
 use Rattle.constraint.proofs.Names.{version-refused, version-taken, zero, ℕ}
 use Rattle.constraint.proofs.{Accepted.rows-taken, Judged.judged-all, Judged.judged-parts, Judged.judged-yes}

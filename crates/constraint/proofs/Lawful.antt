@@ -1,9 +1,11 @@
 -- What each type shows of its definition: it looks only at the row's own events and the clock, and what is met at a clock is met at every earlier
 -- one; and what its examples show: it can be met, and can be missed.
-use Rattle.constraint.proofs.Names.{Constraint, Field, List, Meets, NotLater, Step, [], _++_, _<_, _∙_, _∷_, _≡_, _≤_, among, ap, arith, at, clock, close}
+use Rattle.constraint.proofs.Names.{Constraint, Field, List, Meets, NotLater, Step, [], _++_, _<_, _∙_, _∷_, _≡_, _≤_, among, ap, arith, at}
+use Rattle.constraint.proofs.Names.{clock, close}
 use Rattle.constraint.proofs.Names.{coloured, cond, kind, kindFields, length, plain, suc, time, tolerance, zero}
 use Rattle.constraint.proofs.Names.{eqb, event, inl, inr, lastColour, ne-eqb, own, refl, stream, subst, sym, tick, times, true, waiting, ℕ}
-use Rattle.constraint.proofs.{Lists.Each, Lists.both, Lists.each-cons, Lists.each-left, Lists.each-right, Lists.each-tail, Lists.split, Streams.among-at}
+use Rattle.constraint.proofs.{Lists.Each, Lists.both, Lists.each-cons, Lists.each-left, Lists.each-right, Lists.each-tail, Lists.split}
+use Rattle.constraint.proofs.{Streams.among-at}
 use Rattle.constraint.proofs.Streams.{colour-at, colours, streams, streamsIn}
 
 -- ---- a row looks only at its own events and the clock
@@ -54,7 +56,8 @@ coloured-same [] later a b same j h = absurd (omega arith)
 coloured-same (k ∷ ks) later a b same zero h =
     each-left (λ s. times s a ≡ times s b) (colours k) (streamsIn (kindFields coloured ks ++ later)) same
 coloured-same (k ∷ ks) later a b same (suc j) h =
-    coloured-same ks later a b (each-right (λ s. times s a ≡ times s b) (colours k) (streamsIn (kindFields coloured ks ++ later)) same) j (omega arith)
+    let others = streamsIn (kindFields coloured ks ++ later) in
+    coloured-same ks later a b (each-right (λ s. times s a ≡ times s b) (colours k) others same) j (omega arith)
 
 -- and the fields after them
 pub after-coloured : (ks : List ℕ) (later : List Field) (a b : List Step) → SameTimes (streamsIn (kindFields coloured ks ++ later)) a b

@@ -1,12 +1,15 @@
 -- What longer clocks leave as they found it. The rows' fields have a wider range, so a table that was accepted is. With `nextFree` of a stream
 -- one more than its last time, each event raises the sum of all 176 by one at least, each tick raises the clock, and the close comes once: so up
 -- to the earlier last time the count fits by itself, and calls and withdrawals none of which was answered 10 have the answers that they had.
-use Rattle.constraint.proofs.Names.{Accepted, Answer, Bool, Call, Constraint, EventInOrder, EachField, Field, FieldInRange, InRange, Judged, KindsFit}
-use Rattle.constraint.proofs.Names.{KindsSuit, Left, List, LowerFirst, Question, Refused, Request, Room, Run, Step, Taken, TypeKnown, [], _*_, _++_, _+_}
+use Rattle.constraint.proofs.Names.{Accepted, Answer, Bool, Call, Constraint, EventInOrder, EachField, Field, FieldInRange, InRange, Judged}
+use Rattle.constraint.proofs.Names.{KindsFit}
+use Rattle.constraint.proofs.Names.{KindsSuit, Left, List, LowerFirst, Question, Refused, Request, Room, Run, Step, Taken, TypeKnown, [], _*_}
+use Rattle.constraint.proofs.Names.{_++_, _+_}
 use Rattle.constraint.proofs.Names.{_-_, _<_, _^_, _∙_, _∷_, _≡_, _≤_, _⊎_, ap, ap₂, arith, asks, by-cases, byte, clock, clockFrom, close}
-use Rattle.constraint.proofs.Names.{closed, compared, cond, countOf, done, event, false, fieldsOf, firstColoured, inl, inr, kinds}
-use Rattle.constraint.proofs.Names.{lastColour, lastCount, lastKind, lastTime, leftBy, length, length-append, lower, noLimit}
-use Rattle.constraint.proofs.Names.{noneLeft, offset, plain, questions, refl, request, requestQuestions, rowLimit, rowsQuestions, stepFor}
+use Rattle.constraint.proofs.Names.{closed, cond, countOf, done, event, false, fieldsOf, firstColoured, inl, inr, kinds}
+use Rattle.constraint.proofs.Names.{lastColour, lastCount, lastKind, lastTime, left as leftTime, leftBy, length, length-append, lower, noLimit}
+use Rattle.constraint.proofs.Names.{noneLeft, offset, plain, questions, refl, request, requestQuestions, right, rowLimit, rowsQuestions}
+use Rattle.constraint.proofs.Names.{stepFor}
 use Rattle.constraint.proofs.Names.{stream, subst, suc, tick, time, times, true, typeOf, upper, upper-or-none, withdraws, zero, ℕ, ℕ-discrete}
 use Rattle.constraint.proofs.Names.{⊎-elim}
 use Rattle.constraint.proofs.History.{Accepts, Past, Valid, clock-close, clock-event, clock-tick, closed-close, closed-event, closed-tick}
@@ -32,7 +35,8 @@ FieldInRangeBefore (time lower x) = x ≤ lastTimeBefore
 FieldInRangeBefore (time upper x) = x ≤ lastTimeBefore
 FieldInRangeBefore (time upper-or-none x) = (x ≤ lastTimeBefore) ⊎ (x ≡ noLimit)
 FieldInRangeBefore (time offset x) = x ≤ lastTimeBefore
-FieldInRangeBefore (time compared x) = x ≤ lastTimeBefore
+FieldInRangeBefore (time leftTime x) = x ≤ lastTimeBefore
+FieldInRangeBefore (time right x) = x ≤ lastTimeBefore
 
 field-still : (f : Field) → FieldInRangeBefore f → FieldInRange f
 field-still (byte role x) h = h
@@ -41,7 +45,8 @@ field-still (time lower x) h = omega arith
 field-still (time upper x) h = omega arith
 field-still (time upper-or-none x) h = ⊎-elim (λ small. inl (omega arith)) inr h
 field-still (time offset x) h = omega arith
-field-still (time compared x) h = omega arith
+field-still (time leftTime x) h = omega arith
+field-still (time right x) h = omega arith
 
 range-still : (fields : List Field) → EachField FieldInRangeBefore fields → EachField FieldInRange fields
 range-still [] h = tt

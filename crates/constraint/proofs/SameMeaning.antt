@@ -1,6 +1,6 @@
--- Constraints with lists ask and count what constraints with a variant for each n did: `Former` has the variants that there were, with what each asked
--- and how many waited, and both are the same by definition.
-use Rattle.constraint.proofs.Names.{Age, Burst, Constraint, Delay, ExecutionTime, List, Meets, MeetsBurst, MeetsDelay, MeetsExecutionTime}
+-- Constraints with lists ask and count what constraints with a variant for each n did: `Former` has those variants, with what each asked and how many
+-- waited, and both are the same by definition.
+use Rattle.constraint.proofs.Names.{Burst, Constraint, Delay, ExecutionTime, List, Meets, MeetsBurst, MeetsDelay, MeetsExecutionTime}
 use Rattle.constraint.proofs.Names.{MeetsOrder, MeetsReaction, MeetsRepeat, MeetsRepetition, MeetsSporadic, MeetsStrongDelay}
 use Rattle.constraint.proofs.Names.{MeetsStrongSynchronization, MeetsSynchronization, Order, Reaction, Repeat, Repetition, Sporadic, Step}
 use Rattle.constraint.proofs.Names.{StrongDelay, StrongSynchronization, Synchronization, [], _-_, _∷_, _≡_, _≤_, begunIncomplete, clock}

@@ -1,5 +1,6 @@
 -- Streams and their kinds: the numbering is one to one, and a stream is one of a row's just where its kind is one of the row's.
-use Rattle.constraint.proofs.Names.{Constraint, Field, List, EachField, KindClassFits, [], _++_, _+_, _-_, _/_, _<_, _||_, _∙_, _∷_, _≡_, _≤_, among, ap}
+use Rattle.constraint.proofs.Names.{Constraint, Field, List, EachField, KindClassFits, [], _++_, _+_, _-_, _/_, _<_, _||_, _∙_, _∷_, _≡_, _≤_}
+use Rattle.constraint.proofs.Names.{among, ap}
 use Rattle.constraint.proofs.Names.{ap₂}
 use Rattle.constraint.proofs.Names.{arith, at, by-cases, byte, coloured, count, decLt, either-true, eq-eqb, eqb, eqb-false, eqb-true, false}
 use Rattle.constraint.proofs.Names.{fieldsOf, firstColoured, kind, kindOf, kindsIn, lastColour, lastKind, le-ltb, length, lt-ltb, ne-eqb, refl}

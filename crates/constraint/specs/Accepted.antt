@@ -9,7 +9,7 @@ use Rattle.constraint.specs.Limits.{lastKind, firstColoured, lastTime, n
 use Rattle.constraint.specs.Steps.{at}
 use Rattle.constraint.specs.Questions.{Question, Judged}
 use Rattle.constraint.specs.Meets.{Compares}
-use Rattle.constraint.specs.Types.{kind, coloured, count, span, plain, lower, upper, upper-or-none, offset, compared, Field, byte, time}
+use Rattle.constraint.specs.Types.{kind, coloured, count, span, plain, lower, upper, upper-or-none, offset, left, right, Field, byte, time}
 use Rattle.constraint.specs.Types.{typeOf, fieldsOf, countOf, TypeKnown}
 use Rattle.constraint.specs.declared.Answer.the-variants.{Taken}
 use Rattle.constraint.specs.Constraint.{Constraint}
@@ -59,7 +59,8 @@ FieldInRange (time lower x) = x ≤ lastTime
 FieldInRange (time upper x) = x ≤ lastTime
 FieldInRange (time upper-or-none x) = (x ≤ lastTime) ⊎ (x ≡ noLimit)
 FieldInRange (time offset x) = x ≤ lastTime
-FieldInRange (time compared x) = x ≤ lastTime
+FieldInRange (time left x) = x ≤ lastTime
+FieldInRange (time right x) = x ≤ lastTime
 
 -- §4.6, §4.7, §5.9.6, §8.6; 01, questions: every field of a row is in its range
 unfoldable pub InRange : Constraint → Type 0
@@ -74,7 +75,8 @@ NotBelow n low (time lower x) = Unit {0}
 NotBelow n low (time upper x) = low ≤ x
 NotBelow n low (time upper-or-none x) = low ≤ x
 NotBelow n low (time offset x) = low ≤ x
-NotBelow n low (time compared x) = Compares n low x
+NotBelow n low (time left x) = Unit {0}
+NotBelow n low (time right x) = Compares n low x
 
 -- §8.7: the bound for the fields after the field, if `low` is the bound for the field
 abbrev pub boundAfter : ℕ → Field → ℕ
@@ -84,7 +86,8 @@ boundAfter low (time lower x) = x
 boundAfter low (time upper x) = 0
 boundAfter low (time upper-or-none x) = 0
 boundAfter low (time offset x) = x + 1
-boundAfter low (time compared x) = 0
+boundAfter low (time left x) = x
+boundAfter low (time right x) = 0
 
 -- §8.7; 01, questions: no field in a list is below its bound. `low` is the bound for the first, or 0 if there is none
 abbrev pub Ordered : ℕ → ℕ → List Field → Type 0

@@ -164,8 +164,8 @@ pointOf n period (suc j) = cond (eqb (numberOf n j + 1) n) (pointOf n period j +
 abbrev pub placeOf : ℕ → List ℕ → ℕ → ℕ
 placeOf period offsets j = pointOf (length offsets) period j + at offsets (numberOf (length offsets) j)
 
--- §5.15: from some start on each event is at most jitter after its place, and the next event is not overdue at the clock `now`. Consecutive events are
--- at least minimum apart, and a second group has another point
+-- §5.15: from some start on each event is at most jitter after its place, and the next event is not overdue at the clock `now`. Consecutive events
+-- are at least minimum apart, and a second group has another point
 unfoldable pub MeetsPattern : ℕ → ℕ → ℕ → List ℕ → List ℕ → ℕ → Type 0
 MeetsPattern period jitter minimum offsets events now =
     ((start : ℕ) × ((j : ℕ) → j < length events → Between 0 jitter (start + placeOf period offsets j) (at events j))

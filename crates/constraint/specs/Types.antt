@@ -27,14 +27,15 @@ pub data Plain : Type 0 where
   len : Plain
   tolerance : Plain
 
--- §4.4, §4.7; 01, table; CR 1: the role of a time. An `upper-or-none` may be the mark for no limit. Offsets rise. The lower before a `compared` is
--- compared with it
+-- §4.4, §4.7; 01, table; CR 1: the role of a time. An `upper-or-none` may be the mark for no limit. Offsets rise. A left is
+-- compared with the right after it
 pub data TimeRole : Type 0 where
   lower : TimeRole
   upper : TimeRole
   upper-or-none : TimeRole
   offset : TimeRole
-  compared : TimeRole
+  left : TimeRole
+  right : TimeRole
   plain : Plain → TimeRole
 
 -- §4.4; 01, table: a field: its width, its role and its value
@@ -76,10 +77,13 @@ typeLine (OutputSynchronization stimulus responses apart) =
     (13, byte count (length responses) ∷ byte coloured stimulus ∷ kindFields coloured responses ++ time (plain tolerance) apart ∷ [])
 typeLine (InputSynchronization stimuli response apart) =
     (14, byte count (length stimuli) ∷ kindFields coloured stimuli ++ byte coloured response ∷ time (plain tolerance) apart ∷ [])
-typeLine (Pattern event period late apart offsets) =
-    (15, byte count (length offsets) ∷ byte kind event ∷ time upper period ∷ time (plain jitter) late ∷ time (plain minimum) apart ∷ offsetFields offsets)
+typeLine (Pattern event period late apart offsets) = (
+  15,
+  byte count (length offsets) ∷ byte kind event ∷ time upper period ∷ time (plain jitter) late ∷ time (plain minimum) apart
+      ∷ offsetFields offsets,
+)
 typeLine (Arbitrary event pairs) = (16, byte count (length pairs) ∷ byte kind event ∷ pairFields pairs)
-typeLine (Comparison operator left right) = (17, byte count operator ∷ time lower left ∷ time compared right ∷ [])
+typeLine (Comparison operator x y) = (17, byte count operator ∷ time left x ∷ time right y ∷ [])
 
 -- §4.5; 01, table: the number of a row's type
 abbrev pub typeOf : Constraint → ℕ

@@ -1,6 +1,6 @@
 -- An Arbitrary looks at the times of its kind and at the clock, as each of its Repeats does.
 use Rattle.constraint.proofs.Names.{Arbitrary, List, Meets, MeetsArbitrary, _+_, _≤_, arith, at, clock, map, refl, subst, times, waiting, ℕ}
-use Rattle.constraint.proofs.{Lawful.Contingent, Lawful.Lawful, Types.Repeat.repeat-earlier}
+use Rattle.constraint.proofs.{Lawful.Lawful, Types.Repeat.repeat-earlier}
 
 -- §5.16: what is met at a clock is met at every earlier one
 pub arbitrary-earlier : (minima maxima events : List ℕ) (now later : ℕ) → now ≤ later → MeetsArbitrary minima maxima events later

@@ -1,8 +1,8 @@
 -- An InputSynchronization looks at the times of each colour of each of its stimuli and of its response.
-use Rattle.constraint.proofs.Names.{InputSynchronization, List, Meets, MeetsInputSynchronization, Step, [], _<_, _∷_, _≡_, _≤_, arith, at}
-use Rattle.constraint.proofs.Names.{byte, coloured, event, lastColour, length, ne-eqb, plain, refl, stream, suc, time, times, tolerance}
-use Rattle.constraint.proofs.Names.{waiting, zero, ℕ}
-use Rattle.constraint.proofs.{Lawful.Contingent, Lawful.Lawful, Lawful.after-coloured, Lawful.coloured-same, Lawful.of-colour, Lists.each-left}
+use Rattle.constraint.proofs.Names.{InputSynchronization, List, Meets, MeetsInputSynchronization, Step, [], _<_, _∷_, _≡_, at}
+use Rattle.constraint.proofs.Names.{byte, coloured, length, plain, refl, stream, time, times, tolerance}
+use Rattle.constraint.proofs.Names.{waiting, ℕ}
+use Rattle.constraint.proofs.{Lawful.Lawful, Lawful.after-coloured, Lawful.coloured-same, Lawful.of-colour, Lists.each-left}
 use Rattle.constraint.proofs.Streams.{colours}
 
 inputs-same : (ks : List ℕ) (response x colour : ℕ) (a b : List Step)

@@ -1,8 +1,8 @@
 -- An OutputSynchronization looks at the times of each colour of its stimulus and of each of its responses.
-use Rattle.constraint.proofs.Names.{List, Meets, MeetsOutputSynchronization, OutputSynchronization, Step, [], _<_, _∷_, _≡_, _≤_, arith, at}
-use Rattle.constraint.proofs.Names.{coloured, event, kindFields, lastColour, length, ne-eqb, plain, refl, stream, suc, time, times, tolerance}
-use Rattle.constraint.proofs.Names.{waiting, zero, ℕ, _++_}
-use Rattle.constraint.proofs.{Lawful.Contingent, Lawful.Lawful, Lawful.coloured-same, Lawful.of-colour, Lists.each-left, Lists.each-right}
+use Rattle.constraint.proofs.Names.{List, Meets, MeetsOutputSynchronization, OutputSynchronization, Step, [], _<_, _∷_, _≡_, at}
+use Rattle.constraint.proofs.Names.{coloured, kindFields, length, plain, refl, stream, time, times, tolerance}
+use Rattle.constraint.proofs.Names.{waiting, ℕ, _++_}
+use Rattle.constraint.proofs.{Lawful.Lawful, Lawful.coloured-same, Lawful.of-colour, Lists.each-left, Lists.each-right}
 use Rattle.constraint.proofs.Streams.{colours, streamsIn}
 
 outputs-same : (stimulus : ℕ) (ks : List ℕ) (x colour : ℕ) (a b : List Step)

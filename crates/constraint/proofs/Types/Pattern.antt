@@ -1,7 +1,7 @@
 -- A Pattern looks at the times of its kind and at the clock: a next event that is not overdue at a clock is not overdue at an earlier one.
-use Rattle.constraint.proofs.Names.{List, Meets, MeetsPattern, Pattern, _+_, _<_, _≤_, arith, clock, length, placeOf, refl, subst, times}
+use Rattle.constraint.proofs.Names.{List, Meets, MeetsPattern, Pattern, _≤_, arith, clock, refl, subst, times}
 use Rattle.constraint.proofs.Names.{waiting, ℕ}
-use Rattle.constraint.proofs.{Lawful.Contingent, Lawful.Lawful}
+use Rattle.constraint.proofs.{Lawful.Lawful}
 
 -- §5.15: what is met at a clock is met at every earlier one
 pub pattern-earlier : (period jitter minimum : ℕ) (offsets events : List ℕ) (now later : ℕ) → now ≤ later

@@ -48,7 +48,8 @@ synchronization2-contingent =
     alike (suc (suc j)) h = absurd (omega arith)
 
 -- §2.2
-pub synchronization3-contingent : Contingent (StrongSynchronization (0 ∷ 1 ∷ 2 ∷ []) 2) (event 0 5 ∷ event 1 5 ∷ event 2 5 ∷ []) (event 0 5 ∷ event 1 5 ∷ [])
+pub synchronization3-contingent : Contingent (StrongSynchronization (0 ∷ 1 ∷ 2 ∷ []) 2) (event 0 5 ∷ event 1 5 ∷ event 2 5 ∷ [])
+    (event 0 5 ∷ event 1 5 ∷ [])
 unfolding Meets MeetsStrongSynchronization times
 synchronization3-contingent =
     record {

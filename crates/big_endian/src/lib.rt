@@ -21,7 +21,7 @@ fn low_byte(x: u64) -> u8
 }
 
 // The number in the `width` bytes from a place on: past the end, in those that are there.
-fn number_at(bytes: &[u8], place: usize, width: usize) -> u64
+pub fn number_at(bytes: &[u8], place: usize, width: usize) -> u64
     requires { ⌜ width ≤ 8 ⌝ }
     ensures { λ r. ⌜ r ≡ numberAt width (now (bytes .entry)) place ⌝ }
 {
@@ -91,7 +91,7 @@ pub fn put_byte(buffer: &mut [u8], place: usize, byte: u8)
 }
 
 // Stores the `width` low bytes of a number in a buffer from a place on. What would go past its end is not stored.
-fn put_number(buffer: &mut [u8], place: usize, x: u64, width: usize)
+pub fn put_number(buffer: &mut [u8], place: usize, x: u64, width: usize)
     requires { ⌜ width ≤ 8 ⌝ }
     ensures { λ _. ⌜ now (buffer .exit) ≡ sets (now (buffer .entry)) place (bytesOf width x) ⌝ }
 {

@@ -1,0 +1,45 @@
+-- The lines of the types: the roles that an n uses, and the lists that are looked up.
+use Rattle.constraint.proofs.Library.{Bool, List, List·getD-eq-default, [], _*_, _+_, _-_, _<_, _∙_, _∷_, _≡_, _≤_, add-one, ap, arith, cond, drop}
+use Rattle.constraint.proofs.Library.{drop-cons}
+use Rattle.constraint.proofs.Library.{drop-of-length-le, false, le-leb, leb, length, mul-le-mul-left, refl, set, sets, suc, sym, true, zero, ℕ, eqb}
+use Rattle.constraint.proofs.Library.{ltb}
+use Rattle.constraint.proofs.Lengths.{at-most}
+use Rattle.constraint.proofs.Lists.{split}
+use Rattle.constraint.specs.Steps.{at}
+use Rattle.table_row.specs.Format.{lengths, entrySizes, lengthOf}
+use Rattle.table_row.specs.Records.{placeRoles, placeNeeds, uses, roleAt, rolesFrom, rolesOf, total, width}
+
+pub uses-leb : (m n : ℕ) → uses m n ≡ leb m n
+uses-leb zero n = sym (le-leb 0 n (omega arith))
+uses-leb (suc m) n = refl
+
+-- past the end of the lists stands no role
+pub role-unknown : (t n i : ℕ) → 324 ≤ 18 * t + i → roleAt t n i ≡ 0
+role-unknown t n i past =
+    rw (List·getD-eq-default placeNeeds 0 {n = 18 * t + i} past, List·getD-eq-default placeRoles 0 {n = 18 * t + i} past)
+
+pub roles-more : (roles : List ℕ) (t n i left : ℕ) → i + left ≡ 18 → 0 < left
+    → sets roles i (rolesFrom left t n i) ≡ sets (set roles i (roleAt t n i)) (i + 1) (rolesFrom (left - 1) t n (i + 1))
+roles-more roles t n i zero sum some = absurd (omega arith)
+roles-more roles t n i (suc left) sum some = let one-less : suc left - 1 ≡ left = omega arith in rw (one-less, add-one i)
+
+pub length-unknown : (t n : ℕ) → 18 ≤ t → lengthOf t n ≡ 0
+length-unknown t n past = rw (List·getD-eq-default lengths 0 {n = t} past, List·getD-eq-default entrySizes 0 {n = t} past) (omega arith)
+
+pub entries-small : (t n : ℕ) → n * at entrySizes t ≤ n * 16
+entries-small t n = mul-le-mul-left n (at-most 16 entrySizes (omega arith) t)
+
+pub lengths-small : (t : ℕ) → at lengths t ≤ 34
+lengths-small t = at-most 34 lengths (omega arith) t
+
+pub width-small : (r : ℕ) → width r ≤ 8
+width-small r =
+    split (ltb r 65) (λ none. cond none 0 (cond (ltb r 97) 8 1) ≤ 8) (λ e. omega arith)
+    (λ e. split (ltb r 97) (λ long. cond long 8 1 ≤ 8) (λ e. omega arith) (λ e. omega arith))
+
+pub total-next : (roles : List ℕ) (i : ℕ) → i < length roles → total (drop i roles) ≡ width (at roles i) + total (drop (i + 1) roles)
+total-next roles i h = rw (add-one i, drop-cons roles i 0 h)
+
+pub total-small : (roles : List ℕ) → total roles ≤ 8 * length roles
+total-small [] = omega arith
+total-small (r ∷ roles) = omega (arith, width-small r, total-small roles)

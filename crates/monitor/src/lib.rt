@@ -1,7 +1,7 @@
 // The monitor by value: a table's rows, and how events, ticks and the close step them.
 use constraint::Answer;
 use constraint::Call;
-use constraint::Table;
+use table_row::Table;
 use constraint::Verdict;
 pub use questions::Undo;
 use row::Row;

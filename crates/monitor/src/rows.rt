@@ -1,7 +1,7 @@
 // The rows of a monitor, one after the other: made from a table, and after a step.
 use crate::Monitor;
-use constraint::Constraint;
-use constraint::Table;
+use table_row::Table;
+use table_row::TableRow;
 use row::Row;
 use row::RowUndo;
 use row::StepInput;
@@ -35,15 +35,11 @@ pub(crate) fn over(table: Table, len: usize) -> Monitor
     requires { ⌜ (len ≤ table .count) × (len ≤ rowLimit) ⌝ }
     ensures { λ r. ⌜ r ≡ monitorOf (take len (rowsOf table)) ⌝ }
 {
-    let mut rows = [Row::begin(Constraint::Order {
-        source: 0,
-        target: 0,
-    }); 32];
+    let mut rows = [Row::begin(TableRow::filler()); 32];
     let mut i = 0;
     while i < len {
-        let entry = table.rows[i];
-        let constraint = entry.constraint;
-        rows[i] = Row::begin(constraint);
+        let row = table.rows[i];
+        rows[i] = Row::begin(row);
         i += 1;
     }
     Monitor {

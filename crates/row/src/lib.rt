@@ -1,5 +1,4 @@
 // One row of the monitor: its constraint as numbers, what it keeps of the events so far, and how a step changes it.
-use constraint::Constraint;
 use constraint::NO_LIMIT;
 use ring::SIZE;
 pub use row_type::Parameters;
@@ -7,6 +6,7 @@ pub use row_type::Registers;
 pub use row_type::State;
 use row_type::from_constraint;
 use row_type::parts;
+use table_row::TableRow;
 ghost use mathlib.Core.Path.{_≡_};
 ghost use Rattle.row.specs.Undo.{movesBy, savedBy, rowWithout, keptWithout, rowUndoOf, noRowUndo};
 ghost use Rattle.row.specs.Machine.{concerns, rowOf, rowStep};
@@ -74,22 +74,24 @@ fn moves(parameters: Parameters, now: State, o: StepInput) -> bool
 }
 
 impl Row {
-    // The row of a constraint before any step.
-    pub fn begin(c: Constraint) -> Self
-        ensures { λ r. ⌜ r ≡ rowOf c ⌝ }
+    // The row of a constraint of a known type before any step.
+    pub fn begin(row: TableRow) -> Self
+        requires { ⌜ Known (rowIn row) ⌝ }
+        ensures { λ r. ⌜ r ≡ rowOf (rowIn row) ⌝ }
     {
-        let parameters = from_constraint::parameters_of(c);
+        let parameters = from_constraint::parameters_of(row);
         let now = State {
             registers: parts::no_registers(),
             head: 0,
-            len: from_constraint::start_word_count(parameters),
+            len: from_constraint::start_word_count(row),
             due: NO_LIMIT,
             kept: 1,
             broken: 0,
         };
+        let times = from_constraint::start_ring(row);
         Row {
             parameters,
-            times: [0u64; SIZE],
+            times,
             now,
         }
     }

@@ -3,7 +3,7 @@ use crate::Row;
 use crate::RowUndo;
 use crate::StepInput;
 use crate::concerns;
-use constraint::Constraint;
+use table_row::TableRow;
 use constraint::WAITING_LIMIT;
 use ring::SIZE;
 use ring::minus;
@@ -339,11 +339,12 @@ pub fn would_overflow(row: &[[u64; SIZE]; 2], o: StepInput) -> bool
     step_overflows(row, o)
 }
 
-// The row is that of a constraint before any step.
-pub fn begin(row: &mut [[u64; SIZE]; 2], c: Constraint)
-    ensures { λ _. ⌜ now (row .exit) ≡ wordsOfRow (rowOf c) noRowUndo ⌝ }
+// The row is that of a constraint of a known type before any step.
+pub fn begin(row: &mut [[u64; SIZE]; 2], wanted: TableRow)
+    requires { ⌜ Known (rowIn wanted) ⌝ }
+    ensures { λ _. ⌜ now (row .exit) ≡ wordsOfRow (rowOf (rowIn wanted)) noRowUndo ⌝ }
 {
-    *row = encode_row(Row::begin(c), RowUndo::none());
+    *row = encode_row(Row::begin(wanted), RowUndo::none());
 }
 
 // The larger of two numbers.

@@ -1,22 +1,33 @@
-// A constraint as numbers.
+// A row of a table as numbers: the parameters of its type's machine, and the words that its ring has from the start.
 use crate::Parameters;
-use constraint::Constraint;
 use constraint::NO_LIMIT;
-use constraint::fields::COUNT;
-use constraint::fields::JITTER;
-use constraint::fields::LENGTH;
-use constraint::fields::LOWER;
-use constraint::fields::MINIMUM;
-use constraint::fields::MOST_BYTES;
-use constraint::fields::MOST_TIMES;
-use constraint::fields::NO_FIELD;
-use constraint::fields::is_kind;
+use ring::SIZE;
+use table_row::TableRow;
+use table_row::fields::FIRST_BYTE;
+use table_row::fields::FIRST_TIME;
+use table_row::fields::JITTER;
+use table_row::fields::LEFT;
+use table_row::fields::LENGTH;
+use table_row::fields::LOWER;
+use table_row::fields::MINIMUM;
+use table_row::fields::MOST_FIELDS;
+use table_row::fields::OFFSET;
+use table_row::fields::RIGHT;
+use table_row::fields::is_kind;
+use table_row::types::roles_of;
 ghost use mathlib.Core.Path.{_≡_};
-ghost use Rattle.constraint.specs.Records.{byteField, timeField, fieldAt, bytesFrom, timesFrom};
-ghost use Rattle.row_type.specs.Parameters.{noFields, withFields, parametersOf, startWordCount};
+ghost use Rattle.constraint.specs.Table.{Known};
+ghost use Rattle.table_row.specs.Records.{fieldAt, fieldsAs, rowIn};
+ghost use Rattle.row_type.specs.Parameters.{noFields, withFields, parametersOf, startCount, startRing};
 
 // A kind that no event has.
 pub const NO_KIND: u8 = 64;
+
+// How many words a row has from the start, by the type byte.
+const START_COUNTS: [usize; 18] = [0, 0, 0, 0, 0, 0, 0, 0, 0, 16, 0, 0, 16, 40, 40, 8, 24, 0];
+
+// The place from which on the values of a row are such words, by the type byte; 18 for none.
+const FIRST_CONSTANTS: [usize; 18] = [18, 18, 18, 18, 18, 18, 18, 18, 18, 18, 18, 18, 18, 18, 18, 5, 2, 18];
 
 // The numbers of a type without fields.
 fn no_fields(tag: u8) -> Parameters
@@ -37,37 +48,28 @@ fn no_fields(tag: u8) -> Parameters
     }
 }
 
-// The numbers with a field of one byte, those of the fields behind it being there: a kind goes before the other kinds.
-fn with_byte(parameters: Parameters, role: u8, value: u8) -> Parameters
-    ensures { λ r. ⌜ r ≡ withFields (fieldAt byteField role value) parameters ⌝ }
+// The numbers with a field of one byte, those of the fields behind it being there: a kind goes before the other kinds, an n is the span.
+fn with_byte(parameters: Parameters, role: u8, value: u64) -> Parameters
+    ensures { λ r. ⌜ r ≡ withFields (byte (byteRole role) value ∷ []) parameters ⌝ }
 {
     let mut next = parameters;
-    if role == NO_FIELD {
-        return next;
-    }
-    if role == COUNT {
-        return next;
-    }
     if is_kind(role) {
-        next.first = value as u64;
+        next.first = value;
         next.second = parameters.first;
         next.third = parameters.second;
         next.fourth = parameters.third;
         next.fifth = parameters.fourth;
         return next;
     }
-    next.span = value as u64;
+    next.span = value;
     next
 }
 
-// The numbers with a time: a tolerance is an upper, a length a lower without an upper limit.
+// The numbers with a time: a tolerance is an upper, a length a lower without an upper limit. An offset, a left and a right are no number.
 fn with_time(parameters: Parameters, role: u8, value: u64) -> Parameters
-    ensures { λ r. ⌜ r ≡ withFields (fieldAt timeField role value) parameters ⌝ }
+    ensures { λ r. ⌜ r ≡ withFields (time (timeRole role) value ∷ []) parameters ⌝ }
 {
     let mut next = parameters;
-    if role == NO_FIELD {
-        return next;
-    }
     if role == LOWER {
         next.lower = value;
         return next;
@@ -85,58 +87,97 @@ fn with_time(parameters: Parameters, role: u8, value: u64) -> Parameters
         next.upper = NO_LIMIT;
         return next;
     }
+    if role == OFFSET {
+        return next;
+    }
+    if role == LEFT {
+        return next;
+    }
+    if role == RIGHT {
+        return next;
+    }
     next.upper = value;
     next
 }
 
-// The numbers with some fields of one byte, from the last to the first.
-fn with_bytes(parameters: Parameters, roles: [u8; 5], values: [u8; 5]) -> Parameters
-    ensures { λ r. ⌜ r ≡ withFields (bytesFrom roles values 0) parameters ⌝ }
+// The numbers with the field of a place, if the place is used.
+fn with_field(parameters: Parameters, role: u8, value: u64) -> Parameters
+    ensures { λ r. ⌜ r ≡ withFields (fieldAt role value) parameters ⌝ }
+{
+    if role < FIRST_TIME {
+        return parameters;
+    }
+    if role < FIRST_BYTE {
+        return with_time(parameters, role, value);
+    }
+    with_byte(parameters, role, value)
+}
+
+// The numbers with some fields, from the last to the first.
+fn with_fields(parameters: Parameters, roles: [u8; 18], values: [u64; 18]) -> Parameters
+    ensures { λ r. ⌜ r ≡ withFields (fieldsAs roles values) parameters ⌝ }
 {
     let mut next = parameters;
-    let mut i = MOST_BYTES;
+    let mut i = MOST_FIELDS;
     while 0 < i {
         i -= 1;
-        next = with_byte(next, roles[i], values[i]);
+        next = with_field(next, roles[i], values[i]);
     }
     next
 }
 
-// The numbers with some times, from the last to the first.
-fn with_times(parameters: Parameters, roles: [u8; 4], values: [u64; 4]) -> Parameters
-    ensures { λ r. ⌜ r ≡ withFields (timesFrom roles values 0) parameters ⌝ }
+// A row of a known type as numbers: its type, and what each field is among them.
+pub fn parameters_of(row: TableRow) -> Parameters
+    requires { ⌜ Known (rowIn row) ⌝ }
+    ensures { λ r. ⌜ r ≡ parametersOf (rowIn row) ⌝ }
 {
-    let mut next = parameters;
-    let mut i = MOST_TIMES;
-    while 0 < i {
-        i -= 1;
-        next = with_time(next, roles[i], values[i]);
-    }
-    next
+    let tag = row.tag;
+    let values = row.values;
+    let n = values[0];
+    let roles = roles_of(tag, n);
+    with_fields(no_fields(tag), roles, values)
 }
 
-// A constraint as numbers: its type, and what each field is among them.
-pub fn parameters_of(c: Constraint) -> Parameters
-    ensures { λ r. ⌜ r ≡ parametersOf c ⌝ }
+// How many words a row of a known type has from the start.
+pub fn start_word_count(row: TableRow) -> usize
+    requires { ⌜ Known (rowIn row) ⌝ }
+    ensures { λ r. ⌜ r ≡ startCount (rowIn row) ⌝ }
 {
-    let fields = c.fields();
-    let line = fields.line;
-    let byte_roles = line.bytes;
-    let time_roles = line.times;
-    let bytes = fields.bytes;
-    let times = fields.times;
-    let timed = with_times(no_fields(line.tag), time_roles, times);
-    with_bytes(timed, byte_roles, bytes)
+    let place = row.tag as usize;
+    if START_COUNTS.len() <= place {
+        return 0;
+    }
+    START_COUNTS[place]
 }
 
-// How many words a row has from the start, each 0.
-pub fn start_word_count(parameters: Parameters) -> usize
-    ensures { λ r. ⌜ r ≡ startWordCount parameters ⌝ }
+// The ring of a row of a known type before any step: its constants, and 0 in all other places.
+pub fn start_ring(row: TableRow) -> [u64; 64]
+    requires { ⌜ Known (rowIn row) ⌝ }
+    ensures { λ r. ⌜ r ≡ startRing (rowIn row) ⌝ }
 {
-    // begin start words: made by release/row-types.py
-    if parameters.tag == 9 {
-        return 16;
+    let tag = row.tag;
+    let values = row.values;
+    let n = values[0];
+    let mut times = [0u64; 64];
+    let first = first_constant(tag);
+    let roles = roles_of(tag, n);
+    let mut i = first;
+    while i < MOST_FIELDS {
+        if FIRST_TIME <= roles[i] {
+            times[i - first] = values[i];
+        }
+        i += 1;
     }
-    0
-    // end start words
+    times
+}
+
+// The place from which on the values of a row are words of its ring.
+fn first_constant(tag: u8) -> usize
+    ensures { λ r. ⌜ r ≡ firstConstant tag ⌝ }
+{
+    let place = tag as usize;
+    if FIRST_CONSTANTS.len() <= place {
+        return MOST_FIELDS;
+    }
+    FIRST_CONSTANTS[place]
 }

@@ -1,7 +1,6 @@
 // Stamps known within a range: whether a Repeat row of span 1 is kept for every choice of true times, for none, or only for some.
 use clock::Clock;
 use constraint::Call;
-use constraint::Constraint;
 use constraint::NO_LIMIT;
 use constraint::StampedAnswer;
 use constraint::StampedVerdict;
@@ -12,6 +11,7 @@ use row_type::parts::plus;
 use row_type::parts::smaller;
 use table::ReadAnswer;
 use table::scan;
+use table_row::TableRow;
 ghost use mathlib.Core.Path.{_≡_};
 ghost use mathlib.Core.Bool.{_&&_};
 ghost use lib.Dec.{leb};
@@ -21,9 +21,12 @@ ghost use Rattle.stamps.specs.Words.{spelling};
 ghost use Rattle.stamps.specs.Machine.{nextLow, nextHigh, noStamps, firstStamp, pairFits, laterStamp, stampAfter, callAfter, closeVerdict};
 ghost use Rattle.stamps.specs.Machine.{stampsVerdict, PassesStamps, Finds};
 
+// The type byte of a Repeat.
+const REPEAT: u8 = 3;
+
 // A Repeat row of span 1, and by how much its stamps are late at most.
 pub struct LateRow {
-    pub event: u8,
+    pub event: u64,
     pub lower: u64,
     pub upper: u64,
     pub late: u64,
@@ -54,7 +57,7 @@ pub struct Passed {
 // A row that is asked for: its fields, or (number above 0) a refusal.
 pub struct FoundRow {
     pub number: u8,
-    pub event: u8,
+    pub event: u64,
     pub lower: u64,
     pub upper: u64,
 }
@@ -203,7 +206,7 @@ impl Stamps {
     {
         match call {
             Call::Event { kind, time } => {
-                if kind == asked.event {
+                if kind as u64 == asked.event {
                     return self.stamped(asked, time);
                 }
                 self
@@ -288,27 +291,24 @@ fn no_row(number: u8) -> FoundRow
 }
 
 // Returns the row of a number in a table of `count` rows: questions 15 and 25.
-fn row_of(count: usize, row: u64, constraint: Constraint) -> FoundRow
-    ensures { λ r. ⌜ Finds count row constraint r ⌝ }
+fn row_of(count: usize, row: u64, found: TableRow) -> FoundRow
+    ensures { λ r. ⌜ Finds count row (rowIn found) r ⌝ }
 {
     if count as u64 <= row {
         return no_row(15);
     }
-    let fields = constraint.fields();
-    let line = fields.line;
-    let bytes = fields.bytes;
-    let times = fields.times;
-    if line.tag != 3 {
+    let values = found.values;
+    if found.tag != REPEAT {
         return no_row(25);
     }
-    if bytes[1] != 1 {
+    if values[1] != 1 {
         return no_row(25);
     }
     FoundRow {
         number: 0,
-        event: bytes[0],
-        lower: times[0],
-        upper: times[1],
+        event: values[0],
+        lower: values[2],
+        upper: values[3],
     }
 }
 
@@ -323,8 +323,8 @@ pub fn read(newest: u8, table: &[u8], recording: &[u8], row: u64, late: u64) -> 
     if let ReadAnswer::Refused { number, place } = answer {
         return StampedAnswer::Refused { number, place };
     }
-    let constraint = numbered.row;
-    let found = row_of(scanned.rows, row, constraint);
+    let wanted = numbered.row;
+    let found = row_of(scanned.rows, row, wanted);
     let asked = LateRow {
         event: found.event,
         lower: found.lower,

@@ -1,7 +1,6 @@
 // The shortest stretch of consecutive records that breaks a row. It runs each start once, over one row without a monitor, to find the least number of
 // records that break the row from there. Then it tries the stretches by length and by start.
 use clock::Clock;
-use constraint::Constraint;
 use constraint::StretchAnswer;
 use questions::NO_EVENT;
 use questions::NO_STREAM;
@@ -12,6 +11,7 @@ use row_type::parts::kind_of;
 use row_type::row_words::BROKEN;
 use table::ReadAnswer;
 use table::scan;
+use table_row::TableRow;
 ghost use mathlib.Core.Path.{_≡_};
 ghost use Prim.Native.Nat.{ℕ, _≤_, _<_};
 ghost use lib.ListN.{length, getD};
@@ -116,7 +116,7 @@ fn gather(bytes: &[u8], streams: &mut [u64; 256], times: &mut [u64; 256]) -> Gat
 // §14.2
 // The least number of records from a start on that break the row; 257 where none do, as the end or a 12 comes first.
 fn need_from(
-    constraint: Constraint,
+    wanted: TableRow,
     streams: &[u64; 256],
     times: &[u64; 256],
     count: usize,
@@ -126,7 +126,7 @@ fn need_from(
     ensures { λ r. ⌜ NeedsFrom constraint (now (streams .entry)) (now (times .entry)) count start r ⌝ }
 {
     let mut words = [[0u64; SIZE]; 2];
-    stored::begin(&mut words, constraint);
+    stored::begin(&mut words, wanted);
     let mut size: usize = 0;
     let mut at = start;
     while at < count {
@@ -146,7 +146,7 @@ fn need_from(
 
 // The same for each start.
 fn needs(
-    constraint: Constraint,
+    wanted: TableRow,
     streams: &[u64; 256],
     times: &[u64; 256],
     count: usize,
@@ -157,7 +157,7 @@ fn needs(
     let mut need = [0usize; 256];
     let mut start: usize = 0;
     while start < count {
-        need[start] = need_from(constraint, streams, times, count, start);
+        need[start] = need_from(wanted, streams, times, count, start);
         start = start + 1;
     }
     need
@@ -194,7 +194,7 @@ fn search(need: &[usize; 256], count: usize) -> Found
 
 // The answer of a row: the first stretch that breaks it, or 23.
 fn try_row(
-    constraint: Constraint,
+    wanted: TableRow,
     streams: &[u64; 256],
     times: &[u64; 256],
     count: usize,
@@ -202,7 +202,7 @@ fn try_row(
     requires { ⌜ count ≤ 256 ⌝ }
     ensures { λ r. ⌜ TriesAll constraint (now (streams .entry)) (now (times .entry)) count r ⌝ }
 {
-    let need = needs(constraint, streams, times, count);
+    let need = needs(wanted, streams, times, count);
     let found = search(&need, count);
     if found.tried == 0 {
         return StretchAnswer::Refused {
@@ -221,7 +221,7 @@ fn try_row(
 fn ask_row(
     rows: usize,
     row: u64,
-    constraint: Constraint,
+    wanted: TableRow,
     streams: &[u64; 256],
     times: &[u64; 256],
     count: usize,
@@ -235,7 +235,7 @@ fn ask_row(
             place: 0,
         };
     }
-    try_row(constraint, streams, times, count)
+    try_row(wanted, streams, times, count)
 }
 
 // §8.22, §8.23, §14.4, §14.5
@@ -266,6 +266,6 @@ pub fn shortest(newest: u8, table: &[u8], recording: &[u8], row: u64) -> Stretch
             place: 0,
         };
     }
-    let constraint = numbered.row;
-    ask_row(scanned.rows, row, constraint, &streams, &times, count)
+    let wanted = numbered.row;
+    ask_row(scanned.rows, row, wanted, &streams, &times, count)
 }

@@ -1,13 +1,12 @@
 // The table's bytes: reads rows from a file's bytes, and writes them to the caller's buffer.
-pub mod body;
 pub mod raw;
 mod reader;
 pub mod scan;
 mod writer;
 
 use constraint::Answer;
-use constraint::Table;
-ghost use Rattle.constraint.specs.Records.{rowsOf};
+use table_row::Table;
+ghost use Rattle.table_row.specs.Tables.{rowsOf};
 ghost use Rattle.table.specs.Reading.{ReadsInto};
 ghost use Rattle.table.specs.Writing.{Writes};
 

@@ -1,10 +1,9 @@
 // Rows given as raw bytes, 34 for each: a row's type byte and fields, and behind them bytes that do not matter.
 use super::WriteAnswer;
-use super::body::row_of;
-use super::body::type_known;
 use constraint::Answer;
-use constraint::Constraint;
-use constraint::length_of;
+use table_row::TableRow;
+use table_row::types::length_of;
+use table_row::types::type_known;
 ghost use Prim.Native.Nat.{_+_, _*_, _≤_};
 ghost use mathlib.Core.Path.{_≡_};
 ghost use mathlib.Core.List.{[]};
@@ -55,13 +54,13 @@ fn body_end(edition: u8, bytes: &[u8], i: usize) -> usize
 }
 
 // The row that the body of row i is read as.
-fn row_at(edition: u8, bytes: &[u8], i: usize) -> Constraint
+fn row_at(edition: u8, bytes: &[u8], i: usize) -> TableRow
     requires { ⌜ WholeRow edition (now bytes) i ⌝ }
     ensures { λ r. ⌜ r ≡ constraintOf (rawBody (now (bytes .entry)) i) ⌝ }
 {
     let start = i * RAW_SIZE;
     let end = body_end(edition, bytes, i);
-    row_of(&bytes[start..end])
+    TableRow::read(&bytes[start..end])
 }
 
 // The answer to questions 3 to 7 and 18 of the first rows, row by row.
@@ -72,7 +71,7 @@ fn validate_rows(edition: u8, bytes: &[u8], count: usize) -> Answer
     let mut i = 0;
     while i < count {
         let row = row_at(edition, bytes, i);
-        match row.validate_in(edition) {
+        match row.validate(edition) {
             Answer::Refused(number) => {
                 return Answer::Refused(number);
             }
@@ -136,7 +135,7 @@ fn row_taken(edition: u8, bytes: &[u8], i: usize) -> bool
         return false;
     }
     let row = row_at(edition, bytes, i);
-    match row.validate() {
+    match row.validate(edition) {
         Answer::Refused(_) => false,
         Answer::Taken => true,
     }

@@ -1,25 +1,22 @@
 // Reads the rows of a table, row by row.
 use super::ReadAnswer;
 use super::Reading;
-use super::body::row_of;
-use super::body::shape_fits;
+use super::scan;
 use constraint::Answer;
-use constraint::Constraint;
-use constraint::Table;
+use table_row::Table;
+use table_row::TableRow;
+use table_row::shape_fits;
+use table_row::types;
 ghost use mathlib.Core.Path.{_≡_};
 ghost use mathlib.Core.List.{[]};
 ghost use Prim.Native.Nat.{_<_};
 ghost use lib.ListN.{length};
-ghost use Rattle.constraint.specs.Records.{rowsOf, Decides};
-ghost use Rattle.constraint.specs.Table.{WholeAt, VersionUpTo, ReadsRows, table-refused};
+ghost use Rattle.constraint.specs.Questions.{Judged};
+ghost use Rattle.constraint.specs.Records.{Decides};
+ghost use Rattle.constraint.specs.Table.{WholeAt, VersionUpTo, ReadsRows, placeQuestions, table-refused};
+ghost use Rattle.table_row.specs.Tables.{rowsOf};
 ghost use Rattle.table.specs.Reading.{readOf, rowsRead};
-ghost use Rattle.table.specs.Rows.{ReadsAt};
-
-// What reading one row gives: the row and the place of the next, or the number of the refusal.
-pub(crate) enum RowRead {
-    Row(Constraint, usize),
-    Refused(u8),
-}
+ghost use Rattle.table.specs.Rows.{rowReadAt};
 
 // A refusal, beside the table with no row.
 pub(crate) fn refused(number: u8, place: usize) -> Reading
@@ -35,7 +32,7 @@ pub(crate) fn version_known(newest: u8, bytes: &[u8]) -> bool
     ensures { λ r. ⌜ Decides (VersionUpTo newest (now (bytes .entry))) r ⌝ }
 {
     let version = big_endian::byte_at(bytes, 0);
-    if constraint::last_type(version) == 0 {
+    if types::last_type(version) == 0 {
         return false;
     }
     version <= newest
@@ -56,28 +53,25 @@ pub(crate) fn whole_at(bytes: &[u8], place: usize) -> bool
 }
 
 // §4.3, §8.2, §8.3
-// Questions 2 to 7, put to the row at a place in a table of an edition, with some rows before it.
-pub(crate) fn read_row(edition: u8, bytes: &[u8], place: usize, before: usize) -> RowRead
-    ensures { λ r. ⌜ ReadsAt edition (now (bytes .entry)) before place r ⌝ }
+// The answer to questions 2 to 7 and 18, put to the row at a place in a table of an edition, with some rows before it.
+pub(crate) fn validate_row(edition: u8, bytes: &[u8], place: usize, before: usize) -> Answer
+    ensures { λ r. ⌜ Judged (placeQuestions edition (now (bytes .entry)) before place (rowReadAt (now (bytes .entry)) place)) r ⌝ }
 {
     if !whole_at(bytes, place) {
-        return RowRead::Refused(2);
+        return Answer::Refused(2);
     }
     if constraint::ROW_LIMIT <= before {
-        return RowRead::Refused(3);
+        return Answer::Refused(3);
     }
     let size = big_endian::two_at(bytes, place);
     let start = place + 2;
     let next = start + size;
     let body = &bytes[start..next];
     if !shape_fits(edition, body, size) {
-        return RowRead::Refused(4);
+        return Answer::Refused(4);
     }
-    let row = row_of(body);
-    match row.validate() {
-        Answer::Taken => RowRead::Row(row, next),
-        Answer::Refused(number) => RowRead::Refused(number),
-    }
+    let row = TableRow::read(body);
+    row.validate(edition)
 }
 
 // The rows of an edition behind the version byte, row by row.
@@ -88,15 +82,16 @@ pub(crate) fn read_rows(edition: u8, bytes: &[u8]) -> Reading
     let mut table = Table::new();
     let mut place = 1;
     while place < bytes.len() {
-        match read_row(edition, bytes, place, table.count) {
-            RowRead::Row(row, next) => {
-                table = table.with_row(row);
-                place = next;
-            }
-            RowRead::Refused(number) => {
+        match validate_row(edition, bytes, place, table.count) {
+            Answer::Refused(number) => {
                 return refused(number, place);
             }
+            Answer::Taken => {}
         }
+        let placed = scan::row_at(bytes, place);
+        let row = placed.row;
+        table = table.with_row(row);
+        place = placed.next;
     }
     let answer = ReadAnswer::Accepted;
     Reading { answer, table }

@@ -1,11 +1,10 @@
 // Reads a table row by row, with no table in memory: the bytes are judged, and then each row is read at its place.
 use super::ReadAnswer;
-use super::body::row_of;
-use super::reader::RowRead;
-use super::reader::read_row;
+use super::reader::validate_row;
 use super::reader::version_known;
 use super::reader::whole_at;
-use constraint::Constraint;
+use constraint::Answer;
+use table_row::TableRow;
 ghost use Prim.Native.Nat.{_<_};
 ghost use lib.ListN.{length};
 ghost use Rattle.table.specs.Scan.{CountsRows, Scans, PlacedAt, RowBehind, FindsRow};
@@ -18,14 +17,14 @@ pub struct Scan {
 
 // The row at a place, and the place behind it.
 pub struct Placed {
-    pub row: Constraint,
+    pub row: TableRow,
     pub next: usize,
 }
 
 // What a table's bytes hold, and the row of one number; the row of an empty entry where the table has no such row.
 pub struct Numbered {
     pub scan: Scan,
-    pub row: Constraint,
+    pub row: TableRow,
 }
 
 // The rows of an edition behind the version byte, judged and counted.
@@ -36,16 +35,15 @@ fn validate_rows(edition: u8, bytes: &[u8]) -> Scan
     let mut rows = 0;
     let mut place = 1;
     while place < bytes.len() {
-        match read_row(edition, bytes, place, rows) {
-            RowRead::Row(_, next) => {
-                rows += 1;
-                place = next;
-            }
-            RowRead::Refused(number) => {
+        match validate_row(edition, bytes, place, rows) {
+            Answer::Refused(number) => {
                 let answer = ReadAnswer::Refused { number, place };
                 return Scan { answer, rows: 0 };
             }
+            Answer::Taken => {}
         }
+        rows += 1;
+        place = place + 2 + big_endian::two_at(bytes, place);
     }
     let answer = ReadAnswer::Accepted;
     Scan { answer, rows }
@@ -72,20 +70,17 @@ pub fn row_at(bytes: &[u8], place: usize) -> Placed
     ensures { λ r. ⌜ PlacedAt (now (bytes .entry)) place r ⌝ }
 {
     if !whole_at(bytes, place) {
-        let row = Constraint::Order {
-            source: 0,
-            target: 0,
-        };
+        let row = TableRow::filler();
         return Placed { row, next: place };
     }
     let start = place + 2;
     let next = start + big_endian::two_at(bytes, place);
-    let row = row_of(&bytes[start..next]);
+    let row = TableRow::read(&bytes[start..next]);
     Placed { row, next }
 }
 
 // The row behind i others of an accepted table.
-fn row_behind(bytes: &[u8], i: usize) -> Constraint
+fn row_behind(bytes: &[u8], i: usize) -> TableRow
     ensures { λ r. ⌜ RowBehind (now (bytes .entry)) i r ⌝ }
 {
     let mut place = 1;
@@ -105,10 +100,7 @@ pub fn row_numbered(newest: u8, bytes: &[u8], i: u64) -> Numbered
 {
     let scan = validate(newest, bytes);
     if scan.rows as u64 <= i {
-        let row = Constraint::Order {
-            source: 0,
-            target: 0,
-        };
+        let row = TableRow::filler();
         return Numbered { scan, row };
     }
     let row = row_behind(bytes, i as usize);

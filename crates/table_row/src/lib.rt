@@ -117,6 +117,28 @@ impl TableRow {
         Answer::Taken
     }
 
+    // The length of the body of a row of a known type.
+    pub fn length(self) -> usize
+        requires { ⌜ Known (rowIn self) ⌝ }
+        ensures { λ r. ⌜ r ≡ length (rowBody (rowIn self)) ⌝ }
+    {
+        let tag = self.tag;
+        let values = self.values;
+        let n = values[0];
+        let roles = types::roles_of(tag, n);
+        1 + size_of(roles)
+    }
+
+    // The row of an empty entry.
+    pub fn filler() -> Self
+        ensures { λ r. ⌜ rowIn r ≡ filler ⌝ }
+    {
+        TableRow {
+            tag: 6,
+            values: [0u64; 18],
+        }
+    }
+
     // Stores a row of a known type in a buffer from a place on: its length field and its body.
     pub fn put(self, buffer: &mut [u8], place: usize)
         requires { ⌜ Known (rowIn self) × (place + length (rowBytes (rowIn self)) ≤ length (now buffer)) ⌝ }

@@ -82,6 +82,17 @@ const MOST_COUNTS: [u64; 18] = [0, 0, 0, 0, 0, 0, 0, 4, 0, 0, 0, 4, 0, 4, 4, 8, 
 // The last type of each edition of the table, by its version byte.
 const LAST_TYPES: [u8; 3] = [0, 10, 11];
 
+// Returns the last type of an edition, or 0 if there is no such edition.
+pub fn last_type(edition: u8) -> u8
+    ensures { λ r. ⌜ r ≡ lastType edition ⌝ }
+{
+    let place = edition as usize;
+    if LAST_TYPES.len() <= place {
+        return 0;
+    }
+    LAST_TYPES[place]
+}
+
 // The role of a place that is used from some n on, which is a digit: none where this n does not use it.
 fn role_for(n: u64, role: u8, need: u8) -> u8
     ensures { λ r. ⌜ r ≡ cond (uses (need - 48) n) role 0 ⌝ }

@@ -2,17 +2,18 @@
 use Rattle.constraint.proofs.Library.{List, [], _++_, _+_, _<_, _∙_, _∷_, _≡_, _≤_, ap, arith, length, refl, subst₂, sym, ℕ, ⊎-elim}
 use Rattle.constraint.proofs.FittingKinds.{kinds-first, kinds-rest}
 use Rattle.constraint.proofs.Judged.{judged-all}
-use Rattle.constraint.specs.Accepted.{KindsFit}
+use Rattle.constraint.specs.Accepted.{InRange, KindsFit, KindsSuit, LowerFirst}
 use Rattle.constraint.specs.Questions.{Judged}
 use Rattle.constraint.specs.Steps.{at}
 use Rattle.constraint.specs.declared.Answer.the-variants.{Taken}
-use Rattle.table_row.specs.Constraint.{Constraint, Delay, StrongDelay, Repeat, Sporadic, Burst, Order, StrongSynchronization, ExecutionTime}
-use Rattle.table_row.specs.Constraint.{Reaction, Repetition, Synchronization, Age, OutputSynchronization, InputSynchronization, Pattern}
-use Rattle.table_row.specs.Constraint.{Arbitrary, Comparison}
-use Rattle.table_row.specs.Fields.{kind, coloured, count, span, plain, lower, upper, upper-or-none, offset, left, right, tolerance, Field, byte, time}
-use Rattle.table_row.specs.Fields.{countOf, fieldsOf, kindFields, offsetFields, pairFields, typeOf}
-use Rattle.table_row.specs.Format.{FieldsFit, ShapeFits, StandsFor, TypeKnown, fieldsBytes, lengthOf, rowBody}
-use Rattle.table_row.specs.Questions.{Each, InRange, Ordered, KindClassFits, kindsIn, rowQuestionsIn}
+use Rattle.constraint.specs.Constraint.{Constraint, Delay, StrongDelay, Repeat, Sporadic, Burst, Order, StrongSynchronization, ExecutionTime}
+use Rattle.constraint.specs.Constraint.{Reaction, Repetition, Synchronization, Age, OutputSynchronization, InputSynchronization, Pattern}
+use Rattle.constraint.specs.Constraint.{Arbitrary, Comparison}
+use Rattle.constraint.specs.Types.{kind, coloured, count, span, plain, lower, upper, upper-or-none, offset, left, right, tolerance, Field, byte, time}
+use Rattle.constraint.specs.Types.{countOf, fieldsOf, kindFields, offsetFields, pairFields, typeOf}
+use Rattle.constraint.specs.Table.{FieldsFit, ShapeFits, StandsFor, fieldsBytes, rowBody}
+use Rattle.constraint.specs.Types.{TypeKnown, lengthOf}
+use Rattle.constraint.specs.Accepted.{EachField, FieldInRange, Ordered, KindClassFits, kindsIn, rowQuestionsIn}
 use Rattle.table_row.specs.Records.{rolesOf, rowFrom, rowIn}
 use Rattle.table_row.proofs.ByType.{CountFits, again, first-wide, placed}
 use Rattle.table_row.proofs.Judging.{fields-long}
@@ -64,7 +65,7 @@ own-bytes (Arbitrary a ps) fits = (omega (arith, fits refl .1), pair-counts ps)
 own-bytes (Comparison o x y) fits = (omega (arith, fits refl .1), tt)
 
 -- so fields that are accepted fit
-fields-fit : (fields : List Field) → KindsFit (kindsIn fields) → Each InRange fields → BytesFit fields → FieldsFit fields
+fields-fit : (fields : List Field) → KindsFit (kindsIn fields) → EachField FieldInRange fields → BytesFit fields → FieldsFit fields
 fields-fit [] kinds ranges small = tt
 fields-fit (byte kind x ∷ fields) kinds ranges small =
     (omega (arith, kinds-first _ _ kinds .0), fields-fit fields (kinds-rest _ _ kinds) (ranges .1) small)
@@ -104,10 +105,11 @@ pub record ReadBack (edition : ℕ) (c : Constraint) : Type 0 where
   pub read : rowIn (rowFrom (rowBody c)) ≡ c
 
 pub write-then-read : (edition : ℕ) (c : Constraint) → Judged (rowQuestionsIn edition c) Taken → ReadBack edition c
+unfolding KindsSuit InRange LowerFirst
 write-then-read edition c judged =
     let four = judged-all 4 (TypeKnown edition (typeOf c) (countOf c)) _ judged in
     let five = judged-all 5 (KindsFit (kindsIn (fieldsOf c))) _ (four .1) in
-    let eighteen = judged-all 18 (Each KindClassFits (fieldsOf c)) _ (five .1) in
-    let six = judged-all 6 (Each InRange (fieldsOf c)) _ (eighteen .1) in
+    let eighteen = judged-all 18 (EachField KindClassFits (fieldsOf c)) _ (five .1) in
+    let six = judged-all 6 (EachField FieldInRange (fieldsOf c)) _ (eighteen .1) in
     let fit = fields-fit (fieldsOf c) (five .0) (six .0) (own-bytes c (four .0 .n-known)) in
     record { shape-fits = row-fits edition c (four .0) fit; stands = record { bytes = refl; fits = fit }; read = row-again edition c (four .0) fit }

@@ -7,8 +7,8 @@ use Rattle.constraint.proofs.Lists.{split}
 use Rattle.constraint.specs.Steps.{at}
 use Rattle.constraint.specs.Bytes.{Bytes, bytesAt, bytesOf, number, numberAt}
 use Rattle.big_endian.proofs.Numbers.{bytes-length, bytes-of-number, number-below, number-of-bytes}
-use Rattle.table_row.specs.Fields.{Field, byte, time}
-use Rattle.table_row.specs.Format.{fieldsBytes, FieldsFit}
+use Rattle.constraint.specs.Types.{Field, byte, time}
+use Rattle.constraint.specs.Table.{fieldsBytes, FieldsFit}
 use Rattle.table_row.specs.Records.{byteRole, timeRole, width, fieldOf, fieldAt, fieldsAs, valuesAt, total, cleared}
 
 -- A part of some bytes

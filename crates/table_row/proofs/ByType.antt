@@ -10,11 +10,12 @@ use lib.Dec.{ltb}
 use lib.ListN.{length, replicate}
 use Rattle.constraint.proofs.Lists.{split}
 use Rattle.constraint.specs.Steps.{at}
-use Rattle.table_row.specs.Constraint.{Constraint, Delay, StrongDelay, Repeat, Sporadic, Burst, Order, StrongSynchronization, ExecutionTime}
-use Rattle.table_row.specs.Constraint.{Reaction, Repetition, Synchronization, Age, OutputSynchronization, InputSynchronization, Pattern}
-use Rattle.table_row.specs.Constraint.{Arbitrary, Comparison}
-use Rattle.table_row.specs.Fields.{Field, typeOf, fieldsOf, countOf}
-use Rattle.table_row.specs.Format.{widthOf, lengths, leastCounts, mostCounts, takesCount, lengthOf}
+use Rattle.constraint.specs.Constraint.{Constraint, Delay, StrongDelay, Repeat, Sporadic, Burst, Order, StrongSynchronization, ExecutionTime}
+use Rattle.constraint.specs.Constraint.{Reaction, Repetition, Synchronization, Age, OutputSynchronization, InputSynchronization, Pattern}
+use Rattle.constraint.specs.Constraint.{Arbitrary, Comparison}
+use Rattle.constraint.specs.Types.{Field, typeOf, fieldsOf, countOf}
+use Rattle.constraint.specs.Table.{widthOf}
+use Rattle.constraint.specs.Types.{lengths, leastCounts, mostCounts, takesCount, lengthOf}
 use Rattle.table_row.specs.Records.{rowRead, rolesOf, fieldsAs, entries, pairs, total, width, cleared}
 use Rattle.table_row.specs.Records.{noConstraint}
 

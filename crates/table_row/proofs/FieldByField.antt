@@ -7,8 +7,9 @@ use Rattle.constraint.proofs.Lists.{both, or-true, split}
 use Rattle.constraint.specs.Limits.{lastTime, spanLimit, repetitionSpanLimit}
 use Rattle.constraint.specs.Records.{Decides}
 use Rattle.constraint.specs.Steps.{at}
-use Rattle.table_row.specs.Fields.{kind, coloured, count, span, plain, lower, upper, upper-or-none, offset, left, right, TimeRole, ByteRole, Field, byte, time}
-use Rattle.table_row.specs.Questions.{kindsIn, KindClassFits, InRange, Each, NotBelow, boundAfter, Ordered, boundBehind}
+use Rattle.constraint.specs.Types.{kind, coloured, count, span, plain, lower, upper, upper-or-none, offset, left, right, TimeRole, ByteRole, Field, byte, time}
+use Rattle.constraint.specs.Accepted.{kindsIn, KindClassFits, FieldInRange, EachField, NotBelow, boundAfter, Ordered}
+use Rattle.table_row.specs.Records.{boundBehind}
 use Rattle.table_row.specs.Records.{byteRole, timeRole, operandRole, plainRole, isKind, fieldOf, fieldAt, fieldsAs, fieldsFrom}
 
 -- Places
@@ -30,30 +31,30 @@ module _ {ℓ} (P : List Field → Type ℓ) (r x : ℕ) where
       (λ e. split (ltb r 97) (λ b. P (cond b (time (timeRole r) x) (byte (byteRole r) x) ∷ [])) (λ e. long (ltb-true r 97 e))
       (λ e. short (ltb-false r 97 e)))
 
--- Each
+-- EachField
 
-pub each-join : (Asked : Field → Type 0) (a b : List Field) → Each Asked a → Each Asked b → Each Asked (a ++ b)
+pub each-join : (Asked : Field → Type 0) (a b : List Field) → EachField Asked a → EachField Asked b → EachField Asked (a ++ b)
 each-join Asked [] b h k = k
 each-join Asked (f ∷ a) b h k = (h .0, each-join Asked a b (h .1) k)
 
-pub each-parts : (Asked : Field → Type 0) (a b : List Field) → Each Asked (a ++ b) → Each Asked a × Each Asked b
+pub each-parts : (Asked : Field → Type 0) (a b : List Field) → EachField Asked (a ++ b) → EachField Asked a × EachField Asked b
 each-parts Asked [] b h = (tt, h)
 each-parts Asked (f ∷ a) b h = let parts = each-parts Asked a b (h .1) in ((h .0, parts .0), parts .1)
 
 module _ (Asked : Field → Type 0) (roles values : List ℕ) (i : ℕ) (h : i < length roles) (k : i < length values) where
   -- where the field at a place is as asked, the answer is that of those behind it
-  pub field-here : Each Asked (fieldAt (at roles i) (at values i)) → (b : Bool) → Decides (Each Asked (fieldsFrom roles values (i + 1))) b
-      → Decides (Each Asked (fieldsFrom roles values i)) b
+  pub field-here : EachField Asked (fieldAt (at roles i) (at values i)) → (b : Bool) → Decides (EachField Asked (fieldsFrom roles values (i + 1))) b
+      → Decides (EachField Asked (fieldsFrom roles values i)) b
   field-here here =
       let one = fieldAt (at roles i) (at values i) in
       let later = fieldsFrom roles values (i + 1) in
-      same-test (λ rest. subst⁻¹ (Each Asked) (fields-next roles values i h k) (each-join Asked one later here rest))
-      (λ all. each-parts Asked one later (subst (Each Asked) (fields-next roles values i h k) all) .1)
+      same-test (λ rest. subst⁻¹ (EachField Asked) (fields-next roles values i h k) (each-join Asked one later here rest))
+      (λ all. each-parts Asked one later (subst (EachField Asked) (fields-next roles values i h k) all) .1)
 
-  pub field-parts : Each Asked (fieldsFrom roles values i)
-      → Each Asked (fieldAt (at roles i) (at values i)) × Each Asked (fieldsFrom roles values (i + 1))
+  pub field-parts : EachField Asked (fieldsFrom roles values i)
+      → EachField Asked (fieldAt (at roles i) (at values i)) × EachField Asked (fieldsFrom roles values (i + 1))
   field-parts all =
-      each-parts Asked (fieldAt (at roles i) (at values i)) (fieldsFrom roles values (i + 1)) (subst (Each Asked) (fields-next roles values i h k) all)
+      each-parts Asked (fieldAt (at roles i) (at values i)) (fieldsFrom roles values (i + 1)) (subst (EachField Asked) (fields-next roles values i h k) all)
 
 -- Kinds
 
@@ -89,10 +90,10 @@ module _ (roles values : List ℕ) (i : ℕ) (h : i < length roles) (k : i < len
 
 -- Plain and coloured kinds
 
-pub other-sorts : (r x : ℕ) → r ≢ 107 → r ≢ 99 → Each KindClassFits (fieldAt r x)
+pub other-sorts : (r x : ℕ) → r ≢ 107 → r ≢ 99 → EachField KindClassFits (fieldAt r x)
 other-sorts r x no-kind uncoloured =
-    by-role (Each KindClassFits) r x (λ e. tt) (λ e. (tt, tt))
-        (λ e. other-byte (λ role. Each KindClassFits (byte role x ∷ [])) r no-kind uncoloured (tt, tt) (λ limit. (tt, tt)))
+    by-role (EachField KindClassFits) r x (λ e. tt) (λ e. (tt, tt))
+        (λ e. other-byte (λ role. EachField KindClassFits (byte role x ∷ [])) r no-kind uncoloured (tt, tt) (λ limit. (tt, tt)))
 
 -- Ranges
 
@@ -106,7 +107,7 @@ by-operand P r one two p =
     split (eqb r 88) (λ b. P (cond b left (cond (eqb r 89) right (plain (plainRole r))))) (λ e. one)
     (λ e. split (eqb r 89) (λ b. P (cond b right (plain (plainRole r)))) (λ e. two) (λ e. p))
 
-pub time-range : (r x : ℕ) → 65 ≤ r → r ≢ 78 → r < 97 → Each InRange (fieldAt r x) ≡ ((x ≤ lastTime) × Unit {0})
+pub time-range : (r x : ℕ) → 65 ≤ r → r ≢ 78 → r < 97 → EachField FieldInRange (fieldAt r x) ≡ ((x ≤ lastTime) × Unit {0})
 time-range r x there no-mark long =
     rw (le-ltb r 65 there, lt-ltb r 97 long, ne-eqb r 78 no-mark)
     (split (eqb r 76) (λ l. Same (cond l lower (cond (eqb r 85) upper (cond (eqb r 79) offset (operandRole r))))) (λ e. refl)
@@ -114,10 +115,10 @@ time-range r x there no-mark long =
     (λ e. split (eqb r 79) (λ o. Same (cond o offset (operandRole r))) (λ e. refl) (λ e. by-operand Same r refl refl refl))))
   where
     Same : TimeRole → Type 1
-    Same role = Each InRange (time role x ∷ []) ≡ ((x ≤ lastTime) × Unit {0})
+    Same role = EachField FieldInRange (time role x ∷ []) ≡ ((x ≤ lastTime) × Unit {0})
 
 pub span-range : (r x : ℕ) → 97 ≤ r → r ≢ 107 → r ≢ 99 → r ≢ 110
-    → Each InRange (fieldAt r x) ≡ (((1 ≤ x) × (x ≤ cond (eqb r 115) spanLimit repetitionSpanLimit)) × Unit {0})
+    → EachField FieldInRange (fieldAt r x) ≡ (((1 ≤ x) × (x ≤ cond (eqb r 115) spanLimit repetitionSpanLimit)) × Unit {0})
 span-range r x short a b c = rw (le-ltb r 65 (omega arith), le-ltb r 97 short, ne-eqb r 107 a, ne-eqb r 99 b, ne-eqb r 110 c)
 
 -- Bounds

@@ -5,17 +5,18 @@ use Rattle.constraint.proofs.Library.{lt-ltb, ltb-false, ltb-true, refl, sets, 
 use Rattle.constraint.proofs.Judged.{judged-no, judged-yes}
 use Rattle.constraint.proofs.Lists.{split}
 use Rattle.constraint.specs.Questions.{Judged, Question}
-use Rattle.constraint.specs.Accepted.{KindsFit}
+use Rattle.constraint.specs.Accepted.{InRange, KindsFit, KindsSuit, LowerFirst}
 use Rattle.constraint.specs.Steps.{at}
 use Rattle.constraint.specs.Bytes.{bytesOf}
 use Rattle.constraint.specs.declared.Answer.{Answer}
 use Rattle.constraint.specs.declared.Answer.the-variants.{Refused}
 use Rattle.big_endian.proofs.Numbers.{bytes-length}
 use Rattle.big_endian.proofs.Stores.{stores-append}
-use Rattle.table_row.specs.Constraint.{Constraint}
-use Rattle.table_row.specs.Fields.{Field, typeOf, fieldsOf, countOf, firstOf}
-use Rattle.table_row.specs.Format.{fieldsBytes, rowBody, rowBytes, lengths, lastType, leastCounts, mostCounts, takesCount, TypeKnown, Known}
-use Rattle.table_row.specs.Questions.{Each, InRange, KindClassFits, Ordered, fieldQuestions, kindsIn, rowQuestionsIn}
+use Rattle.constraint.specs.Constraint.{Constraint}
+use Rattle.constraint.specs.Types.{Field, typeOf, fieldsOf, countOf, firstOf}
+use Rattle.constraint.specs.Table.{fieldsBytes, rowBody, rowBytes}
+use Rattle.constraint.specs.Types.{lengths, lastType, leastCounts, mostCounts, takesCount, TypeKnown, Known}
+use Rattle.constraint.specs.Accepted.{EachField, FieldInRange, KindClassFits, Ordered, kindsIn, rowQuestionsIn}
 use Rattle.table_row.specs.Records.{fieldAt, fieldsAs, rolesOf, rowRead, total, width, noConstraint}
 use Rattle.table_row.proofs.ByType.{no-type, says}
 use Rattle.table_row.proofs.Bodies.{place-bytes}
@@ -68,7 +69,7 @@ fields-long (r ∷ roles) (x ∷ values) same =
 
 -- the questions of fields whose n is at hand
 abbrev pub askedWith : ℕ → List Field → List Question
-askedWith n fields = (5, KindsFit (kindsIn fields)) ∷ (18, Each KindClassFits fields) ∷ (6, Each InRange fields) ∷ (7, Ordered n 0 fields) ∷ []
+askedWith n fields = (5, KindsFit (kindsIn fields)) ∷ (18, EachField KindClassFits fields) ∷ (6, EachField FieldInRange fields) ∷ (7, Ordered n 0 fields) ∷ []
 
 -- the first of some fields has the first value, where its role is that of a byte
 first-field : (roles values : List ℕ) → length values ≡ 18 → width (at roles 0) ≡ 1 → firstOf (fieldsAs roles values) ≡ at values 0
@@ -87,11 +88,12 @@ module _ (edition t : ℕ) (v : List ℕ) (long : length v ≡ 18) (known : Type
   row-fields = reads edition t (at v 0) v known long (λ e. refl) .1
 
   pub row-asked : (a : Answer) → Judged (askedWith (at v 0) (fieldsAs (rolesOf t (at v 0)) v)) a → Judged (rowQuestionsIn edition (rowRead t v)) a
+  unfolding KindsSuit InRange LowerFirst
   row-asked a h =
       let n : firstOf (fieldsAs (rolesOf t (at v 0)) v) ≡ at v 0 =
       first-field (rolesOf t (at v 0)) v long (shape edition t (at v 0) known .1) in
       judged-yes 4 _ _ a (row-known edition t v known)
-      (subst⁻¹ (λ (fs : List Field). Judged (fieldQuestions fs) a) row-fields
+      (subst⁻¹ (λ (fs : List Field). Judged (askedWith (firstOf fs) fs) a) row-fields
       (subst⁻¹ (λ (m : ℕ). Judged (askedWith m (fieldsAs (rolesOf t (at v 0)) v)) a) n h))
 
   pub row-body : rowBody (rowRead t v) ≡ t ∷ fieldsBytes (fieldsAs (rolesOf t (at v 0)) v)

@@ -6,7 +6,7 @@ use Rattle.constraint.proofs.Library.{ltb}
 use Rattle.constraint.proofs.Lengths.{at-most}
 use Rattle.constraint.proofs.Lists.{split}
 use Rattle.constraint.specs.Steps.{at}
-use Rattle.table_row.specs.Format.{lengths, entrySizes, lengthOf}
+use Rattle.constraint.specs.Types.{lengths, entrySizes, lengthOf}
 use Rattle.table_row.specs.Records.{placeRoles, placeNeeds, uses, roleAt, rolesFrom, rolesOf, total, width}
 
 pub uses-leb : (m n : ℕ) → uses m n ≡ leb m n

@@ -7,10 +7,12 @@ use Rattle.constraint.proofs.Lists.{at-next, split}
 use Rattle.constraint.proofs.Lengths.{at-most}
 use Rattle.constraint.specs.Steps.{at}
 use Rattle.constraint.specs.Bytes.{Bytes, bytesAt, bytesOf, numberAt, numberBehind}
-use Rattle.table_row.specs.Constraint.{Constraint}
-use Rattle.table_row.specs.Fields.{Field, byte, time, typeOf, fieldsOf, firstOf, countOf}
-use Rattle.table_row.specs.Format.{fieldsBytes, FieldsFit, rowBody, lengths, lengthOf, lastType, lastTypes, leastCounts, mostCounts, takesCount}
-use Rattle.table_row.specs.Format.{TypeKnown, ShapeFits, StandsFor}
+use Rattle.constraint.specs.Constraint.{Constraint}
+use Rattle.constraint.specs.Types.{Field, byte, time, typeOf, fieldsOf, firstOf, countOf}
+use Rattle.constraint.specs.Table.{fieldsBytes, FieldsFit, rowBody}
+use Rattle.constraint.specs.Types.{lengths, lengthOf, lastType, lastTypes, leastCounts, mostCounts, takesCount}
+use Rattle.constraint.specs.Types.{TypeKnown}
+use Rattle.constraint.specs.Table.{ShapeFits, StandsFor}
 use Rattle.table_row.specs.Records.{width, fieldOf, fieldAt, fieldsAs, rolesOf, valuesAt, total, cleared, entries, rowRead, rowFrom, rowIn}
 use Rattle.table_row.proofs.ByType.{CountFits, CountIs, Reads, again, first-wide, firstWidth, placed, values-read, valuesOf}
 use Rattle.table_row.proofs.Bodies.{read-fits, read-written, written-read}

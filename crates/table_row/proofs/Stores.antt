@@ -6,7 +6,7 @@ use Rattle.constraint.specs.Steps.{at}
 use Rattle.constraint.specs.Bytes.{bytesOf, numberAt}
 use Rattle.big_endian.proofs.Numbers.{bytes-length}
 use Rattle.big_endian.proofs.Stores.{stores-append, stores-front}
-use Rattle.table_row.specs.Format.{fieldsBytes}
+use Rattle.constraint.specs.Table.{fieldsBytes}
 use Rattle.table_row.specs.Records.{fieldAt, fieldsFrom, valuesAt, width}
 use Rattle.table_row.proofs.Bodies.{place-bytes}
 use Rattle.table_row.proofs.FieldByField.{fields-next}

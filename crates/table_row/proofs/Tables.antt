@@ -8,10 +8,11 @@ use Rattle.constraint.specs.Limits.{rowLimit}
 use Rattle.constraint.specs.Questions.{Judged, Question}
 use Rattle.constraint.specs.declared.Answer.{Answer}
 use Rattle.constraint.specs.declared.Answer.the-variants.{Refused, Taken}
-use Rattle.table_row.specs.Constraint.{Constraint}
-use Rattle.table_row.specs.Questions.{rowQuestionsIn}
+use Rattle.constraint.specs.Constraint.{Constraint}
+use Rattle.constraint.specs.Accepted.{rowQuestionsIn}
 use Rattle.table_row.specs.Records.{noConstraint, rowIn}
-use Rattle.table_row.specs.Tables.{rowsOf, rowsQuestions}
+use Rattle.table_row.specs.Tables.{rowsOf}
+use Rattle.constraint.specs.Accepted.{rowsQuestions}
 use Rattle.table_row.specs.declared.TableRow.{TableRow}
 use Rattle.table_row.specs.declared.Table.{Table}
 

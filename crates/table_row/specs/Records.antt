@@ -9,11 +9,12 @@ use lib.ListN.{drop}
 use Rattle.constraint.specs.Limits.{spanLimit, repetitionSpanLimit}
 use Rattle.constraint.specs.Steps.{at}
 use Rattle.constraint.specs.Bytes.{numberAt}
-use Rattle.table_row.specs.Constraint.{Constraint, Delay, StrongDelay, Repeat, Sporadic, Burst, Order, StrongSynchronization, ExecutionTime}
-use Rattle.table_row.specs.Constraint.{Reaction, Repetition, Synchronization, Age, OutputSynchronization, InputSynchronization, Pattern}
-use Rattle.table_row.specs.Constraint.{Arbitrary, Comparison}
-use Rattle.table_row.specs.Fields.{ByteRole, kind, coloured, count, span, TimeRole, lower, upper, upper-or-none, offset, left, right, plain}
-use Rattle.table_row.specs.Fields.{Plain, jitter, minimum, len, tolerance, Field, byte, time}
+use Rattle.constraint.specs.Constraint.{Constraint, Delay, StrongDelay, Repeat, Sporadic, Burst, Order, StrongSynchronization, ExecutionTime}
+use Rattle.constraint.specs.Constraint.{Reaction, Repetition, Synchronization, Age, OutputSynchronization, InputSynchronization, Pattern}
+use Rattle.constraint.specs.Constraint.{Arbitrary, Comparison}
+use Rattle.constraint.specs.Types.{ByteRole, kind, coloured, count, span, TimeRole, lower, upper, upper-or-none, offset, left, right, plain}
+use Rattle.constraint.specs.Types.{Plain, jitter, minimum, len, tolerance, Field, byte, time}
+use Rattle.constraint.specs.Accepted.{boundAfter}
 use Rattle.table_row.specs.declared.TableRow.{TableRow}
 
 -- Roles as letters: capitals for times, small ones for fields of one byte
@@ -220,3 +221,10 @@ rowRead t v =
 -- the constraint that a record stands for
 abbrev pub rowIn : TableRow → Constraint
 rowIn row = rowRead (row .tag) (row .values)
+
+-- Question 7
+
+-- the bound behind some fields, with the bound `low` before them
+abbrev pub boundBehind : ℕ → List Field → ℕ
+boundBehind low [] = low
+boundBehind low (f ∷ fields) = boundBehind (boundAfter low f) fields

@@ -1,20 +1,15 @@
--- The rows of a table record, and the questions that are put to them row by row (§9.7; 01, questions).
+-- The rows of a table record.
 use Prim.Native.Nat.{ℕ, _+_, _≤_, _<_}
 use mathlib.Core.Path.{_≡_}
 use mathlib.Core.List.{List, [], _∷_, _++_, map}
 use lib.ListN.{take, replicate}
 use Rattle.constraint.specs.Limits.{rowLimit}
 use Rattle.constraint.specs.Questions.{Question}
-use Rattle.table_row.specs.Constraint.{Constraint}
-use Rattle.table_row.specs.Questions.{rowQuestionsIn}
+use Rattle.constraint.specs.Constraint.{Constraint}
+use Rattle.constraint.specs.Accepted.{rowQuestionsIn}
 use Rattle.table_row.specs.Records.{noConstraint, rowIn}
 use Rattle.table_row.specs.declared.TableRow.{TableRow}
 use Rattle.table_row.specs.declared.Table.{Table}
-
--- §9.7; 01, questions: 3 with i rows before (§8.3), then the row's own questions, row after row; and the questions that come after the rows
-unfoldable pub rowsQuestions : ℕ → ℕ → List Constraint → List Question → List Question
-rowsQuestions edition i [] after = after
-rowsQuestions edition i (c ∷ rows) after = (3, i < rowLimit) ∷ rowQuestionsIn edition c ++ rowsQuestions edition (i + 1) rows after
 
 -- the first `count` rows; behind the 32 there are, a count above 32 is a table of more than 32 rows
 unfoldable pub rowsOf : Table → List Constraint

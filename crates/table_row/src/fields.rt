@@ -6,7 +6,9 @@ ghost use Prim.Native.Nat.{_≤_};
 ghost use Rattle.constraint.specs.Records.{Decides, Absent};
 ghost use Rattle.constraint.specs.Accepted.{KindsFit};
 ghost use Rattle.table_row.specs.Records.{width, isKind, fieldAt, fieldsFrom};
-ghost use Rattle.table_row.specs.Questions.{kindsIn, KindClassFits, InRange, Each, Compares, Ordered, boundBehind};
+ghost use Rattle.constraint.specs.Accepted.{kindsIn, KindClassFits, FieldInRange, EachField, Ordered};
+ghost use Rattle.constraint.specs.Meets.{Compares};
+ghost use Rattle.table_row.specs.Records.{boundBehind};
 
 // The largest kind, and the first coloured one.
 const LAST_KIND: u64 = 63;
@@ -75,7 +77,7 @@ pub fn is_kind(role: u8) -> bool
 
 // Is a kind plain where plain ones are asked for, and coloured where coloured ones are?
 fn kind_class_valid(role: u8, value: u64) -> bool
-    ensures { λ r. ⌜ Decides (Each KindClassFits (fieldAt role value)) r ⌝ }
+    ensures { λ r. ⌜ Decides (EachField KindClassFits (fieldAt role value)) r ⌝ }
 {
     if role == KIND {
         return value < FIRST_COLOURED;
@@ -88,7 +90,7 @@ fn kind_class_valid(role: u8, value: u64) -> bool
 
 // Is a field in range? A kind and an n are asked for elsewhere.
 fn range_fits(role: u8, value: u64) -> bool
-    ensures { λ r. ⌜ Decides (Each InRange (fieldAt role value)) r ⌝ }
+    ensures { λ r. ⌜ Decides (EachField FieldInRange (fieldAt role value)) r ⌝ }
 {
     if role < FIRST_TIME {
         return true;
@@ -159,7 +161,7 @@ pub(crate) fn kinds_fit(roles: [u8; 18], values: [u64; 18]) -> bool
 
 // Question 18: are the kinds plain or coloured as the type takes them?
 pub(crate) fn kind_classes_valid(roles: [u8; 18], values: [u64; 18]) -> bool
-    ensures { λ r. ⌜ Decides (Each KindClassFits (fieldsFrom roles values 0)) r ⌝ }
+    ensures { λ r. ⌜ Decides (EachField KindClassFits (fieldsFrom roles values 0)) r ⌝ }
 {
     let mut i = 0;
     while i < MOST_FIELDS {
@@ -173,7 +175,7 @@ pub(crate) fn kind_classes_valid(roles: [u8; 18], values: [u64; 18]) -> bool
 
 // Question 6: are times, spans and maxima in range?
 pub(crate) fn ranges_fit(roles: [u8; 18], values: [u64; 18]) -> bool
-    ensures { λ r. ⌜ Decides (Each InRange (fieldsFrom roles values 0)) r ⌝ }
+    ensures { λ r. ⌜ Decides (EachField FieldInRange (fieldsFrom roles values 0)) r ⌝ }
 {
     let mut i = 0;
     while i < MOST_FIELDS {
@@ -225,7 +227,7 @@ fn bound_fits(n: u64, role: u8, value: u64, low: u64) -> bool
 
 // The bound behind a field that is in range.
 fn bound_after(role: u8, value: u64, low: u64) -> u64
-    requires { ⌜ Each InRange (fieldAt role value) ⌝ }
+    requires { ⌜ EachField FieldInRange (fieldAt role value) ⌝ }
     ensures { λ r. ⌜ r ≡ boundBehind low (fieldAt role value) ⌝ }
 {
     if role == LOWER {
@@ -251,7 +253,7 @@ fn bound_after(role: u8, value: u64, low: u64) -> u64
 
 // Question 7, of fields in range: is lower ≤ upper where both stand, do offsets rise, does the left compare with the right as n says?
 pub(crate) fn lower_first(n: u64, roles: [u8; 18], values: [u64; 18]) -> bool
-    requires { ⌜ Each InRange (fieldsFrom roles values 0) ⌝ }
+    requires { ⌜ EachField FieldInRange (fieldsFrom roles values 0) ⌝ }
     ensures { λ r. ⌜ Decides (Ordered n 0 (fieldsFrom roles values 0)) r ⌝ }
 {
     let mut low = 0;

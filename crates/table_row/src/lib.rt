@@ -9,12 +9,13 @@ ghost use Prim.Native.Nat.{_+_, _≤_};
 ghost use lib.ListN.{length};
 ghost use lib.Seq.{sets};
 ghost use Rattle.table_row.specs.Records.{fieldsAs, valuesAt, total, rowFrom, rowIn};
-ghost use Rattle.table_row.specs.Questions.{rowQuestionsIn};
-ghost use Rattle.table_row.specs.Tables.{rowsQuestions, rowsOf, Adds};
+ghost use Rattle.constraint.specs.Accepted.{rowQuestionsIn, rowsQuestions};
+ghost use Rattle.table_row.specs.Tables.{rowsOf, Adds};
 ghost use mathlib.Core.List.{[]};
-ghost use Rattle.table_row.specs.Format.{fieldsBytes, rowBytes, ShapeFits, Known};
+ghost use Rattle.constraint.specs.Table.{fieldsBytes, rowBody, rowBytes, ShapeFits};
+ghost use Rattle.constraint.specs.Types.{Known};
 ghost use Rattle.constraint.specs.Questions.{Judged};
-ghost use Rattle.constraint.specs.Records.{Decides};
+ghost use Rattle.constraint.specs.Records.{Decides, filler};
 
 // A row of a table: its type, and the values of its fields, each in the place that its type has for it; every other place holds 0.
 pub struct TableRow {

@@ -5,7 +5,7 @@ ghost use mathlib.Core.Bool.{cond};
 ghost use Prim.Native.Nat.{_-_, _<_};
 ghost use Rattle.constraint.specs.Records.{Decides};
 ghost use Rattle.table_row.specs.Records.{uses, roleAt, rolesOf};
-ghost use Rattle.table_row.specs.Format.{lengthOf, TypeKnown};
+ghost use Rattle.constraint.specs.Types.{lengthOf, lastType, TypeKnown};
 
 // The roles of the places of a row, a line of 18 for each type, by the type byte.
 const ROLES: [u8; 324] = *b"\

@@ -2,8 +2,8 @@
 use Rattle.constraint.proofs.Library.{_*_, _+_, _-_, _∙_, _≡_, _≤_, ap, arith, length, refl, sets, sym, ℕ, List}
 use Rattle.constraint.proofs.Judged.{free}
 use Rattle.constraint.specs.Steps.{at}
-use Rattle.table_row.specs.Fields.{Field}
-use Rattle.table_row.specs.Format.{fieldsBytes}
+use Rattle.constraint.specs.Types.{Field}
+use Rattle.constraint.specs.Table.{fieldsBytes}
 use Rattle.table_row.specs.Records.{fieldsFrom, width}
 use Rattle.table_row.proofs.{FieldByField.fields-end, Stores.fields-more, Lines.width-small, put_fields.Statement.statement}
 use Rattle.table_row.proofs.put_fields.Tie as tie

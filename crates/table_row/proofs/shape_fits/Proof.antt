@@ -2,7 +2,7 @@
 use Rattle.constraint.proofs.Library.{_∙_, _≡_, eqb, needs, now, sym}
 use Rattle.constraint.proofs.Judged.{failed, free, passed, same-test, test-equal}
 use Rattle.constraint.specs.Steps.{at}
-use Rattle.table_row.specs.Format.{TypeKnown, lengthOf}
+use Rattle.constraint.specs.Types.{TypeKnown, lengthOf}
 use Rattle.table_row.proofs.{Judging.type-there, shape_fits.Statement.statement}
 use Rattle.table_row.proofs.shape_fits.Tie as tie
 

@@ -4,7 +4,8 @@ use Rattle.constraint.proofs.Judged.{judged-none}
 use Rattle.constraint.specs.Questions.{Judged}
 use Rattle.constraint.specs.declared.Answer.{Answer}
 use Rattle.constraint.specs.declared.Answer.the-variants.{Refused, Taken}
-use Rattle.table_row.specs.Tables.{rowsOf, rowsQuestions}
+use Rattle.table_row.specs.Tables.{rowsOf}
+use Rattle.constraint.specs.Accepted.{rowsQuestions}
 use Rattle.table_row.proofs.Tables.{rows-from, rows-full, rows-length, rows-refused, rows-taken}
 use Rattle.table_row.proofs.Table.validate.Statement.{statement}
 use Rattle.table_row.proofs.Table.validate.Tie as tie

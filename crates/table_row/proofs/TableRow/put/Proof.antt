@@ -1,7 +1,8 @@
 -- The length field, the type byte and the fields are stored one behind the other.
 use Rattle.constraint.proofs.Library.{_+_, _∙_, _≡_, _≤_, ap, arith, length, length-map, needs, now, sets, sym, ℕ, List}
 use Rattle.constraint.specs.Steps.{at}
-use Rattle.table_row.specs.Format.{TypeKnown, fieldsBytes, rowBody}
+use Rattle.constraint.specs.Types.{TypeKnown}
+use Rattle.constraint.specs.Table.{fieldsBytes, rowBody}
 use Rattle.table_row.specs.Records.{fieldsAs, rolesOf, rowIn, total}
 use Rattle.table_row.proofs.Judging.{body-long, known-row, row-bytes-long, row-stores}
 use Rattle.table_row.proofs.{Lines.total-small, TableRow.put.Statement.statement}

@@ -1,12 +1,12 @@
--- Each test answers its question of the record's fields, which are the constraint's.
+-- EachField test answers its question of the record's fields, which are the constraint's.
 use Rattle.constraint.proofs.Library.{List, _∙_, _∷_, _≡_, [], length, length-map, needs, subst, sym, ℕ}
 use Rattle.constraint.proofs.Judged.{failed, judged-no, judged-none, judged-yes, passed}
 use Rattle.constraint.specs.Questions.{Judged, Question}
 use Rattle.constraint.specs.Accepted.{KindsFit}
 use Rattle.constraint.specs.Steps.{at}
 use Rattle.constraint.specs.declared.Answer.{Answer}
-use Rattle.table_row.specs.Fields.{Field}
-use Rattle.table_row.specs.Questions.{Each, InRange, Ordered, KindClassFits, kindsIn, rowQuestionsIn}
+use Rattle.constraint.specs.Types.{Field}
+use Rattle.constraint.specs.Accepted.{EachField, FieldInRange, Ordered, KindClassFits, kindsIn, rowQuestionsIn}
 use Rattle.table_row.specs.Records.{fieldsAs, fieldsFrom, rowIn}
 use Rattle.table_row.proofs.{Judging.askedWith, Judging.row-asked, Judging.row-unknown, TableRow.validate.Statement.statement}
 use Rattle.table_row.proofs.TableRow.validate.Tie as tie
@@ -35,13 +35,13 @@ asked-5 c a h =
     (subst (λ (r : List ℕ). Judged (askedWith (n c) (fieldsAs r (args .self .values))) a) (c .roles-of .ensures) h)
 
 asked-18 : (c : tie.Else2)
-    → let fs = fields (c .before .before) in let m = n (c .before .before) in Answers (c .before .before) ((18, Each KindClassFits fs) ∷ (6, Each InRange fs) ∷ (7, Ordered m 0 fs) ∷ [])
+    → let fs = fields (c .before .before) in let m = n (c .before .before) in Answers (c .before .before) ((18, EachField KindClassFits fs) ∷ (6, EachField FieldInRange fs) ∷ (7, Ordered m 0 fs) ∷ [])
 asked-18 c a h =
     let test = c .before .kinds-fit in
     asked-5 (c .before .before) a (judged-yes 5 _ _ a (passed (test .result) (test .ensures) (c .if2 .left)) h)
 
 asked-6 : (c : tie.Else3)
-    → let fs = fields (c .before .before .before .before) in let m = n (c .before .before .before .before) in Answers (c .before .before .before .before) ((6, Each InRange fs) ∷ (7, Ordered m 0 fs) ∷ [])
+    → let fs = fields (c .before .before .before .before) in let m = n (c .before .before .before .before) in Answers (c .before .before .before .before) ((6, EachField FieldInRange fs) ∷ (7, Ordered m 0 fs) ∷ [])
 asked-6 c a h =
     let test = c .before .kind-classes-valid in
     asked-18 (c .before .before) a (judged-yes 18 _ _ a (passed (test .result) (test .ensures) (c .if3 .left)) h)

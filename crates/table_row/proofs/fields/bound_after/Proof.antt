@@ -1,7 +1,7 @@
 -- A lower is the bound, behind an upper there is none, and an offset is below the next one.
 use Rattle.constraint.proofs.Library.{_≤_, arith}
 use Rattle.constraint.specs.Limits.{lastTime}
-use Rattle.table_row.specs.Questions.{Each, InRange}
+use Rattle.constraint.specs.Accepted.{EachField, FieldInRange}
 use Rattle.table_row.specs.Records.{fieldAt}
 use Rattle.table_row.proofs.{FieldByField.same-bound, fields.bound_after.Statement.statement}
 use Rattle.table_row.proofs.fields.bound_after.Tie as tie
@@ -9,7 +9,7 @@ use Rattle.table_row.proofs.fields.bound_after.Tie as tie
 add-result : tie.Need-add-result
 add-result c =
     let start = c .before .before .before .before in
-    let range : Each InRange (fieldAt 79 (start .args .value)) = rw (c .if4 .taken) at (start .pre) in
+    let range : EachField FieldInRange (fieldAt 79 (start .args .value)) = rw (c .if4 .taken) at (start .pre) in
     omega (arith, range .0)
 
 returns-7 : tie.Need-returns-7

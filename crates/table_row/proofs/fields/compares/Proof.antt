@@ -1,4 +1,4 @@
--- Each operator is one test, and the definition asks what it tests.
+-- EachField operator is one test, and the definition asks what it tests.
 use Rattle.constraint.proofs.Library.{eqb, leb, ltb, ne-eqb}
 use Rattle.constraint.proofs.Judged.{test-equal, test-le, test-lt}
 use Rattle.table_row.proofs.fields.compares.Statement.{statement}

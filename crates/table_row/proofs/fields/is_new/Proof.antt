@@ -2,7 +2,8 @@
 use Rattle.constraint.proofs.Library.{Bool, _-_, _∙_, _≤_, arith, false, sym, true, ⊎-elim}
 use Rattle.constraint.proofs.Judged.{free, same-test}
 use Rattle.constraint.specs.Records.{Absent, Decides}
-use Rattle.table_row.specs.{Questions.kindsIn, Records.fieldsFrom}
+use Rattle.constraint.specs.Accepted.{kindsIn}
+use Rattle.table_row.specs.Records.{fieldsFrom}
 use Rattle.table_row.proofs.FieldByField.{fields-end, kind-elsewhere, kind-here}
 use Rattle.table_row.proofs.fields.is_new.Statement.{statement}
 use Rattle.table_row.proofs.fields.is_new.Tie as tie

@@ -2,14 +2,15 @@
 use Rattle.constraint.proofs.Library.{Bool, _-_, _≤_, arith, false, true}
 use Rattle.constraint.proofs.Judged.{failed, free, passed}
 use Rattle.constraint.specs.Records.{Decides}
-use Rattle.table_row.specs.{Questions.Each, Questions.KindClassFits, Records.fieldsFrom}
+use Rattle.constraint.specs.Accepted.{EachField, KindClassFits}
+use Rattle.table_row.specs.Records.{fieldsFrom}
 use Rattle.table_row.proofs.FieldByField.{field-here, field-parts, fields-end}
 use Rattle.table_row.proofs.fields.kind_classes_valid.Statement.{statement}
 use Rattle.table_row.proofs.fields.kind_classes_valid.Tie as tie
 
 abbrev Inv-loop : tie.InvT-loop
 Inv-loop roles values i₀ i =
-    (i ≤ 18) × ((b : Bool) → Decides (Each KindClassFits (fieldsFrom roles values i)) b → Decides (Each KindClassFits (fieldsFrom roles values 0)) b)
+    (i ≤ 18) × ((b : Bool) → Decides (EachField KindClassFits (fieldsFrom roles values i)) b → Decides (EachField KindClassFits (fieldsFrom roles values 0)) b)
 
 abbrev μ-loop : tie.MeasureT-loop
 μ-loop roles values i₀ i = 18 - i

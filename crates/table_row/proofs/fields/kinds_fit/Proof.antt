@@ -3,7 +3,8 @@ use Rattle.constraint.proofs.Library.{Bool, _-_, _∙_, _≤_, arith, false, sy
 use Rattle.constraint.proofs.Judged.{failed, free, passed, same-test}
 use Rattle.constraint.proofs.FittingKinds.{kinds-first, kinds-more, kinds-none, kinds-rest}
 use Rattle.constraint.specs.{Accepted.KindsFit, Records.Decides, Steps.at}
-use Rattle.table_row.specs.{Questions.kindsIn, Records.fieldsFrom}
+use Rattle.constraint.specs.Accepted.{kindsIn}
+use Rattle.table_row.specs.Records.{fieldsFrom}
 use Rattle.table_row.proofs.FieldByField.{fields-end, kind-elsewhere, kind-here}
 use Rattle.table_row.proofs.fields.kinds_fit.Statement.{statement}
 use Rattle.table_row.proofs.fields.kinds_fit.Tie as tie

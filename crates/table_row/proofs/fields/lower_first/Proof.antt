@@ -2,7 +2,7 @@
 use Rattle.constraint.proofs.Library.{Bool, _-_, _≤_, arith, false, refl, true}
 use Rattle.constraint.proofs.Judged.{failed, free, passed}
 use Rattle.constraint.specs.Records.{Decides}
-use Rattle.table_row.specs.Questions.{Each, InRange, Ordered}
+use Rattle.constraint.specs.Accepted.{EachField, FieldInRange, Ordered}
 use Rattle.table_row.specs.Records.{fieldsFrom}
 use Rattle.table_row.proofs.FieldByField.{bound-here, bound-missed, field-parts, fields-end}
 use Rattle.table_row.proofs.fields.lower_first.Statement.{statement}
@@ -10,7 +10,7 @@ use Rattle.table_row.proofs.fields.lower_first.Tie as tie
 
 abbrev Inv-loop : tie.InvT-loop
 Inv-loop n roles values low₀ i₀ low i =
-    (i ≤ 18) × Each InRange (fieldsFrom roles values i)
+    (i ≤ 18) × EachField FieldInRange (fieldsFrom roles values i)
     × ((b : Bool) → Decides (Ordered n low (fieldsFrom roles values i)) b → Decides (Ordered n 0 (fieldsFrom roles values 0)) b)
 
 abbrev μ-loop : tie.MeasureT-loop
@@ -26,7 +26,7 @@ returns c =
 bound-after-requires : tie.Need-bound-after-requires Inv-loop μ-loop
 bound-after-requires c κs =
     let at-loop = c .before .before .before in let a = at-loop .before .args in
-    field-parts InRange (a .t2) (a .t3) (at-loop .loop .i) (omega arith) (omega arith) (at-loop .loop .inv .1) .0
+    field-parts FieldInRange (a .t2) (a .t3) (at-loop .loop .i) (omega arith) (omega arith) (at-loop .loop .inv .1) .0
 
 loop-again : tie.Need-loop-again Inv-loop μ-loop
 loop-again c =
@@ -34,7 +34,7 @@ loop-again c =
     let test = c .before .before .bound-fits in
     let here = passed (test .result) (test .ensures) (c .before .if1 .left) in (
       omega arith,
-      field-parts InRange (a .t2) (a .t3) i (omega arith) (omega arith) (at-loop .loop .inv .1) .1,
+      field-parts FieldInRange (a .t2) (a .t3) i (omega arith) (omega arith) (at-loop .loop .inv .1) .1,
       λ b later. at-loop .loop .inv .2 b
           (bound-here (a .n) (at-loop .loop .low) (a .t2) (a .t3) i (omega arith) (omega arith) here b (rw (c .bound-after .ensures) at later)),
     )

@@ -2,14 +2,15 @@
 use Rattle.constraint.proofs.Library.{Bool, _-_, _≤_, arith, false, true}
 use Rattle.constraint.proofs.Judged.{failed, free, passed}
 use Rattle.constraint.specs.Records.{Decides}
-use Rattle.table_row.specs.{Questions.Each, Questions.InRange, Records.fieldsFrom}
+use Rattle.constraint.specs.Accepted.{EachField, FieldInRange}
+use Rattle.table_row.specs.Records.{fieldsFrom}
 use Rattle.table_row.proofs.FieldByField.{field-here, field-parts, fields-end}
 use Rattle.table_row.proofs.fields.ranges_fit.Statement.{statement}
 use Rattle.table_row.proofs.fields.ranges_fit.Tie as tie
 
 abbrev Inv-loop : tie.InvT-loop
 Inv-loop roles values i₀ i =
-    (i ≤ 18) × ((b : Bool) → Decides (Each InRange (fieldsFrom roles values i)) b → Decides (Each InRange (fieldsFrom roles values 0)) b)
+    (i ≤ 18) × ((b : Bool) → Decides (EachField FieldInRange (fieldsFrom roles values i)) b → Decides (EachField FieldInRange (fieldsFrom roles values 0)) b)
 
 abbrev μ-loop : tie.MeasureT-loop
 μ-loop roles values i₀ i = 18 - i
@@ -19,14 +20,14 @@ returns c =
     let at-loop = c .before .before .before in let a = at-loop .before .args in let test = c .before .range-fits in
     at-loop .loop .inv .1 false
     (λ all. failed (test .result) (test .ensures) (c .if1 .taken)
-    (field-parts InRange (a .t1) (a .t2) (at-loop .loop .i) (omega arith) (omega arith) all .0))
+    (field-parts FieldInRange (a .t1) (a .t2) (at-loop .loop .i) (omega arith) (omega arith) all .0))
 
 loop-again : tie.Need-loop-again Inv-loop μ-loop
 loop-again c =
     let at-loop = c .before .before .before in let a = at-loop .before .args in let test = c .before .range-fits in
     let here = passed (test .result) (test .ensures) (c .if1 .left) in (
       omega arith,
-      λ b later. at-loop .loop .inv .1 b (field-here InRange (a .t1) (a .t2) (at-loop .loop .i) (omega arith)
+      λ b later. at-loop .loop .inv .1 b (field-here FieldInRange (a .t1) (a .t2) (at-loop .loop .i) (omega arith)
           (omega arith) here b later),
     )
 

@@ -3,7 +3,7 @@ use Rattle.constraint.proofs.Library.{_<_, _≡_, _≤_, List·getD-eq-default,
 use Rattle.constraint.proofs.Lengths.{at-most}
 use Rattle.constraint.proofs.Judged.{same-test, test-le}
 use Rattle.constraint.specs.Steps.{at}
-use Rattle.table_row.specs.Format.{lastTypes, leastCounts, mostCounts, takesCount}
+use Rattle.constraint.specs.Types.{lastTypes, leastCounts, mostCounts, takesCount}
 use Rattle.table_row.proofs.types.type_known.Statement.{statement}
 use Rattle.table_row.proofs.types.type_known.Tie as tie
 

@@ -1,12 +1,12 @@
 // The monitor by value: a table's rows, and how events, ticks and the close step them.
 use constraint::Answer;
 use constraint::Call;
-use table_row::Table;
 use constraint::Verdict;
 pub use questions::Undo;
 use row::Row;
 use row::RowUndo;
 use row_type::parts::plus;
+use table_row::Table;
 ghost use mathlib.Core.Path.{_≡_};
 ghost use Rattle.constraint.specs.Run.{asks, withdraws};
 ghost use Rattle.constraint.specs.declared.Call.{Call};

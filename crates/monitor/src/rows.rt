@@ -1,10 +1,10 @@
 // The rows of a monitor, one after the other: made from a table, and after a step.
 use crate::Monitor;
-use table_row::Table;
-use table_row::TableRow;
 use row::Row;
 use row::RowUndo;
 use row::StepInput;
+use table_row::Table;
+use table_row::TableRow;
 ghost use mathlib.Core.Path.{_≡_};
 ghost use Prim.Native.Nat.{_≤_, min};
 ghost use lib.ListN.{take};

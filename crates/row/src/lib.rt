@@ -83,7 +83,7 @@ impl Row {
         let now = State {
             registers: parts::no_registers(),
             head: 0,
-            len: from_constraint::start_word_count(row),
+            len: from_constraint::start_word_count(parameters),
             due: NO_LIMIT,
             kept: 1,
             broken: 0,

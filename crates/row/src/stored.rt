@@ -3,7 +3,6 @@ use crate::Row;
 use crate::RowUndo;
 use crate::StepInput;
 use crate::concerns;
-use table_row::TableRow;
 use constraint::WAITING_LIMIT;
 use ring::SIZE;
 use ring::minus;
@@ -15,6 +14,7 @@ use row_type::parts::smaller;
 use row_type::row_words;
 use row_type::row_words::parameters_at;
 use row_type::row_words::registers_at;
+use table_row::TableRow;
 // begin imports: made by release/row-types.py
 use delay_order::delay;
 use delay_order::order;

@@ -1,11 +1,13 @@
 -- What each row type proves of its machine, so that code and proofs that step rows never look inside a type.
-use Rattle.row_type.proofs.Names.{Accepts, Bool, Change, Constraint, InRange, KindsFit, KindsSuit, List, LowerFirst, Registers, Meets, Open}
+use Rattle.row_type.proofs.Names.{Accepts, Bool, Change, Constraint, InRange, KindsFit, Known, KindsSuit, List, LowerFirst, Registers, Meets}
+use Rattle.row_type.proofs.Names.{Open}
 use Rattle.row_type.proofs.Names.{Past}
 use Rattle.row_type.proofs.Names.{Step, [], _++_, _<_, _∷_, _≡_, _≤_, at, changed, clock, closed, cond, event, false, kinds, lastTime, length}
 use Rattle.row_type.proofs.Names.{noLimit, noRegisters, own, parametersOf, startWords, streams, tick, true, waiting, waitingLimit, waitsIn, ℕ}
 
--- a row whose answers to questions 5, 18, 6 and 7 are yes
+-- a row whose answers to questions 4, 5, 18, 6 and 7 are yes
 pub record Sound (c : Constraint) : Type 0 where
+  pub known : Known c
   pub kinds-fit : KindsFit (kinds c)
   pub kinds-suit : KindsSuit c
   pub in-range : InRange c
@@ -50,7 +52,7 @@ pub record Exact (c : Constraint) (decide : Registers → List ℕ → ℕ → �
   pub due : Registers → List ℕ → ℕ
   pub kept : Registers → List ℕ → Bool
   -- Start
-  pub start : Starts (Live []) due kept (startWords (parametersOf c))
+  pub start : Starts (Live []) due kept (startWords c)
   -- Events: one that comes in time either leaves no continuation or leaves the row going on
   pub does : {steps : List Step} {registers : Registers} {times : List ℕ} {k t : ℕ} → Past steps → Live steps registers times → OfStream c k
       → Accepts steps (event k t) → t ≤ due registers times

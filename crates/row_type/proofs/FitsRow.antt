@@ -1,12 +1,12 @@
 -- What a row asks of a machine beside that it is exact: its words keep all that a step changes, and how many times it keeps tells when an event would
 -- let more wait than its 64 places hold. What the proofs of several types share is by cases on the edit of a change.
 use Rattle.row_type.proofs.Names.{Bool, Change, Drop, List, Machine, Registers, Parameters, Store, [], _++_, _+_, _-_, _<_, _∷_, _≡_, _≤_}
-use Rattle.row_type.proofs.Names.{arith}
+use Rattle.row_type.proofs.Names.{arith, at-most}
 use Rattle.row_type.proofs.Names.{breaking, changed, cond, continuesWith, countsSaved, drop, eachTaken, eqb, false, neverOverflows}
 use Rattle.row_type.proofs.Names.{firstThreeSaved}
 use Rattle.row_type.proofs.Names.{lastSaved, le-ltb, length, length-append, length-drop, length-set, lt-ltb, ltb, ltb-false, ltb-true}
 use Rattle.row_type.proofs.Names.{noMachine}
-use Rattle.row_type.proofs.Names.{noRegisters, noneSaved, noneTaken, refl, set, split, sym, true, waitingLimit, startWordCount, ℕ}
+use Rattle.row_type.proofs.Names.{noRegisters, noneSaved, noneTaken, refl, set, split, sym, true, waitingLimit, startWordCount, wordCounts, ℕ}
 
 -- ---- the marks
 
@@ -162,12 +162,5 @@ free-second n l b c = rw (lt-ltb n 64 l) (neither b)
 
 -- ---- the words that a row has from the start
 
-few-by : (b : Bool) (n m : ℕ) → n ≤ waitingLimit → m ≤ waitingLimit → cond b n m ≤ waitingLimit
-few-by true n m p q = p
-few-by false n m p q = q
-
 pub words-few : (parameters : Parameters) → startWordCount parameters ≤ waitingLimit
--- begin start words: made by release/row-types.py
-words-few parameters = few-by (eqb (parameters .tag) 9) 16 _ (omega arith) (omega arith)
-
--- end start words
+words-few parameters = at-most waitingLimit wordCounts (omega arith) (parameters .tag)

@@ -1,6 +1,7 @@
 -- What each row type proves of its machine, and what several types share.
 mod Names
 pub mod FieldNumbers
+pub mod RowNumbers
 pub mod Exact
 pub mod FitsRow
 pub mod SeveralKinds

@@ -8,19 +8,18 @@ pub use Rattle.constraint.proofs.Library.{leb, leb-false, leb-true, length, len
 pub use Rattle.constraint.proofs.Library.{ltb-true, ne-eqb, needs, refl, replicate, set, subst, subst₂, suc, sym, take, take-take, transport, true}
 pub use Rattle.constraint.proofs.Library.{true≢false, zero, ℕ, ⊎-elim}
 pub use Rattle.constraint.proofs.Lists.{Each, Rising, at-left, at-next, both, each-cons, each-none, or-true, rising-by, rising-snoc, split}
-pub use Rattle.constraint.proofs.{FieldByField.fields-end, FieldByField.fields-next, Streams.streams}
+pub use Rattle.constraint.proofs.{Lengths.at-most, Streams.streams, Streams.streamsIn}
 pub use Rattle.constraint.specs.Accepted.{InRange, KindsSuit, LowerFirst, kinds, kindsIn}
 pub use Rattle.constraint.specs.Limits.{lastKind, lastTime, noLimit, streamCount, waitingLimit}
 pub use Rattle.constraint.specs.Meets.{Apart, AtLeastApart, Meets}
-pub use Rattle.constraint.specs.Records.{HoldsRow, byteField, bytesFrom, fieldAt, fieldsAs, isKind, timeField, timesFrom}
 pub use Rattle.constraint.specs.Steps.{Step, at, clock, closed, event, own, tick}
-pub use Rattle.constraint.specs.Types.{Field, byte, coloured, count, fieldsOf, jitter, kind, len, lower, minimum, plain, span, time, tolerance}
-pub use Rattle.constraint.specs.Types.{typeOf, upper, upper-or-none}
-pub use Rattle.constraint.specs.{Continuation.Open, Continuation.stop, Waiting.waiting, declared.Constraint.Constraint, declared.fields.Fields.Fields}
+pub use Rattle.constraint.specs.Types.{Field, Known, byte, coloured, count, fieldsOf, jitter, kind, kindFields, left, len, lower, minimum, offset}
+pub use Rattle.constraint.specs.Types.{plain, right, span, time, tolerance, typeOf, upper, upper-or-none}
+pub use Rattle.constraint.specs.{Continuation.Open, Continuation.stop, Waiting.waiting, Constraint.Constraint}
 pub use Rattle.row_type.specs.Machine.{Machine, eachTaken, neverOverflows, noMachine, noneTaken}
 pub use Rattle.row_type.specs.Parts.{breaking, continuesWith, dueOldest, dueOr, farEnough, front, noRegisters, none-left, plus}
 pub use Rattle.row_type.specs.Parameters.{noFields, noKind, parametersOf, startWords, waitsIn, withField, withFields, withKind, withLimits}
-pub use Rattle.row_type.specs.Parameters.{startWordCount}
+pub use Rattle.row_type.specs.Parameters.{startWordCount, wordCounts}
 pub use Rattle.row_type.specs.Words.{countsSaved, firstThreeSaved, lastSaved, noneSaved, undoOf}
 pub use Rattle.row_type.specs.{declared.Change.Change, declared.Registers.Registers, declared.Parameters.Parameters}
 pub use Rattle.ring.proofs.{Laws.ring-cons, Laws.ring-from, Laws.ring-length, Laws.ring-spent, Shared.free, Shared.leb-same}

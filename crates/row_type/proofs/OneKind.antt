@@ -25,7 +25,7 @@ pub record OneKind (c : Constraint) (decide : Registers → List ℕ → ℕ →
   pub Keeps : List ℕ → Registers → List ℕ → Type 0
   pub due : Registers → List ℕ → ℕ
   pub one-kind : streams c ≡ kind ∷ []
-  pub no-words : startWords (parametersOf c) ≡ []
+  pub no-words : startWords c ≡ []
   pub meets : (steps : List Step) → Meets c steps ↔ Says (times kind steps) (clock steps)
   pub none-waits : waitsIn (parametersOf c .tag) ≡ false
   pub waits-none : (steps : List Step) → waiting c steps ≡ 0
@@ -51,7 +51,7 @@ module _ (c : Constraint) (decide : Registers → List ℕ → ℕ → ℕ → C
 
   -- ---- Start
 
-  start : Starts (Live []) (r .due) always (startWords (parametersOf c))
+  start : Starts (Live []) (r .due) always (startWords c)
   unfolding times
   start = rw (r .no-words) (record { live = r .keeps-none; due-is = r .due-none; kept-is = refl })
 

@@ -58,7 +58,7 @@ pub record OfTwoKinds (c : Constraint) (source target : ℕ) (Meet : List ℕ �
   pub kinds-are : kinds c ≡ source ∷ target ∷ []
   pub streams-are : streams c ≡ source ∷ target ∷ []
   pub kinds-fit : KindsFit (kinds c)
-  pub no-words : startWords (parametersOf c) ≡ []
+  pub no-words : startWords c ≡ []
   pub meets-are : (steps : List Step) → Meets c steps ≡ Meet (times source steps) (times target steps)
   pub waits-are : waitsIn (parametersOf c .tag) ≡ waits-in
   pub waiting-is : (steps : List Step) → waiting c steps ≡ wait (times source steps) (times target steps)
@@ -115,7 +115,7 @@ module _ {c : Constraint} {source target : ℕ} {Meet : List ℕ → List ℕ �
 
   -- ---- Start
 
-  pair-start : Starts (Live []) (laws .due) (laws .kept) (startWords (parametersOf c))
+  pair-start : Starts (Live []) (laws .due) (laws .kept) (startWords c)
   unfolding times
   pair-start = rw (of .no-words) (laws .start)
 

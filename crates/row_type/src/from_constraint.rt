@@ -1,7 +1,6 @@
 // A row of a table as numbers: the parameters of its type's machine, and the words that its ring has from the start.
 use crate::Parameters;
 use constraint::NO_LIMIT;
-use ring::SIZE;
 use table_row::TableRow;
 use table_row::fields::FIRST_BYTE;
 use table_row::fields::FIRST_TIME;
@@ -12,22 +11,43 @@ use table_row::fields::LOWER;
 use table_row::fields::MINIMUM;
 use table_row::fields::MOST_FIELDS;
 use table_row::fields::OFFSET;
-use table_row::fields::RIGHT;
 use table_row::fields::is_kind;
 use table_row::types::roles_of;
 ghost use mathlib.Core.Path.{_≡_};
-ghost use Rattle.constraint.specs.Table.{Known};
-ghost use Rattle.table_row.specs.Records.{fieldAt, fieldsAs, rowIn};
-ghost use Rattle.row_type.specs.Parameters.{noFields, withFields, parametersOf, startCount, startRing};
+ghost use mathlib.Core.List.{[], _∷_};
+ghost use mathlib.Core.Bool.{cond};
+ghost use lib.Dec.{ltb};
+ghost use Rattle.constraint.specs.Types.{Known, byte, time};
+ghost use Rattle.table_row.specs.Records.{byteRole, timeRole, fieldAt, fieldsAs, rowIn};
+ghost use Rattle.row_type.specs.Parameters.{noFields, withFields, parametersOf, startWordCount, startRing, firstConstant};
 
 // A kind that no event has.
 pub const NO_KIND: u8 = 64;
 
 // How many words a row has from the start, by the type byte.
-const START_COUNTS: [usize; 18] = [0, 0, 0, 0, 0, 0, 0, 0, 0, 16, 0, 0, 16, 40, 40, 8, 24, 0];
+const WORD_COUNTS: [usize; 18] = [0, 0, 0, 0, 0, 0, 0, 0, 0, 16, 0, 0, 16, 40, 40, 8, 24, 0];
 
 // The place from which on the values of a row are such words, by the type byte; 18 for none.
-const FIRST_CONSTANTS: [usize; 18] = [18, 18, 18, 18, 18, 18, 18, 18, 18, 18, 18, 18, 18, 18, 18, 5, 2, 18];
+const FIRST_CONSTANTS: [usize; 18] = [
+    18,
+    18,
+    18,
+    18,
+    18,
+    18,
+    18,
+    18,
+    18,
+    18,
+    18,
+    18,
+    18,
+    18,
+    18,
+    5,
+    2,
+    18,
+];
 
 // The numbers of a type without fields.
 fn no_fields(tag: u8) -> Parameters
@@ -65,7 +85,7 @@ fn with_byte(parameters: Parameters, role: u8, value: u64) -> Parameters
     next
 }
 
-// The numbers with a time: a tolerance is an upper, a length a lower without an upper limit. An offset, a left and a right are no number.
+// The numbers with a time: a tolerance and a right are an upper, a left a lower, a length a lower without an upper limit. An offset is no number.
 fn with_time(parameters: Parameters, role: u8, value: u64) -> Parameters
     ensures { λ r. ⌜ r ≡ withFields (time (timeRole role) value ∷ []) parameters ⌝ }
 {
@@ -91,9 +111,7 @@ fn with_time(parameters: Parameters, role: u8, value: u64) -> Parameters
         return next;
     }
     if role == LEFT {
-        return next;
-    }
-    if role == RIGHT {
+        next.lower = value;
         return next;
     }
     next.upper = value;
@@ -138,16 +156,36 @@ pub fn parameters_of(row: TableRow) -> Parameters
     with_fields(no_fields(tag), roles, values)
 }
 
-// How many words a row of a known type has from the start.
-pub fn start_word_count(row: TableRow) -> usize
-    requires { ⌜ Known (rowIn row) ⌝ }
-    ensures { λ r. ⌜ r ≡ startCount (rowIn row) ⌝ }
+// How many words a row has from the start.
+pub fn start_word_count(parameters: Parameters) -> usize
+    ensures { λ r. ⌜ r ≡ startWordCount parameters ⌝ }
 {
-    let place = row.tag as usize;
-    if START_COUNTS.len() <= place {
+    let place = parameters.tag as usize;
+    if WORD_COUNTS.len() <= place {
         return 0;
     }
-    START_COUNTS[place]
+    WORD_COUNTS[place]
+}
+
+// The place from which on the values of a row are words of its ring.
+fn first_constant(tag: u8) -> usize
+    ensures { λ r. ⌜ r ≡ firstConstant tag ⌝ }
+{
+    let place = tag as usize;
+    if FIRST_CONSTANTS.len() <= place {
+        return 0;
+    }
+    FIRST_CONSTANTS[place]
+}
+
+// The value of a place of a role, and 0 where the place is not used.
+fn used(role: u8, value: u64) -> u64
+    ensures { λ r. ⌜ r ≡ cond (ltb role 65) 0 value ⌝ }
+{
+    if role < FIRST_TIME {
+        return 0;
+    }
+    value
 }
 
 // The ring of a row of a known type before any step: its constants, and 0 in all other places.
@@ -158,26 +196,14 @@ pub fn start_ring(row: TableRow) -> [u64; 64]
     let tag = row.tag;
     let values = row.values;
     let n = values[0];
-    let mut times = [0u64; 64];
-    let first = first_constant(tag);
     let roles = roles_of(tag, n);
-    let mut i = first;
+    let mut times = [0u64; 64];
+    let mut next = 0;
+    let mut i = first_constant(tag);
     while i < MOST_FIELDS {
-        if FIRST_TIME <= roles[i] {
-            times[i - first] = values[i];
-        }
+        times[next] = used(roles[i], values[i]);
+        next += 1;
         i += 1;
     }
     times
-}
-
-// The place from which on the values of a row are words of its ring.
-fn first_constant(tag: u8) -> usize
-    ensures { λ r. ⌜ r ≡ firstConstant tag ⌝ }
-{
-    let place = tag as usize;
-    if FIRST_CONSTANTS.len() <= place {
-        return MOST_FIELDS;
-    }
-    FIRST_CONSTANTS[place]
 }

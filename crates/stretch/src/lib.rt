@@ -145,12 +145,7 @@ fn need_from(
 }
 
 // The same for each start.
-fn needs(
-    wanted: TableRow,
-    streams: &[u64; 256],
-    times: &[u64; 256],
-    count: usize,
-) -> [usize; 256]
+fn needs(wanted: TableRow, streams: &[u64; 256], times: &[u64; 256], count: usize) -> [usize; 256]
     requires { ⌜ count ≤ 256 ⌝ }
     ensures { λ r. ⌜ ((start : ℕ) → start < count → NeedsFrom constraint (now (streams .entry)) (now (times .entry)) count start (getD r start 0)) ⌝ }
 {

@@ -20,11 +20,11 @@ use Rattle.table_row.specs.Records.{rowRead, rolesOf, fieldsAs, entries,
 use Rattle.table_row.specs.Records.{noConstraint}
 
 -- what is shown of each of n numbers from i on, one after the other, is shown of all of them
-abbrev EachThen : (ℕ → Type 0) → Type 0 → ℕ → ℕ → Type 0
+abbrev pub EachThen : (ℕ → Type 0) → Type 0 → ℕ → ℕ → Type 0
 EachThen P R i zero = R
 EachThen P R i (suc n) = P i → EachThen P R (suc i) n
 
-each-then : (P : ℕ → Type 0) (R : Type 0) (i n : ℕ) → (((x : ℕ) → i ≤ x → x < i + n → P x) → R) → EachThen P R i n
+pub each-then : (P : ℕ → Type 0) (R : Type 0) (i n : ℕ) → (((x : ℕ) → i ≤ x → x < i + n → P x) → R) → EachThen P R i n
 each-then P R i zero then = then (λ x late less. absurd (omega arith))
 each-then P R i (suc n) then =
     λ here. each-then P R (suc i) n

@@ -93,7 +93,7 @@ module _ (roles values : List ℕ) (i : ℕ) (h : i < length roles) (k : i < len
 pub other-sorts : (r x : ℕ) → r ≢ 107 → r ≢ 99 → EachField KindClassFits (fieldAt r x)
 other-sorts r x no-kind uncoloured =
     by-role (EachField KindClassFits) r x (λ e. tt) (λ e. (tt, tt))
-        (λ e. other-byte (λ role. EachField KindClassFits (byte role x ∷ [])) r no-kind uncoloured (tt, tt) (λ limit. (tt, tt)))
+    (λ e. other-byte (λ role. EachField KindClassFits (byte role x ∷ [])) r no-kind uncoloured (tt, tt) (λ limit. (tt, tt)))
 
 -- Ranges
 

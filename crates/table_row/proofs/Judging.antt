@@ -78,7 +78,7 @@ first-field [] values long one = absurd (omega arith)
 first-field (r ∷ roles) [] long one = absurd (omega arith)
 first-field (r ∷ roles) (x ∷ values) long first =
     by-role (λ fs. width r ≡ 1 → firstOf (fs ++ fieldsAs roles values) ≡ x) r x (λ less one. absurd (small less one)) (λ less one. refl)
-        (λ more one. refl) first
+    (λ more one. refl) first
   where
     small : r < 65 → width r ≡ 1 → ⊥
     small less one = let none : width r ≡ 0 = rw (lt-ltb r 65 less) in omega (arith, one, none)

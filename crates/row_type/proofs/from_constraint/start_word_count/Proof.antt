@@ -1,13 +1,11 @@
--- The tests are those of `startWordCount`, in its order; made by release/row-types.py
-use borrow.Author.Tests.{eq-eqb, ne-eqb}
+-- The list is looked up where the definition looks it up; past its end there is no type.
+use Rattle.constraint.proofs.Library.{List·getD-eq-default, needs, sym}
 use Rattle.row_type.proofs.from_constraint.start_word_count.Statement.{statement}
 use Rattle.row_type.proofs.from_constraint.start_word_count.Tie as tie
-
-returns : tie.Need-returns
-returns c = rw (eq-eqb _ _ (c .if1 .taken))
-
-returns-2 : tie.Need-returns-2
-returns-2 c = rw (ne-eqb _ _ (c .if1 .left))
+use Rattle.row_type.specs.Parameters.{wordCounts}
 
 pub start-word-count-spec : {M : Type 1} → statement M
-start-word-count-spec = tie.close (tie.spec returns returns-2)
+start-word-count-spec =
+    tie.close
+    (tie.spec (λ c. sym (List·getD-eq-default wordCounts 0 {n = c .before .args .parameters .tag} (c .if1 .taken))) (λ c. search needs)
+    (λ c. search needs) (λ c. search needs))

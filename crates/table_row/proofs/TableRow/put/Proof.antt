@@ -42,7 +42,7 @@ returns c =
     let at-fields = c .before .before in let at-byte = at-fields .before .before .before .before in let at-two = at-byte .before .before .before .before in
     let at-size = at-two .before .before in let start = at-size .before .before .before .before in let row = start .args .self in
     row-stores (start .pre .0 .0) (row .tag) (row .values) (size start) (known start) (now (start .args .buffer)) _ _ _ (start .args .place) _
-        (long at-size)
+    (long at-size)
     (at-two .put-two .ensures) (at-byte .put-byte .ensures)
     (at-fields .put-fields .ensures
     ∙ ap (λ (r : List ℕ). sets (at-byte .put-byte .last .0) (start .args .place + 3) (fieldsBytes (fieldsAs r (row .values)))) (at-size .before .roles-of .ensures))

@@ -31,7 +31,7 @@ asked-5 : (c : tie.After-roles-of) → Answers c (askedWith (n c) (fields c))
 asked-5 c a h =
     let args = c .before .before .before .before .args in let test = c .before .before .type-known in
     row-asked (args .edition) (args .self .tag) (args .self .values) (size (c .before .before .before .before))
-        (passed (test .result) (test .ensures) (c .before .if1 .left)) a
+    (passed (test .result) (test .ensures) (c .before .if1 .left)) a
     (subst (λ (r : List ℕ). Judged (askedWith (n c) (fieldsAs r (args .self .values))) a) (c .roles-of .ensures) h)
 
 asked-18 : (c : tie.Else2)

@@ -16,7 +16,7 @@ returns-7 : tie.Need-returns-7
 returns-7 c =
     let four = c .before .before in let one = four .before .before .before in let a = one .before .args in
     same-bound (a .role) (a .value) (a .low) (four .before .before .if2 .left) (four .before .if3 .left) (four .if4 .left) (c .if6 .left)
-        (one .if1 .left) (c .before .if5 .left)
+    (one .if1 .left) (c .before .if5 .left)
 
 pub bound-after-spec : {M : Type 1} → statement M
 bound-after-spec =

@@ -26,7 +26,7 @@ returns-5 : tie.Need-returns-5
 returns-5 c =
     let a = c .before .before .before .before .args in
     other-bound (a .role) (a .value) (a .low) (c .before .before .before .if1 .left) (c .before .before .if2 .left) (c .before .if3 .left) (c .if4 .left)
-        (a .n)
+    (a .n)
 
 pub bound-fits-spec : {M : Type 1} → statement M
 bound-fits-spec = tie.close (tie.spec returns returns-2 returns-3 free returns-4 returns-5)

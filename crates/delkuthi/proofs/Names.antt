@@ -21,7 +21,7 @@ pub use Rattle.constraint.specs.Table.{ReadsRows, ReadsTableUpTo, TableRead, bo
 pub use Rattle.constraint.specs.{Accepted.Accepted, Bytes.Bytes, Limits.lastCount, Limits.rowLimit, Promise.ReadsRow, Promise.no-row, Promise.row}
 pub use Rattle.constraint.specs.{Questions.Question, Steps.Step, Steps.at, Steps.close, Types.lastType, Types.typeOf, declared.Answer.Answer}
 pub use Rattle.constraint.specs.{declared.Answer.the-variants.Refused, declared.Answer.the-variants.Taken, declared.Call.Call}
-pub use Rattle.constraint.specs.{declared.Constraint.Constraint, declared.Constraint.the-variants.Repeat, declared.JoinAnswer.JoinAnswer}
+pub use Rattle.constraint.specs.{Constraint.Constraint, Constraint.Repeat, declared.JoinAnswer.JoinAnswer}
 pub use Rattle.constraint.specs.{declared.StampedAnswer.StampedAnswer, declared.Verdict.Verdict}
 pub use Rattle.delkuthi.specs.Decoded.{Decodes, joinRest, joinSecond, numberIn, readRefusal, readRest, restIn, secondIn, stampedRefusal}
 pub use Rattle.delkuthi.specs.Decoded.{stampedRest, tableRest, toldOf}

@@ -8,7 +8,7 @@ use lib.ListN.{length}
 use Rattle.constraint.specs.Accepted.{Accepted}
 use Rattle.constraint.specs.Run.{Request, Left}
 use Rattle.constraint.specs.Promise.{ReadsRow}
-use Rattle.constraint.specs.declared.Constraint.{Constraint}
+use Rattle.constraint.specs.Constraint.{Constraint}
 use Rattle.constraint.specs.declared.Verdict.{Verdict}
 use Rattle.monitor.specs.Machine.{verdictOf}
 use Rattle.monitor.specs.Contract.{after, Remains, stepIn}

@@ -7,7 +7,7 @@ use Rattle.constraint.specs.Limits.{rowLimit}
 use Rattle.constraint.specs.Run.{Request, Left}
 use Rattle.constraint.specs.Accepted.{Accepted}
 use Rattle.constraint.specs.Page.{pageText, Pages}
-use Rattle.constraint.specs.declared.Constraint.{Constraint}
+use Rattle.constraint.specs.Constraint.{Constraint}
 use Rattle.text.specs.Content.{Copied}
 use Rattle.monitor.specs.Machine.{noRow}
 use Rattle.monitor.specs.Contract.{after, Remains}

@@ -10,7 +10,7 @@ use Rattle.constraint.specs.Accepted.{Accepted}
 use Rattle.constraint.specs.Run.{Request, Left}
 use Rattle.constraint.specs.Report.{closedText, EachReads, ReportsUpTo}
 use Rattle.constraint.specs.Table.{ReadsTableUpTo, table-of, table-refused}
-use Rattle.constraint.specs.declared.Constraint.{Constraint}
+use Rattle.constraint.specs.Constraint.{Constraint}
 use Rattle.constraint.specs.declared.Verdict.{Verdict}
 use Rattle.text.specs.Content.{Copied}
 use Rattle.monitor.specs.Contract.{after, Remains}

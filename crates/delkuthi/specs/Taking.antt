@@ -10,7 +10,7 @@ use Rattle.constraint.specs.Recording.{ReadsRecording}
 use Rattle.constraint.specs.declared.Answer.the-variants.{Taken}
 use Rattle.constraint.specs.Run.{stepFor, asks}
 use Rattle.constraint.specs.declared.Call.{Call}
-use Rattle.constraint.specs.declared.Constraint.{Constraint}
+use Rattle.constraint.specs.Constraint.{Constraint}
 use Rattle.monitor.specs.Contract.{after}
 use Rattle.monitor.specs.Beside.{TakesAll}
 use Rattle.in_place.specs.Contract.{HoldsMonitor}

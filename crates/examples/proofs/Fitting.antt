@@ -9,7 +9,7 @@ use Rattle.constraint.specs.Accepted.{kinds, KindsFit, KindClassesFit, KindsSui
 use Rattle.constraint.specs.Accepted.{rowQuestionsIn, rowsQuestions, Accepted}
 use Rattle.constraint.specs.Records.{Absent}
 use Rattle.constraint.specs.declared.Answer.the-variants.{Taken}
-use Rattle.constraint.specs.declared.Constraint.{Constraint}
+use Rattle.constraint.specs.Constraint.{Constraint}
 use Rattle.constraint.proofs.FittingKinds.{kinds-none, kinds-more}
 use Rattle.constraint.proofs.Lists.{both, or-true}
 

@@ -9,7 +9,7 @@ use Rattle.constraint.specs.declared.Answer.{Answer}
 use Rattle.constraint.specs.declared.Answer.the-variants.{Taken}
 use Rattle.constraint.specs.declared.Call.{Call}
 use Rattle.constraint.specs.declared.Call.the-variants.{Tick}
-use Rattle.constraint.specs.declared.Constraint.{Constraint}
+use Rattle.constraint.specs.Constraint.{Constraint}
 use Rattle.constraint.specs.declared.Verdict.{Verdict}
 use Rattle.constraint.specs.declared.Verdict.the-variants.{Open, Broken}
 use Rattle.constraint.specs.Examples.{Example}

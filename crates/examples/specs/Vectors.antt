@@ -9,9 +9,9 @@ use Rattle.constraint.specs.declared.Answer.{Answer}
 use Rattle.constraint.specs.declared.Answer.the-variants.{Taken, Refused}
 use Rattle.constraint.specs.declared.Call.{Call}
 use Rattle.constraint.specs.declared.Call.the-variants.{Event, ColouredEvent, Tick, Close}
-use Rattle.constraint.specs.declared.Constraint.{Constraint}
-use Rattle.constraint.specs.declared.Constraint.the-variants.{Delay, Repeat, Sporadic, Burst, ExecutionTime, Reaction, Repetition}
-use Rattle.constraint.specs.declared.Constraint.the-variants.{Synchronization2, Synchronization3, Synchronization4}
+use Rattle.constraint.specs.Constraint.{Constraint}
+use Rattle.constraint.specs.Constraint.{Delay, Repeat, Sporadic, Burst, ExecutionTime, Reaction, Repetition}
+use Rattle.constraint.specs.Constraint.{Synchronization2, Synchronization3, Synchronization4}
 use Rattle.constraint.specs.declared.Verdict.the-variants.{Open, Kept, Broken}
 
 -- §5.1.6, §5.1.7; CR 1: Delays without an upper limit

@@ -21,8 +21,8 @@ pub use Rattle.constraint.specs.Steps.{Step, at, clock, close, event, tick}
 pub use Rattle.constraint.specs.{Accepted.Accepted, Accepted.AcceptedIn, Meets.Meets, Promise.Promise, Promise.ReadsRow, Promise.no-row, Promise.row}
 pub use Rattle.constraint.specs.{Questions.Question, Records.filler, Records.rowsOf, Streams.stream, Waiting.waiting, declared.Answer.Answer}
 pub use Rattle.constraint.specs.{declared.Answer.the-variants.Refused, declared.Answer.the-variants.Taken, declared.Call.Call}
-pub use Rattle.constraint.specs.{declared.Constraint.Constraint, declared.Constraint.the-variants.Delay, declared.Constraint.the-variants.Repeat}
-pub use Rattle.constraint.specs.{declared.Constraint.the-variants.Sporadic, declared.Entry.Entry, declared.Table.Table, declared.Verdict.Verdict}
+pub use Rattle.constraint.specs.{Constraint.Constraint, Constraint.Delay, Constraint.Repeat}
+pub use Rattle.constraint.specs.{Constraint.Sporadic, declared.Entry.Entry, declared.Table.Table, declared.Verdict.Verdict}
 pub use Rattle.row_type.specs.{Parts.plus, Parameters.parametersOf}
 pub use Rattle.monitor.specs.Beside.{Beside, EachBeside, NoneFull, OtherAt, OwnStream, TakesAll, allTaken, answersTo, closes, no-more, others}
 pub use Rattle.monitor.specs.Beside.{place, same-event}

@@ -12,7 +12,7 @@ use Rattle.constraint.specs.Promise.{play}
 use Rattle.constraint.specs.declared.Answer.{Answer}
 use Rattle.constraint.specs.declared.Answer.the-variants.{Taken, Refused}
 use Rattle.constraint.specs.declared.Call.{Call}
-use Rattle.constraint.specs.declared.Constraint.{Constraint}
+use Rattle.constraint.specs.Constraint.{Constraint}
 use Rattle.monitor.specs.Machine.{monitorOf}
 use Rattle.monitor.specs.Contract.{step}
 

@@ -10,7 +10,7 @@ use Rattle.constraint.specs.Run.{Request, asks, withdraws, Left, noneLeft, requ
 use Rattle.constraint.specs.Promise.{Outcome, ReadsRow, play}
 use Rattle.constraint.specs.declared.Answer.{Answer}
 use Rattle.constraint.specs.declared.Answer.the-variants.{Taken, Refused}
-use Rattle.constraint.specs.declared.Constraint.{Constraint}
+use Rattle.constraint.specs.Constraint.{Constraint}
 use Rattle.constraint.specs.declared.Table.{Table}
 use Rattle.constraint.specs.declared.Verdict.{Verdict}
 use Rattle.monitor.specs.Machine.{monitorOf, stepOf, withdrawOf, verdictOf}

@@ -10,7 +10,7 @@ use Rattle.constraint.specs.Limits.{streamCount, rowLimit}
 use Rattle.constraint.specs.Records.{filler}
 use Rattle.constraint.specs.declared.Answer.the-variants.{Taken, Refused}
 use Rattle.constraint.specs.declared.Call.{Call}
-use Rattle.constraint.specs.declared.Constraint.{Constraint}
+use Rattle.constraint.specs.Constraint.{Constraint}
 use Rattle.constraint.specs.declared.Verdict.{Verdict}
 use Rattle.row_type.specs.Parts.{plus}
 use Rattle.row.specs.Machine.{rowOf, rowStep, rowVerdict}

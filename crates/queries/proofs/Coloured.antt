@@ -9,11 +9,11 @@ use Rattle.constraint.specs.Run.{stepFor, questions, Request, Left}
 use Rattle.constraint.specs.Waiting.{waiting}
 use Rattle.constraint.specs.declared.Answer.the-variants.{Refused}
 use Rattle.constraint.specs.declared.Call.{Call}
-use Rattle.constraint.specs.declared.Constraint.{Constraint}
+use Rattle.constraint.specs.Constraint.{Constraint}
 -- begin imports: made by release/row-types.py
-use Rattle.constraint.specs.declared.Constraint.the-variants.{Delay, StrongDelay, Repeat, Sporadic, Burst, Order, StrongSynchronization2}
-use Rattle.constraint.specs.declared.Constraint.the-variants.{StrongSynchronization3, StrongSynchronization4, ExecutionTime, Reaction, Repetition}
-use Rattle.constraint.specs.declared.Constraint.the-variants.{Synchronization2, Synchronization3, Synchronization4}
+use Rattle.constraint.specs.Constraint.{Delay, StrongDelay, Repeat, Sporadic, Burst, Order, StrongSynchronization2}
+use Rattle.constraint.specs.Constraint.{StrongSynchronization3, StrongSynchronization4, ExecutionTime, Reaction, Repetition}
+use Rattle.constraint.specs.Constraint.{Synchronization2, Synchronization3, Synchronization4}
 -- end imports
 use Rattle.constraint.proofs.Streams.{streams}
 use Rattle.constraint.proofs.History.{own-other}

@@ -11,7 +11,7 @@ pub use Rattle.constraint.specs.Limits.{firstColoured, lastColour, lastCount, l
 pub use Rattle.constraint.specs.Steps.{Step, clock, closed, own, tick}
 pub use Rattle.constraint.specs.{Continuation.Open, Questions.Question, Run.asks, Run.stepFor}
 pub use Rattle.constraint.specs.{Run.withdraws, declared.Answer.Answer, declared.Answer.the-variants.Refused}
-pub use Rattle.constraint.specs.{declared.Answer.the-variants.Taken, declared.Call.Call, declared.Constraint.Constraint}
+pub use Rattle.constraint.specs.{declared.Answer.the-variants.Taken, declared.Call.Call, Constraint.Constraint}
 pub use Rattle.in_place.proofs.{Blocks.row-lies, Parts.number-at}
 pub use Rattle.in_place.specs.Layout.{Lent, Shaped, Words, endOf, heldRows, keptAt, rowAt, startOf}
 pub use Rattle.in_place.specs.{Contract.HoldsMonitor, Contract.Indexes, Contract.ReadOff, Contract.Takes, Contract.namedRows, Contract.rowsOfKind}

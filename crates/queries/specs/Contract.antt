@@ -17,7 +17,7 @@ use Rattle.constraint.specs.Run.{stepFor, questions, Request, Left}
 use Rattle.queries.specs.Deadlines.{RowDeadline, LeastDeadline}
 use Rattle.constraint.specs.declared.Answer.the-variants.{Refused}
 use Rattle.constraint.specs.declared.Call.{Call}
-use Rattle.constraint.specs.declared.Constraint.{Constraint}
+use Rattle.constraint.specs.Constraint.{Constraint}
 use Rattle.row.specs.Machine.{mark}
 use Rattle.monitor.specs.Contract.{after, Remains}
 use Rattle.monitor.specs.declared.Monitor.{Monitor}

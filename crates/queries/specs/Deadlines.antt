@@ -9,7 +9,7 @@ use lib.ListN.{getElem?}
 use Rattle.constraint.specs.Limits.{lastTime, noLimit}
 use Rattle.constraint.specs.Steps.{Step, tick, clock, closed}
 use Rattle.constraint.specs.Continuation.{Open}
-use Rattle.constraint.specs.declared.Constraint.{Constraint}
+use Rattle.constraint.specs.Constraint.{Constraint}
 
 -- what holds for each tick to a time after the clock and up to the last time
 abbrev pub EachTick : List Step → (ℕ → List Step → Type 0) → Type 0

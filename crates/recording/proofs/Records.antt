@@ -5,7 +5,7 @@ use Rattle.constraint.proofs.{History.closed-event, History.closed-tick, Judged
 use Rattle.constraint.specs.Recording.{RecordAt, callAt, callOf, colourIn, recordQuestions}
 use Rattle.constraint.specs.Steps.{Step, at, closed}
 use Rattle.constraint.specs.{Bytes.numberAt, Questions.Judged, Run.questions, Run.stepFor, Streams.stream, Table.bodyAt, Table.lengthAt}
-use Rattle.constraint.specs.{declared.Answer.Answer, declared.Answer.the-variants.Refused, declared.Call.Call, declared.Constraint.Constraint}
+use Rattle.constraint.specs.{declared.Answer.Answer, declared.Answer.the-variants.Refused, declared.Call.Call, Constraint.Constraint}
 use Rattle.recording.specs.Record.{CallAt, ReadsCall, ReadsRecord, noRecord}
 
 -- A record's own stretch

@@ -1,10 +1,10 @@
 -- Laws of `ring`, the times of a list of 64 from a place on, and of what an edit makes of a ring.
 use Rattle.ring.proofs.Names.{Bool, Drop, Edit, List, Push, PushTwo, Ring, Store, [], _%_, _++_, _+_, _-_, _<_, _∙_, _∷_, _≡_, _≢_, _≤_, _⊎_}
 use Rattle.ring.proofs.Names.{add-assoc, add-one, add-suc, add-zero, ap, append-assoc, arith, by-cases, changed, cond, drop, drop-cons}
-use Rattle.ring.proofs.Names.{drop-of-length-le, dropRing, editPlace, edited, eqb, eqb-true, ext-getD, false, getD, getD-set-other}
-use Rattle.ring.proofs.Names.{getD-set-same, headAfter, inl, inr, items, le-ltb, length, length-append, length-drop, length-set, lt-ltb, ltb}
-use Rattle.ring.proofs.Names.{ltb-false, ltb-true, pushRing, putBack, putRing, refl, replicate, ring, ringOf, ringPlace, secondAt, set}
-use Rattle.ring.proofs.Names.{set-out, subst, suc, suc-add, sym, timeAt, true, twoFrom, zero, ℕ, ℕ-discrete, ⊎-elim}
+use Rattle.ring.proofs.Names.{drop-of-length-le, dropRing, editPlace, edited, eqb, eqb-true, ext-getD, false, getD, getD-set-other, getD-take}
+use Rattle.ring.proofs.Names.{getD-set-same, headAfter, inl, inr, items, le-ltb, length, length-append, length-drop, length-set, length-take-le, lt-ltb, ltb}
+use Rattle.ring.proofs.Names.{ltb-false, ltb-true, pushRing, putBack, putRing, refl, ring, ringOf, ringPlace, secondAt, set}
+use Rattle.ring.proofs.Names.{set-out, subst, suc, suc-add, sym, take, timeAt, true, twoFrom, zero, ℕ, ℕ-discrete, ⊎-elim}
 
 -- ---- Rings
 
@@ -72,16 +72,13 @@ unfolding ring
 ring-snoc l f zero = rw add-zero
 ring-snoc l f (suc n) = rw (add-suc, ← suc-add) (ap (λ (r : List ℕ). getD l (f % 64) 0 ∷ r) (ring-snoc l (suc f) n))
 
--- a ring of zeros
-zero-at : (n i : ℕ) → _≡_ {A = ℕ} (getD (replicate n 0) i 0) 0
-zero-at zero i = refl
-zero-at (suc n) zero = refl
-zero-at (suc n) (suc i) = zero-at n i
-
-pub ring-zeros : (m f n : ℕ) → ring (replicate m 0) f n ≡ replicate n 0
-unfolding ring
-ring-zeros m f zero = refl
-ring-zeros m f (suc n) = rw (zero-at m (f % 64), ring-zeros m (suc f) n)
+-- from the first place on it is the list
+pub ring-take : (l : List ℕ) (n : ℕ) → n ≤ 64 → n ≤ length l → ring l 0 n ≡ take n l
+ring-take l n few there =
+    ext-getD 0 (ring l 0 n) (take n l) (ring-length l 0 n ∙ sym (length-take-le n l there))
+    (λ i h. let inside : i < n = rw ring-length at h in
+    let place : (0 + i) % 64 ≡ i = omega arith in
+    ring-at l 0 n i inside ∙ ap (λ j. getD l j 0) place ∙ sym (getD-take n l i 0 inside))
 
 -- a store outside, and one inside
 ring-set : (l : List ℕ) (f n p t : ℕ) → ((i : ℕ) → i < n → (f + i) % 64 ≢ p) → ring (set l p t) f n ≡ ring l f n

@@ -15,9 +15,9 @@ pub event-as-tick : (c : Constraint) → Sound c → (r : Row) → r .parameters
     → ¬ ((i : ℕ) × (i < length (kinds c)) × (at (kinds c) i ≡ kindOf s)) → rowStep r (eventAt s t) number ≡ rowStep r (tickAt t) number
 event-as-tick c sound r parameters s t number small other =
     unconcerned r (eventAt s t) (tickAt t) number
-    (of-parameters (kindOf s) (concerns-stream c s small
+    (of-parameters (kindOf s) (concerns-stream c (sound .known) s small
     ∙ split (among (kindOf s) (kinds c)) (λ b. b ≡ false) (λ e. absurd (other (among-where (kindOf s) (kinds c) e))) (λ e. refl)))
-    (of-parameters noEvent (concerns-none c (sound .kinds-fit))) refl refl
+    (of-parameters noEvent (concerns-none c sound)) refl refl
   where
     of-parameters : (j : ℕ) → concerns (parametersOf c) j ≡ false → concerns (r .parameters) j ≡ false
     of-parameters j e = ap (λ parameters. concerns parameters j) parameters ∙ e

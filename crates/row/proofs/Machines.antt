@@ -1,7 +1,6 @@
 -- Whatever the number of its type, a row's machine fits a row: each type's does, and so does that of no type.
 use Rattle.row.proofs.Names.{FitsRow, List, List·getD-eq-default, Machine, [], _+_, _<_, _∷_, _≡_, _≢_, _⊎_, arith, fits-none, getD, inl, inr}
 use Rattle.row.proofs.Names.{machineOf, machines, noMachine, refl, suc, zero, ℕ}
--- begin imports: made by release/row-types.py
 use Rattle.delay_order.proofs.Laws.Delay.{fitsDelay}
 use Rattle.delay_order.proofs.Laws.StrongDelay.{fitsStrongDelay}
 use Rattle.repeat_burst.proofs.Laws.Repeat.{fitsRepeat}
@@ -12,8 +11,6 @@ use Rattle.execution.proofs.Laws.ExecutionTime.{fitsExecutionTime}
 use Rattle.event_chain.proofs.Laws.Reaction.{fitsReaction}
 use Rattle.repetition.proofs.Laws.Repetition.{fitsRepetition}
 use Rattle.synchronizations.proofs.Laws.Synchronization.{fitsSynchronization}
-
--- end imports
 
 -- each of several machines fits a row, and so does the one of a number
 data EachFits : List Machine → Type 0 where
@@ -31,7 +28,6 @@ next k n above other = omega (arith, above, other)
 
 -- the numbers that the code does not name, which are those of no type
 abbrev pub NoneOf : ℕ → Type 0
--- begin fits: made by release/row-types.py
 NoneOf n =
     (((((((((Unit {0}
     × (n ≡ 1 → ⊥))
@@ -90,4 +86,3 @@ fits =
     (one-more fitsSynchronization
     none-more))))))))))))
 
--- end fits

@@ -7,9 +7,10 @@ use Rattle.row.proofs.Names.{clock-event, clock-tick, clockFrom, close,
 use Rattle.row.proofs.Names.{continues-closed, crowding, decide, edited, eqb, eqb-false, eqb-true, event, eventAt, false, inl, inr, items}
 use Rattle.row.proofs.Names.{items-edited, itemsOf, lastTime, le-ltb, length, lt-ltb, ltb, ltb-false, ltb-true, mark, meets-same, noEvent}
 use Rattle.row.proofs.Names.{open-at-tick, open-of-meets, own, own-close, own-other, own-tick, past-of, reads-broken, reads-kept, reads-open}
-use Rattle.row.proofs.Names.{refl, ring, ring-length, ring-zeros, ringOf, rowFrom, rowOf, rowStep, rowVerdict, parametersOf, split, stays}
+use Rattle.row.proofs.Names.{refl, ring, ring-length, ring-take, ringOf, rowFrom, rowOf, rowStep, rowVerdict, parametersOf, split, stays}
 use Rattle.row.proofs.Names.{streamCount, streams, subst, sym, tick, tickAt, times-edited, true, valid-more, waiting, waitingLimit, waitsIn}
 use Rattle.row.proofs.Names.{words-few, ℕ, ⊎-elim}
+use Rattle.row.proofs.Names.{constantsOf, length-replicate, length-take-le, replicate, startRing, startWordCount, startWords}
 use Rattle.row.proofs.Exact.{ByOutcome, Exact, GoesOn, Sound, Waits}
 use Rattle.row.proofs.OwnKinds.{among-own, concerns-none, concerns-own}
 
@@ -70,17 +71,24 @@ unfolding rowOf clockFrom closed
 fits-start c exact =
     record {
       parameters-is = refl;
-      whole = refl;
+      whole = whole;
       state = inl (record {
         unbroken = refl;
-        live = rw (ring-zeros 64 0 _) (exact .start .live);
-        due-is = rw (ring-zeros 64 0 _) (exact .start .due-is);
-        kept-is = rw (ring-zeros 64 0 _) (ap mark (exact .start .kept-is));
+        live = rw from-start (exact .start .live);
+        due-is = rw from-start (exact .start .due-is);
+        kept-is = rw from-start (ap mark (exact .start .kept-is));
         in-time = omega arith;
         room = words-few (parametersOf c);
         met = λ e. both (sym e);
       });
     }
+  where
+    whole : length (startRing c) ≡ 64
+    whole =
+        length-take-le 64 (constantsOf c ++ replicate 64 0) (omega (arith, length-append (constantsOf c) (replicate 64 0), length-replicate 64 0))
+
+    from-start : ring (startRing c) 0 (startWordCount (parametersOf c)) ≡ startWords c
+    from-start = let few = words-few (parametersOf c) in ring-take (startRing c) (startWordCount (parametersOf c)) few (omega (arith, few, whole))
 
 module _ (c : Constraint) (exact : Exact c) (steps : List Step) (valid : Valid steps) where
   past : Past steps
@@ -243,10 +251,10 @@ module _ (c : Constraint) (exact : Exact c) (steps : List Step) (valid : Valid s
           (λ e shut. broken-fits (event k t) words was whole (going-open words was (accepts .not-closed) g) shut)
           (λ e goes. goes-after change goes) by)
 
-      event-going : KindsSuit c → ltb 0 (was .broken) ≡ false → Holds (rowStep row-was (eventAt k t) (length steps + 1))
+      event-going : Sound c → ltb 0 (was .broken) ≡ false → Holds (rowStep row-was (eventAt k t) (length steps + 1))
       unfolding rowStep
-      event-going suit unbroken =
-          rw (concerns-own c suit k (accepts .stream-small))
+      event-going sound unbroken =
+          rw (concerns-own c sound k (accepts .stream-small))
           (subst (λ (b : Bool). Holds (cond b (stays row-was) open-row)) (sym unbroken)
           (split (ltb (was .due) t) (λ x. Holds (cond x (stays (brokenRow row-was number)) in-time-row)) (λ e. event-late (ltb-true (was .due) t e))
           (λ e. split (among k (streams c)) (λ y. Holds (cond y (changedRow row-was change number) (stays row-was)))
@@ -279,7 +287,7 @@ module _ (c : Constraint) (exact : Exact c) (steps : List Step) (valid : Valid s
         → rowStep (rowFrom (parametersOf c) words was) (record { kind = noEvent; stream = streamCount; time = t; closes = closes }) number
         ≡ other-row (rowFrom (parametersOf c) words was) t closes number
     unfolding rowStep
-    no-event words was t closes number unbroken = rw (unbroken, concerns-none c (sound .kinds-fit))
+    no-event words was t closes number unbroken = rw (unbroken, concerns-none c sound)
 
     tick-going : (t : ℕ) (accepts : Accepts steps (tick t)) (words : List ℕ) (was : State) → length words ≡ 64 → Going c exact steps words was
         → After c exact (steps ++ (tick t ∷ [])) (other-row (rowFrom (parametersOf c) words was) t false (length steps + 1) .crowded)
@@ -358,7 +366,7 @@ module _ (c : Constraint) (exact : Exact c) (steps : List Step) (valid : Valid s
             → Going c exact steps words was
             → After c exact (steps ++ (s ∷ [])) (rowStep (rowFrom (parametersOf c) words was) (seen steps s) (length steps + 1) .crowded)
             (rowStep (rowFrom (parametersOf c) words was) (seen steps s) (length steps + 1) .row)
-        by-step (event k t) a words was whole unbroken g = event-going k t a words was whole g (sound .kinds-suit) unbroken
+        by-step (event k t) a words was whole unbroken g = event-going k t a words was whole g sound unbroken
         by-step (tick t) a words was whole unbroken g = rw (no-event words was t false (length steps + 1) unbroken) (tick-going t a words was whole g)
         by-step close a words was whole unbroken g =
             rw (no-event words was (clock steps) true (length steps + 1) unbroken) (close-going (a .not-closed) words was whole g)
@@ -375,7 +383,7 @@ module _ (c : Constraint) (exact : Exact c) (steps : List Step) (valid : Valid s
 
         calm : (words : List ℕ) (was : State) → rowStep (rowFrom (parametersOf c) words was) (closeAt (clock steps)) number .crowded ≡ false
         calm words was =
-            rw (concerns-none c (sound .kinds-fit))
+            rw (concerns-none c sound)
             (one-of (ltb 0 (was .broken)) _ _ refl
             (one-of (ltb (was .due) (clock steps)) _ _ refl
             (one-of (eqb (was .kept) 0) _ _ refl refl)))

@@ -2,15 +2,15 @@
 use Prim.Native.Nat.{ℕ}
 use mathlib.Core.Bool.{Bool, true, false, cond, _&&_}
 use mathlib.Core.List.{List, [], _∷_}
-use lib.ListN.{length, replicate, getD}
+use lib.ListN.{length, getD}
 use lib.Dec.{ltb, eqb}
 use Rattle.constraint.specs.Limits.{noLimit, waitingLimit, streamCount}
 use Rattle.constraint.specs.Streams.{kindOf}
 use Rattle.constraint.specs.Steps.{among}
-use Rattle.constraint.specs.declared.Constraint.{Constraint}
+use Rattle.constraint.specs.Constraint.{Constraint}
 use Rattle.constraint.specs.declared.Verdict.{Verdict}
 use Rattle.ring.specs.Ring.{Ring, ringOf, ring, changed, edited}
-use Rattle.row_type.specs.Parameters.{parametersOf, startWordCount}
+use Rattle.row_type.specs.Parameters.{parametersOf, startRing, startWordCount}
 use Rattle.row_type.specs.Parts.{noRegisters}
 use Rattle.row_type.specs.declared.Parameters.{Parameters}
 use Rattle.row_type.specs.declared.Registers.{Registers}
@@ -20,7 +20,6 @@ use Rattle.row_type.specs.Machine.{Machine, noMachine}
 use Rattle.row.specs.declared.StepInput.{StepInput}
 use Rattle.row.specs.declared.Row.{Row}
 use Rattle.row.specs.declared.RowStep.{RowStep}
--- begin imports: made by release/row-types.py
 use Rattle.delay_order.specs.Delay.{machineDelay}
 use Rattle.delay_order.specs.StrongDelay.{machineStrongDelay}
 use Rattle.repeat_burst.specs.Repeat.{machineRepeat}
@@ -32,11 +31,8 @@ use Rattle.event_chain.specs.Reaction.{machineReaction}
 use Rattle.repetition.specs.Repetition.{machineRepetition}
 use Rattle.synchronizations.specs.Synchronization.{machineSynchronization}
 
--- end imports
-
 -- the machines by the numbers of their types; 0 is no type's
 abbrev pub machines : List Machine
--- begin machines: made by release/row-types.py
 machines =
     noMachine
     ∷ machineDelay
@@ -51,8 +47,6 @@ machines =
     ∷ machineRepetition
     ∷ machineSynchronization
     ∷ []
-
--- end machines
 
 -- a row of a number that is no type's breaks at its first event
 abbrev pub machineOf : ℕ → Machine
@@ -84,7 +78,7 @@ abbrev pub freshState : Parameters → State
 freshState parameters = record { registers = noRegisters; head = 0; len = startWordCount parameters; due = noLimit; kept = 1; broken = 0 }
 
 unfoldable pub rowOf : Constraint → Row
-rowOf c = rowFrom (parametersOf c) (replicate 64 0) (freshState (parametersOf c))
+rowOf c = rowFrom (parametersOf c) (startRing c) (freshState (parametersOf c))
 
 -- the row broken at a step: it keeps the step and holds nothing waiting
 abbrev pub brokenState : ℕ → State

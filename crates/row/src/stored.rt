@@ -15,7 +15,6 @@ use row_type::row_words;
 use row_type::row_words::parameters_at;
 use row_type::row_words::registers_at;
 use table_row::TableRow;
-// begin imports: made by release/row-types.py
 use delay_order::delay;
 use delay_order::order;
 use delay_order::strong_delay;
@@ -25,7 +24,6 @@ use hidden_points::sporadic;
 use repeat_burst::repeat;
 use synchronizations::strong_synchronization;
 use synchronizations::synchronization;
-// end imports
 ghost use Prim.Native.Nat.{ℕ};
 ghost use mathlib.Core.Path.{_≡_};
 ghost use lib.ListN.{replicate};
@@ -63,7 +61,6 @@ fn apply_by_type(row: &mut [[u64; SIZE]; 2], stream: u64, t: u64, number: u64)
 {
     let tag = row[1][row_words::TYPE_TAG];
     match tag {
-        // begin apply: made by release/row-types.py
         1 => delay::apply(row, stream, t, number),
         2 => strong_delay::apply(row, stream, t, number),
         3 | 5 => repeat::apply(row, stream, t, number),
@@ -75,7 +72,6 @@ fn apply_by_type(row: &mut [[u64; SIZE]; 2], stream: u64, t: u64, number: u64)
         10 => repetition::apply(row, stream, t, number),
         11 => synchronization::apply(row, stream, t, number),
         _ => row_words::break_at(row, number),
-        // end apply
     }
 }
 
@@ -271,7 +267,6 @@ fn overflows(w: &[u64; SIZE], stream: u64, t: u64) -> bool
 {
     let tag = w[row_words::TYPE_TAG];
     match tag {
-        // begin overflows: made by release/row-types.py
         1 => delay::overflows(w, stream, t),
         2 => strong_delay::overflows(w, stream, t),
         3 | 5 => repeat::overflows(w, stream, t),
@@ -283,7 +278,6 @@ fn overflows(w: &[u64; SIZE], stream: u64, t: u64) -> bool
         10 => repetition::overflows(w, stream, t),
         11 => false,
         _ => false,
-        // end overflows
     }
 }
 
@@ -359,7 +353,6 @@ fn slots_used_by_type(tag: u64, span: u64, len: u64) -> u64
     ensures { λ r. ⌜ r ≡ slotsUsedBy tag span len ⌝ }
 {
     match tag {
-        // begin slots used: made by release/row-types.py
         1 => len,
         2 => len,
         3 | 5 => repeat::slots_used(span, len),
@@ -371,7 +364,6 @@ fn slots_used_by_type(tag: u64, span: u64, len: u64) -> u64
         10 => repetition::slots_used(span, len),
         11 => 0,
         _ => 0,
-        // end slots used
     }
 }
 

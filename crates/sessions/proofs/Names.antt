@@ -8,7 +8,7 @@ pub use Rattle.constraint.specs.Steps.{Step, at, close}
 pub use Rattle.constraint.specs.{Accepted.Accepted, Page.Pages, Promise.ReadsRow, Questions.Judged}
 pub use Rattle.constraint.specs.Table.{ReadsTableUpTo, table-of, table-refused}
 pub use Rattle.constraint.specs.{declared.Answer.Answer, declared.Answer.the-variants.Refused, declared.Answer.the-variants.Taken}
-pub use Rattle.constraint.specs.{declared.Call.Call, declared.Constraint.Constraint, declared.Verdict.Verdict}
+pub use Rattle.constraint.specs.{declared.Call.Call, Constraint.Constraint, declared.Verdict.Verdict}
 pub use Rattle.delkuthi.proofs.Hosts.{follows, follows-fresh, untouched-all}
 pub use Rattle.delkuthi.proofs.Reports.{begun-with as fresh-holds, reported-as-recorded}
 pub use Rattle.delkuthi.specs.Host.{Host, Memory, asked, noneRefused, over}

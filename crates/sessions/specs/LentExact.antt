@@ -7,7 +7,7 @@ use Rattle.constraint.specs.Run.{Request, Left, noneLeft, Run}
 use Rattle.constraint.specs.Table.{ReadsTableUpTo, table-of, table-refused}
 use Rattle.constraint.specs.Recording.{ReadsRecording, recording-of, recording-refused}
 use Rattle.constraint.specs.Report.{ReportsUpTo}
-use Rattle.constraint.specs.declared.Constraint.{Constraint}
+use Rattle.constraint.specs.Constraint.{Constraint}
 use Rattle.in_place.specs.Layout.{Lent, wordsOfLent}
 use Rattle.in_place.specs.Steps.{leaves}
 use Rattle.in_place.specs.Contract.{answerFrom, ReadOff}

@@ -5,7 +5,7 @@ use mathlib.Core.List.{List, [], map}
 use lib.ListN.{length, getD, take, drop}
 use Rattle.constraint.specs.Run.{Request, asks, Left, Run, Keeps}
 use Rattle.constraint.specs.declared.Call.{Call}
-use Rattle.constraint.specs.declared.Constraint.{Constraint}
+use Rattle.constraint.specs.Constraint.{Constraint}
 use Rattle.monitor.specs.Beside.{TakesAll}
 use Rattle.in_place.specs.Layout.{wordsOfLent}
 use Rattle.in_place.specs.Contract.{answerFrom, ReadOff}

@@ -8,7 +8,7 @@ use Rattle.constraint.specs.Steps.{Step, clock, closed}
 use Rattle.constraint.specs.Promise.{ReadsRow}
 use Rattle.constraint.specs.Page.{Pages}
 use Rattle.constraint.specs.declared.Call.{Call}
-use Rattle.constraint.specs.declared.Constraint.{Constraint}
+use Rattle.constraint.specs.Constraint.{Constraint}
 use Rattle.constraint.specs.declared.Verdict.{Verdict}
 use Rattle.row.specs.Machine.{mark}
 use Rattle.monitor.specs.Contract.{stepIn}

@@ -9,7 +9,7 @@ use Rattle.constraint.specs.Run.{Request, Left, noneLeft, requestQuestions, lef
 use Rattle.constraint.specs.Table.{ReadsTableUpTo, table-of, table-refused}
 use Rattle.constraint.specs.Recording.{ReadsRecording, recording-of, recording-refused}
 use Rattle.constraint.specs.Report.{ReportsUpTo}
-use Rattle.constraint.specs.declared.Constraint.{Constraint}
+use Rattle.constraint.specs.Constraint.{Constraint}
 use Rattle.in_place.specs.Contract.{answerFrom, Takes}
 use Rattle.fresh.specs.Fresh.{BeginsUpTo}
 use Rattle.delkuthi.specs.Host.{Memory}

@@ -8,7 +8,7 @@ use Rattle.constraint.proofs.Library.{suc, sym, true, true≢false, ℕ, ⊎-el
 use Rattle.constraint.proofs.Lists.{Each, Rising, each-left, each-tail, split}
 use Rattle.constraint.specs.Steps.{Step, at, clock, closed, tick, times}
 use Rattle.constraint.specs.{Accepted.LowerFirst, Continuation.Open, Limits.lastTime, Limits.noLimit, Limits.waitingLimit, Meets.Meets}
-use Rattle.constraint.specs.{Meets.MeetsDelay, Waiting.answered, Waiting.unanswered, Waiting.waiting, declared.Constraint.the-variants.Delay}
+use Rattle.constraint.specs.{Meets.MeetsDelay, Waiting.answered, Waiting.unanswered, Waiting.waiting, Constraint.Delay}
 use Rattle.row_type.proofs.Exact.{ByOutcome, Exact, GoesOn, Sound}
 use Rattle.row_type.proofs.FitsRow.{FitsRow, Unkept, kind-overflows, dropped, free-second, keeping-last, neither, places-each, pushed, unkept-by}
 use Rattle.row_type.proofs.Oldest.{due-dropped, due-each, due-passed, due-pushed}
@@ -171,7 +171,7 @@ module _ (source target lower upper : ℕ) (sound : Sound (Delay source target l
     targets-early s waits late j h =
         split (leb (s + lower) (at targets j)) (λ x. at targets j < s + upper)
         (λ e. absurd (waits (j, h, (leb-true (s + lower) (at targets j) e, inr (omega (arith, r .targets-past j h))))))
-        (λ e. omega (arith, leb-false, sound .lower-first))
+        (λ e. omega (arith, leb-false, sound .lower-first .1 .1 .1 .0))
 
     free-in-time : Each (λ s. firstFree now targets ≤ s + upper) times
     free-in-time i h =
@@ -184,7 +184,7 @@ module _ (source target lower upper : ℕ) (sound : Sound (Delay source target l
     unfolding MeetsDelay LowerFirst
     delay-open =
         let further : List ℕ = answers lower (firstFree now targets) times in
-        let between = answers-between lower upper (firstFree now targets) times (sound .lower-first) (times-rise r live) free-in-time in (
+        let between = answers-between lower upper (firstFree now targets) times (sound .lower-first .1 .1 .1 .0) (times-rise r live) free-in-time in (
           further,
           answers-follow lower now targets times (r .targets-rise),
           answers-from-now lower now targets times,

@@ -3,7 +3,7 @@
 use Rattle.constraint.proofs.Library.{Bool, List, [], _&&_, _++_, _+_, _-_, _<_, _∙_, _∷_, _≡_, _≤_, _⊎_, ap, arith, cond, eq-eqb, eqb, eqb-true}
 use Rattle.constraint.proofs.Library.{false, false≢true, inl, inr, length, length-append, ne-eqb, refl, subst, sym, true, ℕ}
 use Rattle.constraint.proofs.Lists.{Each, Rising, both, each-right, rising-by, split}
-use Rattle.constraint.specs.{Limits.lastTime, Limits.noLimit, Meets.Meets, Meets.MeetsOrder, Waiting.waiting, declared.Constraint.the-variants.Order}
+use Rattle.constraint.specs.{Limits.lastTime, Limits.noLimit, Meets.Meets, Meets.MeetsOrder, Waiting.waiting, Constraint.Order}
 use Rattle.row_type.proofs.Exact.{ByOutcome, Exact, GoesOn, Sound}
 use Rattle.row_type.proofs.FitsRow.{FitsRow, Steady, fits-steady, keeping-first-three, steady-by, steady-drop}
 use Rattle.row_type.proofs.TwoKinds.{Further, Lost, TwoKinds, UpTo, exactTwoKinds, target-apart}

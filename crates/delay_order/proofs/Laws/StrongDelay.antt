@@ -4,7 +4,7 @@ use Rattle.constraint.proofs.Library.{Bool, List, [], _&&_, _++_, _+_, _-_, _<_
 use Rattle.constraint.proofs.Library.{eqb-true, false, false≢true, inl, inr, leb, leb-false, leb-true, length, ltb, ne-eqb, refl, subst, sym, true, ℕ}
 use Rattle.constraint.proofs.{Counting.next-least, Lists.Each, Lists.Rising, Lists.both, Lists.rising-across, Lists.split}
 use Rattle.constraint.specs.{Accepted.LowerFirst, Limits.lastTime, Limits.waitingLimit, Meets.Between, Meets.Meets, Meets.MeetsStrongDelay, Steps.at}
-use Rattle.constraint.specs.{Waiting.waiting, declared.Constraint.the-variants.StrongDelay}
+use Rattle.constraint.specs.{Waiting.waiting, Constraint.StrongDelay}
 use Rattle.row_type.proofs.FitsRow.{Calm, FitsRow, Unkept, calm-by, kind-overflows, dropped, free-second, keeping-last, neither, places-each, pushed}
 use Rattle.row_type.proofs.FitsRow.{unkept-by}
 use Rattle.row_type.proofs.TwoKinds.{Further, Lost, TwoKinds, UpTo, exactTwoKinds, target-apart}
@@ -160,7 +160,7 @@ module _ (source target lower upper : ℕ) (sound : Sound (StrongDelay source ta
   open-by now sources targets early times r (inl (none, a)) in-time =
       let soon : now ≤ dueOldest upper times = rw (due-ahead early (dueOldest upper times) none) at in-time in
       let each-in-time = due-each upper now times (ahead-rising a (r .sources-rise)) soon in
-      inr (ahead-open lower upper (sound .lower-first) (λ x y f. f) r a
+      inr (ahead-open lower upper (sound .lower-first .1 .1 .1 .0) (λ x y f. f) r a
       (λ i h. omega (arith, each-in-time i h, next-least targets (at times i + upper) (targets-early sources targets times (r .sources-rise) a i h))))
   open-by now sources targets early times r (inr (b, is, none, beyond)) in-time =
       inl (beyond-open (between-not-later lower upper) r beyond (omega (arith, due-beyond early (dueOldest upper times) b is)))

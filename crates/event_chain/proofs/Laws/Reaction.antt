@@ -16,7 +16,7 @@ use Rattle.constraint.proofs.{Lists.at-right, Lists.each-left, Lists.each-right
 use Rattle.constraint.specs.Steps.{Step, at, clock, closed, event, own, tick, times}
 use Rattle.constraint.specs.{Accepted.InRange, Accepted.KindsSuit, Accepted.LowerFirst, Continuation.Open, Continuation.more, Limits.firstColoured}
 use Rattle.constraint.specs.{Limits.lastColour, Limits.lastKind, Limits.lastTime, Limits.noLimit, Meets.Meets, Meets.MeetsReaction, Streams.kindOf}
-use Rattle.constraint.specs.{Streams.stream, Waiting.waiting, declared.Constraint.Constraint, declared.Constraint.the-variants.Reaction}
+use Rattle.constraint.specs.{Streams.stream, Waiting.waiting, Constraint.Constraint, Constraint.Reaction}
 use Rattle.row_type.proofs.Exact.{ByOutcome, Exact, GoesOn, OfStream, Sound, Starts}
 use Rattle.row_type.proofs.FitsRow.{FitsRow, Steady, fits-steady, keeping-none, steady-breaking, steady-by, steady-store}
 use Rattle.row_type.proofs.SeveralKinds.{by-place, kinds-apart, kinds-small}
@@ -53,11 +53,11 @@ module _ (stimulus response minimum maximum : ℕ) (sound : Sound (Reaction stim
 
   min-first : minimum ≤ maximum
   unfolding LowerFirst
-  min-first = sound .lower-first
+  min-first = sound .lower-first .1 .1 .1 .0
 
   max-small : maximum ≤ lastTime
   unfolding InRange
-  max-small = sound .in-range .1 .0
+  max-small = sound .in-range .1 .1 .1 .0
 
   -- an event of one kind and colour is of no other
   across : (d e : ℕ) → d ≤ lastColour → e ≤ lastColour → ¬ (stream response d ≡ stream stimulus e)

@@ -6,7 +6,7 @@ use Rattle.constraint.proofs.Library.{true, ℕ}
 use Rattle.constraint.proofs.{History.Accepts, History.clock-tick, History.own-append, History.own-tick, Lists.both, Lists.split, Streams.among-at}
 use Rattle.constraint.specs.Steps.{Step, among, at, clock, closed, event, own}
 use Rattle.constraint.specs.{Accepted.InRange, Accepted.LowerFirst, Continuation.Open, Limits.lastTime, Limits.noLimit, Limits.streamCount}
-use Rattle.constraint.specs.{Meets.Meets, Waiting.waiting, declared.Constraint.Constraint, declared.Constraint.the-variants.ExecutionTime}
+use Rattle.constraint.specs.{Meets.Meets, Waiting.waiting, Constraint.Constraint, Constraint.ExecutionTime}
 use Rattle.row_type.proofs.Exact.{ByOutcome, Exact, GoesOn, Sound, outcome-map}
 use Rattle.row_type.proofs.FitsRow.{FitsRow, Steady, fits-steady, keeping-first-three, steady-breaking, steady-by, steady-drop}
 use Rattle.row_type.proofs.SeveralKinds.{by-place, kinds-apart, kinds-stream}
@@ -64,11 +64,11 @@ module _ (start stop preempt resume lower upper : ℕ) (sound : Sound (Execution
 
   small : upper ≤ lastTime
   unfolding InRange
-  small = sound .in-range .1 .0
+  small = sound .in-range .1 .1 .1 .1 .1 .0
 
   ordered : lower ≤ upper
   unfolding LowerFirst
-  ordered = sound .lower-first
+  ordered = sound .lower-first .1 .1 .1 .1 .1 .0
 
   stop-apart : ¬ (stop ≡ preempt)
   stop-apart = kinds-apart ks (sound .kinds-fit) 1 2 (omega arith) (omega arith) (λ e. omega arith)

@@ -7,7 +7,7 @@ use Rattle.constraint.proofs.Lists.{Each, at-next, at-right, split}
 use Rattle.constraint.proofs.{Continuations.continues-clock, Continuations.continues-late, Continuations.not-later-earlier, History.times-append}
 use Rattle.constraint.specs.Meets.{AtLeastApart, Between, HiddenPoints, LastNotLater, Meets, MeetsSporadic, SpansApart}
 use Rattle.constraint.specs.{Accepted.InRange, Continuation.Open, Limits.lastTime, Limits.noLimit, Steps.Step, Steps.at, Steps.clock, Steps.times}
-use Rattle.constraint.specs.{Waiting.waiting, declared.Constraint.the-variants.Sporadic}
+use Rattle.constraint.specs.{Waiting.waiting, Constraint.Sporadic}
 use Rattle.row_type.proofs.FitsRow.{FitsRow, Steady, fits-steady, keeping-first-three, steady-breaking, steady-by, steady-drop}
 use Rattle.row_type.proofs.Spans.{LastIs, apart-first, apart-more, far-enough, last-new, last-none, last-some, last-zero}
 use Rattle.row_type.proofs.Tests.{Tells, fails, holds, tells-and, tells-leb}
@@ -312,7 +312,7 @@ exactSporadic kind lower upper jitter minimum sound =
       due-none = refl;
       keeps-says = λ now rises small keeps. sporadic-says parameters _ _ _ keeps now small;
       keeps-few = λ keeps. omega (arith, ap length (keeps .no-times));
-      keeps-event = λ t rises small keeps soon. sporadic-event parameters _ _ _ keeps t small (sound .in-range .0) kind;
+      keeps-event = λ t rises small keeps soon. sporadic-event parameters _ _ _ keeps t small (sound .in-range .1 .0) kind;
     })
   where
     parameters : Parameters

@@ -1,7 +1,7 @@
 -- Burst: the machine is that of a Repeat with no upper, and so are the laws; without an upper no clock is past its due time.
 use Rattle.constraint.proofs.Library.{List, _↔_, _≡_, _≤_, arith, refl, ℕ}
 use Rattle.constraint.specs.{Accepted.InRange, Limits.lastTime, Limits.noLimit, Meets.Meets, Meets.MeetsBurst, Waiting.waiting}
-use Rattle.constraint.specs.{declared.Constraint.the-variants.Burst}
+use Rattle.constraint.specs.{Constraint.Burst}
 use Rattle.row_type.proofs.{Exact.Exact, Exact.Sound, Oldest.due-reached, OneKind.exactOneKind, Spans.apart-first}
 use Rattle.row_type.specs.{Parameters.parametersOf, declared.Registers.Registers, declared.Parameters.Parameters}
 use Rattle.repeat_burst.proofs.Laws.Repeat.{KeepsRepeat, dueRepeat, repeat-event, repeat-few, repeat-none}
@@ -41,9 +41,9 @@ exactBurst kind maximum len minimum sound =
       keeps-none = repeat-none parameters;
       due-none = refl;
       keeps-says = λ now rises small keeps. burst-says parameters refl _ _ _ now small keeps;
-      keeps-few = repeat-few parameters (sound .in-range .1);
+      keeps-few = repeat-few parameters (sound .in-range .1 .0 .1);
       keeps-event = λ t rises small keeps soon.
-          repeat-event parameters _ _ _ keeps t (sound .in-range .0) small rises soon kind (λ events now. MeetsBurst maximum len minimum events)
+          repeat-event parameters _ _ _ keeps t (sound .in-range .1 .0 .0) small rises soon kind (λ events now. MeetsBurst maximum len minimum events)
           (λ m. m);
     })
   where

@@ -8,7 +8,7 @@ use Rattle.constraint.proofs.Lists.{Each, Rising, at-left, at-right, rising-at,
 use Rattle.constraint.proofs.{Continuations.continues-clock, Continuations.continues-late, Continuations.not-later-earlier, History.times-append}
 use Rattle.constraint.specs.{Accepted.InRange, Continuation.Open, Limits.lastTime, Limits.noLimit, Limits.spanLimit, Limits.waitingLimit}
 use Rattle.constraint.specs.{Meets.AtLeastApart, Meets.Meets, Meets.MeetsRepeat, Meets.SpansApart, Steps.Step, Steps.at, Steps.clock, Steps.times}
-use Rattle.constraint.specs.{Waiting.waiting, declared.Constraint.the-variants.Repeat}
+use Rattle.constraint.specs.{Waiting.waiting, Constraint.Repeat}
 use Rattle.row_type.proofs.FitsRow.{FitsRow, Places, Unkept, calm-by, kind-overflows, free-first, free-second, keeping-last, neither, pushed}
 use Rattle.row_type.proofs.FitsRow.{unkept-by}
 use Rattle.row_type.proofs.Oldest.{due-dropped, due-or-pushed, due-pushed, due-reached, due-within, front-at}
@@ -220,9 +220,9 @@ exactRepeat kind span lower upper sound =
       keeps-none = repeat-none parameters;
       due-none = refl;
       keeps-says = λ now rises small keeps. repeat-says parameters _ _ _ now rises small keeps;
-      keeps-few = repeat-few parameters (sound .in-range .1);
+      keeps-few = repeat-few parameters (sound .in-range .1 .0 .1);
       keeps-event = λ t rises small keeps soon.
-          repeat-event parameters _ _ _ keeps t (sound .in-range .0) small rises soon kind (MeetsRepeat span lower upper)
+          repeat-event parameters _ _ _ keeps t (sound .in-range .1 .0 .0) small rises soon kind (MeetsRepeat span lower upper)
           (λ m. (m .0, rising-apart _ rises));
     })
   where

@@ -4,7 +4,7 @@ use Rattle.constraint.proofs.Library.{Bool, List, [], _++_, _+_, _-_, _/_, _<_,
 use Rattle.constraint.proofs.Library.{length-append, length-drop, lt-ltb, ltb, ltb-false, ltb-true, refl, subst, sym, take, true, ℕ}
 use Rattle.constraint.proofs.Lists.{Rising, split}
 use Rattle.constraint.specs.{Accepted.InRange, Accepted.LowerFirst, Limits.lastTime, Limits.noLimit, Meets.Meets, Meets.MeetsRepetition}
-use Rattle.constraint.specs.{Waiting.waiting, declared.Constraint.the-variants.Repetition}
+use Rattle.constraint.specs.{Waiting.waiting, Constraint.Repetition}
 use Rattle.row_type.proofs.FitsRow.{FitsRow, Places, Unkept, calm-by, kind-overflows, keeping-none, unkept-by}
 use Rattle.row_type.proofs.Tests.{Tells, fails, holds, tells-and, tells-leb}
 use Rattle.row_type.proofs.{Exact.Exact, Exact.Sound, OneKind.ByTurn, OneKind.exactOneKind}
@@ -141,8 +141,8 @@ exactRepetition kind span lower upper jitter sound =
       says-first = λ xs ys now later h after m. repetition-first span lower upper jitter xs ys m;
       keeps-none = last-none parameters;
       due-none = refl;
-      keeps-says = λ now rising small row. repetition-says parameters (sound .in-range .0) (sound .lower-first) _ _ now rising small row;
-      keeps-few = λ row. omega (arith, kept-few parameters _ _ row, sound .in-range .1);
+      keeps-says = λ now rising small row. repetition-says parameters (sound .in-range .1 .0 .0) (sound .lower-first .1 .1 .1 .0) _ _ now rising small row;
+      keeps-few = λ row. omega (arith, kept-few parameters _ _ row, sound .in-range .1 .0 .1);
       keeps-event = λ t rising small row soon. repetition-event parameters asked _ _ _ row t rising small kind;
     })
   where
@@ -150,7 +150,7 @@ exactRepetition kind span lower upper jitter sound =
     parameters = parametersOf (Repetition kind span lower upper jitter)
 
     asked : Asked parameters
-    asked = record { positive = sound .in-range .0; given = sound .in-range .2 .1 .0; small-lower = sound .in-range .2 .0 }
+    asked = record { positive = sound .in-range .1 .0 .0; given = sound .in-range .1 .1 .1 .0; small-lower = sound .in-range .1 .1 .0 }
 
 -- ---- In a row
 

@@ -1,15 +1,18 @@
 -- The marks of a row as one number for each kind, a count in a StrongSynchronization: the kinds are different, so the machine's four places are
 -- those of the list of kinds, and a place without a kind never matters.
-use Rattle.constraint.proofs.Library.{Bool, List, [], _&&_, _++_, _+_, _-_, _<_, _||_, _∙_, _∷_, _≡_, _≤_, _⊎_, and-eq-true-iff, ap, arith, by-cases}
+use Rattle.constraint.proofs.Library.{Bool, List, [], _&&_, _++_, _+_, _-_, _<_, _||_, _∙_, _∷_, _≡_, _≤_, _⊎_, and-eq-true-iff, ap, ap₂, arith, by-cases}
 use Rattle.constraint.proofs.Library.{decLt, eq-eqb, eqb, eqb-false, false, false≢true, getD-replicate, inl, inr, length, length-append}
-use Rattle.constraint.proofs.Library.{length-replicate, ltb, ltb-false, ltb-true, ne-eqb, refl, replicate, subst, suc, sym, true, zero, ℕ, ⊎-elim}
+use Rattle.constraint.proofs.Library.{length-replicate, ltb, ltb-false, ltb-true, ne-eqb, refl, replicate, subst, suc, sym, take, take-take, true, zero, ℕ, ⊎-elim}
 use Rattle.constraint.proofs.Lists.{at-left, at-right, split}
-use Rattle.constraint.proofs.{Streams.streams}
-use Rattle.constraint.specs.{Accepted.KindsFit, Accepted.kinds, Limits.lastKind, Limits.noLimit, Meets.Meets, Steps.Step, Steps.at}
-use Rattle.constraint.specs.{Waiting.waiting, declared.Constraint.Constraint}
+use Rattle.constraint.proofs.Streams.{streams, streamsIn}
+use Rattle.constraint.specs.Types.{Field, byte, count as number, fieldsOf, typeOf}
+use Rattle.constraint.specs.{Accepted.KindsFit, Accepted.kinds, Accepted.kindsIn, Limits.lastKind, Limits.noLimit, Meets.Meets, Steps.Step, Steps.at}
+use Rattle.constraint.specs.{Waiting.waiting, Constraint.Constraint}
 use Rattle.synchronizations.specs.StrongSynchronization.{complete, countOf, counted, has, oneMore, withoutOldest}
+use Rattle.row_type.proofs.FieldNumbers.{first-padded, kinds-are, kinds-listed, listed, streams-listed, tag-is, upper-listed}
 use Rattle.row_type.proofs.{Exact.Sound, SeveralKinds.kinds-apart, SeveralKinds.kinds-small}
-use Rattle.row_type.specs.{Parts.noRegisters, Parameters.noKind, Parameters.parametersOf, Parameters.startWords, Parameters.waitsIn}
+use Rattle.row_type.specs.Parameters.{noFields, noKind, parametersOf, startRing, startWords, waitsIn, withFields, wordCounts}
+use Rattle.row_type.specs.{Parts.noRegisters}
 use Rattle.row_type.specs.{declared.Registers.Registers, declared.Parameters.Parameters}
 
 -- the four kinds of a rule, some of which may be absent, and the count of each
@@ -30,24 +33,37 @@ pub record Names (parameters : Parameters) (ks : List ℕ) : Type 0 where
 pub record OfKinds (Asks : List ℕ → ℕ → List Step → Type 0) (held : List ℕ → List Step → ℕ) (timed : Bool) (c : Constraint) : Type 1 where
   pub names : Names (parametersOf c) (kinds c)
   pub streams-are : streams c ≡ kinds c
-  pub no-words : startWords (parametersOf c) ≡ []
+  pub no-words : startWords c ≡ []
   pub meets : (steps : List Step) → Meets c steps ≡ Asks (kinds c) (parametersOf c .upper) steps
   pub waits-in : waitsIn (parametersOf c .tag) ≡ timed
   pub waits : (steps : List Step) → waiting c steps ≡ held (kinds c) steps
 
-pub of-kinds : {Asks : List ℕ → ℕ → List Step → Type 0} {held : List ℕ → List Step → ℕ} {timed : Bool} (c : Constraint) → Sound c → (absent : ℕ)
-    → 2 ≤ length (kinds c) → fourKinds (parametersOf c) ≡ kinds c ++ replicate absent noKind → streams c ≡ kinds c → startWords (parametersOf c) ≡ []
-    → ((steps : List Step) → Meets c steps ≡ Asks (kinds c) (parametersOf c .upper) steps) → waitsIn (parametersOf c .tag) ≡ timed
-    → ((steps : List Step) → waiting c steps ≡ held (kinds c) steps) → OfKinds Asks held timed c
-of-kinds c sound absent several padded streams-are no-words meets waits-in waits =
+-- a constraint of a list of kinds and a tolerance, of a type with two to four kinds
+pub of-kinds : {Asks : List ℕ → ℕ → List Step → Type 0} {held : List ℕ → List Step → ℕ} {timed : Bool} (c : Constraint) → Sound c
+    → (ks : List ℕ) (x : ℕ) → fieldsOf c ≡ byte number (length ks) ∷ listed x ks → (2 ≤ length ks) × (length ks ≤ 4)
+    → at wordCounts (typeOf c) ≡ 0 → ((steps : List Step) → Meets c steps ≡ Asks ks x steps) → waitsIn (typeOf c) ≡ timed
+    → ((steps : List Step) → waiting c steps ≡ held ks steps) → OfKinds Asks held timed c
+of-kinds {Asks} {held} c sound ks x fields few no-words meets waits-in waits =
     record {
-      names = record { fit = sound .kinds-fit; several = several; absent = absent; padded = padded };
-      streams-are = streams-are;
-      no-words = no-words;
-      meets = meets;
-      waits-in = waits-in;
-      waits = waits;
+      names = record {
+        fit = sound .kinds-fit;
+        several = rw kinds-same (few .0);
+        absent = 4 - length ks;
+        padded = ap (take 4) (kinds-are c) ∙ take-take 4 5 (kinds c ++ replicate 5 noKind) (omega arith)
+            ∙ rw kinds-same (first-padded 4 5 noKind ks (omega arith) (few .1));
+      };
+      streams-are = ap streamsIn fields ∙ streams-listed x ks ∙ sym kinds-same;
+      no-words = ap (λ (n : ℕ). take n (startRing c)) (ap (at wordCounts) (tag-is c) ∙ no-words);
+      meets = λ steps. meets steps ∙ sym (ap₂ (λ (l : List ℕ) (y : ℕ). Asks l y steps) kinds-same upper-same);
+      waits-in = ap waitsIn (tag-is c) ∙ waits-in;
+      waits = λ steps. waits steps ∙ sym (ap (λ (l : List ℕ). held l steps) kinds-same);
     }
+  where
+    kinds-same : kinds c ≡ ks
+    kinds-same = ap kindsIn fields ∙ kinds-listed x ks
+
+    upper-same : parametersOf c .upper ≡ x
+    upper-same = ap (λ (l : List Field). withFields l (noFields (typeOf c)) .upper) fields ∙ upper-listed x ks (noFields (typeOf c))
 
 -- what holds of four places holds of each
 pub four-each : (P : ℕ → Type 0) → P 0 → P 1 → P 2 → P 3 → (i : ℕ) → i < 4 → P i

@@ -3,9 +3,9 @@
 use Rattle.constraint.proofs.Library.{List, [], _++_, _<_, _∙_, _∷_, _≡_, _≤_, ap, arith, cond, false, false≢true, length, ltb, refl, sym, true, ℕ}
 use Rattle.constraint.proofs.{Continuations.SameTimes, Continuations.same-times, History.Accepts, History.Past, Lists.split, Streams.streams}
 use Rattle.constraint.specs.Steps.{Step, at, clock, closed, event, own, tick}
-use Rattle.constraint.specs.declared.Constraint.the-variants.{StrongSynchronization2, StrongSynchronization3, StrongSynchronization4}
+use Rattle.constraint.specs.Constraint.{Constraint, StrongSynchronization}
 use Rattle.constraint.specs.{Accepted.kinds, Continuation.Open, Limits.lastTime, Limits.waitingLimit, Meets.Meets, Meets.MeetsStrongSynchronization}
-use Rattle.constraint.specs.{Waiting.begunIncomplete, Waiting.waiting, declared.Constraint.Constraint}
+use Rattle.constraint.specs.{Waiting.begunIncomplete, Waiting.waiting}
 use Rattle.synchronizations.proofs.Laws.Columns.{behind-same, completes, groups-late, groups-left-over, groups-meet, groups-same, groups-wait}
 use Rattle.synchronizations.proofs.Laws.Counts.{OfKinds, of-kinds}
 use Rattle.synchronizations.proofs.Laws.LiveGroups.{LiveGroups, due, event-does, kept, live-none}
@@ -33,7 +33,7 @@ module _ (c : Constraint) (s : Synchronized c) where
 
   -- ---- Start
 
-  live-start : Starts (Live []) (due tolerance) kept (startWords (parametersOf c))
+  live-start : Starts (Live []) (due tolerance) kept (startWords c)
   live-start = rw (s .no-words) (record { live = live-none (s .names) tolerance; due-is = refl; kept-is = refl })
 
   -- ---- Events
@@ -113,26 +113,12 @@ module _ (c : Constraint) (s : Synchronized c) where
       }
 
 -- §5.7
-pub exactStrongSynchronization2 : (a b tolerance : ℕ) → Sound (StrongSynchronization2 a b tolerance)
-    → Exact (StrongSynchronization2 a b tolerance) (decideStrongSynchronization (parametersOf (StrongSynchronization2 a b tolerance)))
+pub exactStrongSynchronization : (ks : List ℕ) (x : ℕ) → Sound (StrongSynchronization ks x)
+    → Exact (StrongSynchronization ks x) (decideStrongSynchronization (parametersOf (StrongSynchronization ks x)))
 unfolding Meets waiting
-exactStrongSynchronization2 a b tolerance sound =
-    exact-synchronized (StrongSynchronization2 a b tolerance) (of-kinds _ sound 2 (omega arith) refl refl refl (λ steps. refl) refl (λ steps. refl))
-
--- §5.7
-pub exactStrongSynchronization3 : (a b c tolerance : ℕ) → Sound (StrongSynchronization3 a b c tolerance)
-    → Exact (StrongSynchronization3 a b c tolerance) (decideStrongSynchronization (parametersOf (StrongSynchronization3 a b c tolerance)))
-unfolding Meets waiting
-exactStrongSynchronization3 a b c tolerance sound =
-    exact-synchronized (StrongSynchronization3 a b c tolerance) (of-kinds _ sound 1 (omega arith) refl refl refl (λ steps. refl) refl (λ steps. refl))
-
--- §5.7
-pub exactStrongSynchronization4 : (a b c d tolerance : ℕ) → Sound (StrongSynchronization4 a b c d tolerance)
-    → Exact (StrongSynchronization4 a b c d tolerance) (decideStrongSynchronization (parametersOf (StrongSynchronization4 a b c d tolerance)))
-unfolding Meets waiting
-exactStrongSynchronization4 a b c d tolerance sound =
-    exact-synchronized (StrongSynchronization4 a b c d tolerance)
-    (of-kinds _ sound 0 (omega arith) refl refl refl (λ steps. refl) refl (λ steps. refl))
+exactStrongSynchronization ks x sound =
+    let c = StrongSynchronization ks x in
+    exact-synchronized c (of-kinds c sound ks x refl (sound .known .1 .n-known refl) refl (λ steps. refl) refl (λ steps. refl))
 
 -- ---- In a row
 

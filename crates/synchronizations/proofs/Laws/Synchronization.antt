@@ -11,8 +11,7 @@ use Rattle.constraint.proofs.{Continuations.SameTimes, Continuations.continues-
 use Rattle.constraint.specs.Steps.{Step, at, clock, closed, event, own, tick, times}
 use Rattle.constraint.specs.{Accepted.KindsFit, Accepted.kinds, Continuation.Continues, Continuation.Open, Continuation.stop, Limits.lastKind}
 use Rattle.constraint.specs.{Limits.lastTime, Limits.waitingLimit, Meets.Meets, Meets.MeetsSynchronization, Meets.Recorded, Waiting.waiting}
-use Rattle.constraint.specs.{declared.Constraint.Constraint, declared.Constraint.the-variants.Synchronization2}
-use Rattle.constraint.specs.{declared.Constraint.the-variants.Synchronization3, declared.Constraint.the-variants.Synchronization4}
+use Rattle.constraint.specs.Constraint.{Constraint, Synchronization}
 use Rattle.synchronizations.proofs.Laws.Columns.{Reaches, reaches-before}
 use Rattle.synchronizations.proofs.Laws.Counts.{Names, OfKinds, count-none, four-each, four-false, four-true, fourCounts, fourKinds}
 use Rattle.synchronizations.proofs.Laws.Counts.{kind-absent}
@@ -288,7 +287,7 @@ module _ (c : Constraint) (s : Synchronized c) where
 
   -- ---- Start
 
-  live-start : Starts (Live []) (due tolerance) kept (startWords (parametersOf c))
+  live-start : Starts (Live []) (due tolerance) kept (startWords c)
   unfolding times nextFree
   live-start =
       rw (s .no-words)
@@ -419,25 +418,12 @@ module _ (c : Constraint) (s : Synchronized c) where
       }
 
 -- §5.11
-pub exactSynchronization2 : (a b tolerance : ℕ) → Sound (Synchronization2 a b tolerance)
-    → Exact (Synchronization2 a b tolerance) (decideSynchronization (parametersOf (Synchronization2 a b tolerance)))
+pub exactSynchronization : (ks : List ℕ) (x : ℕ) → Sound (Synchronization ks x)
+    → Exact (Synchronization ks x) (decideSynchronization (parametersOf (Synchronization ks x)))
 unfolding Meets waiting
-exactSynchronization2 a b tolerance sound =
-    exact-synchronized (Synchronization2 a b tolerance) (of-kinds _ sound 2 (omega arith) refl refl refl (λ steps. refl) refl (λ steps. refl))
-
--- §5.11
-pub exactSynchronization3 : (a b c tolerance : ℕ) → Sound (Synchronization3 a b c tolerance)
-    → Exact (Synchronization3 a b c tolerance) (decideSynchronization (parametersOf (Synchronization3 a b c tolerance)))
-unfolding Meets waiting
-exactSynchronization3 a b c tolerance sound =
-    exact-synchronized (Synchronization3 a b c tolerance) (of-kinds _ sound 1 (omega arith) refl refl refl (λ steps. refl) refl (λ steps. refl))
-
--- §5.11
-pub exactSynchronization4 : (a b c d tolerance : ℕ) → Sound (Synchronization4 a b c d tolerance)
-    → Exact (Synchronization4 a b c d tolerance) (decideSynchronization (parametersOf (Synchronization4 a b c d tolerance)))
-unfolding Meets waiting
-exactSynchronization4 a b c d tolerance sound =
-    exact-synchronized (Synchronization4 a b c d tolerance) (of-kinds _ sound 0 (omega arith) refl refl refl (λ steps. refl) refl (λ steps. refl))
+exactSynchronization ks x sound =
+    let c = Synchronization ks x in
+    exact-synchronized c (of-kinds c sound ks x refl (sound .known .1 .n-known refl) refl (λ steps. refl) refl (λ steps. refl))
 
 -- ---- In a row
 

@@ -3,7 +3,6 @@ use Rattle.row.proofs.Names.{Applies, Changes, List, Machine, [], _∙_
 use Rattle.row.proofs.Names.{numberWords, ring, rowWords, sym, ℕ, ⊎-elim}
 use Rattle.row.proofs.{Machines.none-of, stored.apply_by_type.Statement.statement}
 use Rattle.row.proofs.stored.apply_by_type.Tie as tie
--- begin imports: made by release/row-types.py
 use Rattle.delay_order.specs.Delay.{machineDelay}
 use Rattle.delay_order.specs.StrongDelay.{machineStrongDelay}
 use Rattle.repeat_burst.specs.Repeat.{machineRepeat}
@@ -14,8 +13,6 @@ use Rattle.execution.specs.ExecutionTime.{machineExecutionTime}
 use Rattle.event_chain.specs.Reaction.{machineReaction}
 use Rattle.repetition.specs.Repetition.{machineRepetition}
 use Rattle.synchronizations.specs.Synchronization.{machineSynchronization}
-
--- end imports
 
 -- the number of the type, read off the words
 abbrev tagIn : List (List ℕ) → ℕ
@@ -31,7 +28,6 @@ by-type m entry exit stream t number made is parameters times state past e =
     (x .decide parameters (state .registers) (ring times (state .head) (state .len)) stream t) number)
     (sym is ∙ ap (λ (row : List (List ℕ)). machineOf (tagIn row)) e)
 
--- begin arms: made by release/row-types.py
 returns : tie.Need-returns
 returns c =
     let a = c .before .before .before .before .args in
@@ -128,4 +124,3 @@ apply-by-type-spec =
     returns-10
     returns-11)
 
--- end arms

@@ -3,7 +3,6 @@ use Rattle.row.proofs.Names.{Bool, List, Machine, _∙_, _≡_, ap, ask
 use Rattle.row.proofs.Names.{⊎-elim}
 use Rattle.row.proofs.{Machines.none-of, stored.overflows.Statement.statement}
 use Rattle.row.proofs.stored.overflows.Tie as tie
--- begin imports: made by release/row-types.py
 use Rattle.delay_order.specs.Delay.{machineDelay}
 use Rattle.delay_order.specs.StrongDelay.{machineStrongDelay}
 use Rattle.repeat_burst.specs.Repeat.{machineRepeat}
@@ -15,14 +14,11 @@ use Rattle.event_chain.specs.Reaction.{machineReaction}
 use Rattle.repetition.specs.Repetition.{machineRepetition}
 use Rattle.synchronizations.specs.Synchronization.{machineSynchronization}
 
--- end imports
-
 -- what one type answers, where it is the one that is chosen
 by-type : (m : Machine) (w : List ℕ) (s t : ℕ) {r : Bool} → r ≡ askedOf (m .overflows) w s t → machineOf (getD w 0 0) ≡ m
     → r ≡ askedOf overflows w s t
 by-type m w s t e is = e ∙ ap (λ (x : Machine). askedOf (x .overflows) w s t) (sym is)
 
--- begin arms: made by release/row-types.py
 pub overflows-spec : {M : Type 1} → statement M
 overflows-spec =
     tie.close
@@ -78,4 +74,3 @@ overflows-spec =
     by-type noMachine (a .w .now) (a .stream) (a .t) refl
     (none-of _ (c .match .rest))))
 
--- end arms

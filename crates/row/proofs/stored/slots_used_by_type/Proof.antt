@@ -2,7 +2,6 @@
 use Rattle.row.proofs.Names.{Machine, _∙_, _≡_, ap, slotsUsedBy, machineOf, needs, noMachine, refl, sym, ℕ, ⊎-elim}
 use Rattle.row.proofs.{Machines.none-of, stored.slots_used_by_type.Statement.statement}
 use Rattle.row.proofs.stored.slots_used_by_type.Tie as tie
--- begin imports: made by release/row-types.py
 use Rattle.delay_order.specs.Delay.{machineDelay}
 use Rattle.delay_order.specs.StrongDelay.{machineStrongDelay}
 use Rattle.repeat_burst.specs.Repeat.{machineRepeat}
@@ -14,13 +13,10 @@ use Rattle.event_chain.specs.Reaction.{machineReaction}
 use Rattle.repetition.specs.Repetition.{machineRepetition}
 use Rattle.synchronizations.specs.Synchronization.{machineSynchronization}
 
--- end imports
-
 -- how many places one type takes, where it is the one that is chosen
 by-type : (m : Machine) (tag span len : ℕ) {r : ℕ} → r ≡ m .taken span len → machineOf tag ≡ m → r ≡ slotsUsedBy tag span len
 by-type m tag span len e is = e ∙ ap (λ (x : Machine). x .taken span len) (sym is)
 
--- begin arms: made by release/row-types.py
 pub slots-used-by-type-spec : {M : Type 1} → statement M
 slots-used-by-type-spec =
     tie.close
@@ -72,4 +68,3 @@ slots-used-by-type-spec =
     by-type noMachine (a .tag) (a .span) (a .len) refl
     (none-of _ (c .match .rest))))
 
--- end arms

@@ -10,7 +10,7 @@ use Rattle.row.proofs.Names.{open-at-tick, open-of-meets, own, own-clos
 use Rattle.row.proofs.Names.{refl, ring, ring-length, ring-take, ringOf, rowFrom, rowOf, rowStep, rowVerdict, parametersOf, split, stays}
 use Rattle.row.proofs.Names.{streamCount, streams, subst, sym, tick, tickAt, times-edited, true, valid-more, waiting, waitingLimit, waitsIn}
 use Rattle.row.proofs.Names.{words-few, ℕ, ⊎-elim}
-use Rattle.row.proofs.Names.{constantsOf, length-replicate, length-take-le, replicate, startRing, startWordCount, startWords}
+use Rattle.row.proofs.Names.{constantsOf, length-append, length-replicate, length-take-le, replicate, startRing, startWordCount, startWords}
 use Rattle.row.proofs.Exact.{ByOutcome, Exact, GoesOn, Sound, Waits}
 use Rattle.row.proofs.OwnKinds.{among-own, concerns-none, concerns-own}
 
@@ -85,7 +85,7 @@ fits-start c exact =
   where
     whole : length (startRing c) ≡ 64
     whole =
-        length-take-le 64 (constantsOf c ++ replicate 64 0) (omega (arith, length-append (constantsOf c) (replicate 64 0), length-replicate 64 0))
+        length-take-le 64 (constantsOf c ++ replicate 64 0) (omega (arith, length-append (constantsOf c) (replicate 64 0), length-replicate {A = ℕ} 64 0))
 
     from-start : ring (startRing c) 0 (startWordCount (parametersOf c)) ≡ startWords c
     from-start = let few = words-few (parametersOf c) in ring-take (startRing c) (startWordCount (parametersOf c)) few (omega (arith, few, whole))

@@ -8,6 +8,8 @@ use row_type::from_constraint;
 use row_type::parts;
 use table_row::TableRow;
 ghost use mathlib.Core.Path.{_≡_};
+ghost use Rattle.constraint.specs.Types.{Known};
+ghost use Rattle.table_row.specs.Records.{rowIn};
 ghost use Rattle.row.specs.Undo.{movesBy, savedBy, rowWithout, keptWithout, rowUndoOf, noRowUndo};
 ghost use Rattle.row.specs.Machine.{concerns, rowOf, rowStep};
 

@@ -26,6 +26,8 @@ use synchronizations::strong_synchronization;
 use synchronizations::synchronization;
 ghost use Prim.Native.Nat.{ℕ};
 ghost use mathlib.Core.Path.{_≡_};
+ghost use Rattle.constraint.specs.Types.{Known};
+ghost use Rattle.table_row.specs.Records.{rowIn};
 ghost use lib.ListN.{replicate};
 ghost use Rattle.row_type.specs.Words.{UndoRecord, askedOf, numberWords, NumbersBecome};
 ghost use Rattle.row_type.specs.declared.Parameters.{Parameters};

@@ -1,6 +1,6 @@
 -- The monitor's rows fit the steps one by one: what a step makes of a row it makes of each of them.
 use Rattle.monitor.proofs.Names.{Accepts, After, Constraint, Exact, Fits, List, Open, Reads, Room, Row, RowStep, Sound, Step, Valid, [], _++_}
-use Rattle.monitor.proofs.Names.{_+_, _<_, _∷_, _≡_, _≤_, anyFirst, arith, both, clock, close-calm, closeAt, closed, false, fits-reads}
+use Rattle.monitor.proofs.Names.{_+_, _<_, _∷_, _≡_, _≤_, anyFirst, arith, both, clock, close-calm, closeAt, closed, false, filler, fits-reads}
 use Rattle.monitor.proofs.Names.{fits-room, fits-start, fits-step, getD, getElem?, length, map, mapFirst, never, noRow, or-false, or-true}
 use Rattle.monitor.proofs.Names.{refl, rowOf, rowStep, rowVerdict, seen, some, subst, suc, sym, true, waiting, waitingLimit, zero, ℕ, ⊎-elim}
 
@@ -13,6 +13,11 @@ pub sound-at : (rows : List Constraint) → SoundRows rows → (i : ℕ) (c : Co
 sound-at [] sound i c there = never (cc)
 sound-at (d ∷ rows) sound zero c there = let same : d ≡ c = cc in subst Sound same (sound .0)
 sound-at (d ∷ rows) sound (suc i) c there = sound-at rows (sound .1) i c there
+
+pub sound-place : (rows : List Constraint) → SoundRows rows → (i : ℕ) → i < length rows → Sound (getD rows i filler)
+sound-place [] sound i there = absurd (omega arith)
+sound-place (c ∷ rows) sound zero there = sound .0
+sound-place (c ∷ rows) sound (suc i) there = sound-place rows (sound .1) i (omega arith)
 
 module _ (every-type-exact : (c : Constraint) → Sound c → Exact c) where
   -- each of a table's rows fits the steps

@@ -7,22 +7,24 @@ pub use Rattle.constraint.proofs.Library.{ap, append-assoc, append-nil, append-
 pub use Rattle.constraint.proofs.Library.{false, getD, getD-replicate, getD-set-other, getD-set-same, getElem?, inl, inr, le-ltb, leb, leb-false}
 pub use Rattle.constraint.proofs.Library.{leb-true, length, length-append, length-map, length-replicate, length-set, length-take-le, lt-ltb, ltb}
 pub use Rattle.constraint.proofs.Library.{ltb-false, ltb-true, map, map-append, min, needs, none, refl, replicate, set, set-at, set-out, set-set}
-pub use Rattle.constraint.proofs.Library.{some, subst, subst₂, suc, sym, take, take-all, take-suc, true, zero, ℕ, ℕ-discrete, ⊎-elim}
+pub use Rattle.constraint.proofs.Library.{some, subst, subst⁻¹, subst₂, suc, sym, take, take-all, take-suc, true, zero, ℕ, ℕ-discrete, ⊎-elim}
 pub use Rattle.constraint.proofs.Lists.{both, getD-within, or-false, or-true, split}
 pub use Rattle.constraint.proofs.Runs.{accepts-taken, broken-exactly, kept-exactly, reads-once, run-valid}
 pub use Rattle.constraint.proofs.Withdrawals.{begins-broken, but-last, butLast, calls-keep, keeps-begins}
 pub use Rattle.constraint.proofs.{Accepted.rows-room, Judged.judged-once, Judged.never, LastQuestion.judged-but-last, LastQuestion.judged-last}
-pub use Rattle.constraint.proofs.{Rows.rows-from, Rows.rows-length, Sanity.run-once, Streams.stream-below}
+pub use Rattle.constraint.proofs.{Sanity.run-once, Streams.stream-below}
+pub use Rattle.table_row.proofs.Tables.{rows-from, rows-length}
 pub use Rattle.constraint.specs.Continuation.{BrokenAt, EventInOrder, Open, Reads, reads-broken}
 pub use Rattle.constraint.specs.Limits.{firstColoured, lastColour, lastCount, lastKind, lastTime, noLimit, rowLimit, streamCount, waitingLimit}
 pub use Rattle.constraint.specs.Run.{Keeps, Left, Request, Run, asks, done, eventQuestions, leftBy, noneLeft, request, requestQuestions, stepFor}
 pub use Rattle.constraint.specs.Run.{withdraws}
 pub use Rattle.constraint.specs.Steps.{Step, at, clock, close, event, tick}
 pub use Rattle.constraint.specs.{Accepted.Accepted, Accepted.AcceptedIn, Meets.Meets, Promise.Promise, Promise.ReadsRow, Promise.no-row, Promise.row}
-pub use Rattle.constraint.specs.{Questions.Question, Records.filler, Records.rowsOf, Streams.stream, Waiting.waiting, declared.Answer.Answer}
+pub use Rattle.constraint.specs.{Questions.Question, Records.filler, Types.Known, Streams.stream, Waiting.waiting, declared.Answer.Answer}
 pub use Rattle.constraint.specs.{declared.Answer.the-variants.Refused, declared.Answer.the-variants.Taken, declared.Call.Call}
 pub use Rattle.constraint.specs.{Constraint.Constraint, Constraint.Delay, Constraint.Repeat}
-pub use Rattle.constraint.specs.{Constraint.Sporadic, declared.Entry.Entry, declared.Table.Table, declared.Verdict.Verdict}
+pub use Rattle.constraint.specs.{Constraint.Sporadic, declared.Verdict.Verdict}
+pub use Rattle.table_row.specs.{Records.rowIn, Tables.rowsOf, declared.Table.Table, declared.TableRow.TableRow}
 pub use Rattle.row_type.specs.{Parts.plus, Parameters.parametersOf}
 pub use Rattle.monitor.specs.Beside.{Beside, EachBeside, NoneFull, OtherAt, OwnStream, TakesAll, allTaken, answersTo, closes, no-more, others}
 pub use Rattle.monitor.specs.Beside.{place, same-event}

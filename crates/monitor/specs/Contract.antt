@@ -5,14 +5,14 @@ use mathlib.Core.List.{List, [], _∷_, _++_}
 use mathlib.Core.Option.{Option, none, some}
 use Rattle.constraint.specs.Questions.{Judged}
 use Rattle.constraint.specs.Accepted.{rowsQuestions, Accepted}
-use Rattle.constraint.specs.Records.{rowsOf}
 use Rattle.constraint.specs.Run.{Request, asks, withdraws, Left, noneLeft, requestQuestions, Run}
 use Rattle.constraint.specs.Promise.{Outcome, ReadsRow, play}
 use Rattle.constraint.specs.declared.Answer.{Answer}
 use Rattle.constraint.specs.declared.Answer.the-variants.{Taken, Refused}
 use Rattle.constraint.specs.Constraint.{Constraint}
-use Rattle.constraint.specs.declared.Table.{Table}
 use Rattle.constraint.specs.declared.Verdict.{Verdict}
+use Rattle.table_row.specs.Tables.{rowsOf}
+use Rattle.table_row.specs.declared.Table.{Table}
 use Rattle.monitor.specs.Machine.{monitorOf, stepOf, withdrawOf, verdictOf}
 use Rattle.monitor.specs.declared.Monitor.{Monitor}
 use Rattle.monitor.specs.declared.RowVerdict.{RowVerdict}

@@ -6,10 +6,12 @@ use row::StepInput;
 use table_row::Table;
 use table_row::TableRow;
 ghost use mathlib.Core.Path.{_≡_};
-ghost use Prim.Native.Nat.{_≤_, min};
-ghost use lib.ListN.{take};
+ghost use Prim.Native.Nat.{ℕ, _≤_, _<_, min};
+ghost use lib.ListN.{getD, take};
 ghost use Rattle.constraint.specs.Limits.{rowLimit};
-ghost use Rattle.constraint.specs.Records.{rowsOf};
+ghost use Rattle.constraint.specs.Records.{filler};
+ghost use Rattle.constraint.specs.Types.{Known};
+ghost use Rattle.table_row.specs.Tables.{rowsOf};
 ghost use Rattle.monitor.specs.Machine.{monitorOf};
 ghost use Rattle.monitor.specs.Parts.{RowsAfter, rowsWithout};
 
@@ -32,7 +34,7 @@ pub fn held(len: usize) -> usize
 
 // The monitor over the first rows of a table, before any step.
 pub(crate) fn over(table: Table, len: usize) -> Monitor
-    requires { ⌜ (len ≤ table .count) × (len ≤ rowLimit) ⌝ }
+    requires { ⌜ (len ≤ table .count) × (len ≤ rowLimit) × ((i : ℕ) → i < len → Known (getD (rowsOf table) i filler)) ⌝ }
     ensures { λ r. ⌜ r ≡ monitorOf (take len (rowsOf table)) ⌝ }
 {
     let mut rows = [Row::begin(TableRow::filler()); 32];

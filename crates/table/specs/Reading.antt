@@ -2,10 +2,10 @@
 use Prim.Native.Nat.{ℕ}
 use mathlib.Core.Path.{_≡_}
 use mathlib.Core.List.{List, []}
-use Rattle.constraint.specs.Records.{rowsOf}
+use Rattle.table_row.specs.Tables.{rowsOf}
 use Rattle.constraint.specs.Table.{TableRead, table-of, table-refused, ReadsTableUpTo}
-use Rattle.constraint.specs.declared.Constraint.{Constraint}
-use Rattle.constraint.specs.declared.Table.{Table}
+use Rattle.constraint.specs.Constraint.{Constraint}
+use Rattle.table_row.specs.declared.Table.{Table}
 use Rattle.table.specs.declared.ReadAnswer.{ReadAnswer}
 use Rattle.table.specs.declared.Reading.{Reading}
 

@@ -9,8 +9,9 @@ use Rattle.constraint.specs.Accepted.{AcceptedIn}
 use Rattle.constraint.specs.Records.{filler}
 use Rattle.constraint.specs.Steps.{at}
 use Rattle.constraint.specs.Table.{TableRead, table-of, table-refused, lengthAt, bodyAt, WholeAt, RowAt, ReadsRows, ReadsTableUpTo}
-use Rattle.constraint.specs.declared.Constraint.{Constraint}
-use Rattle.table.specs.Rows.{constraintOf}
+use Rattle.constraint.specs.Constraint.{Constraint}
+use Rattle.table_row.specs.Records.{rowIn}
+use Rattle.table.specs.Rows.{rowReadAt}
 use Rattle.table.specs.declared.ReadAnswer.{ReadAnswer}
 use Rattle.table.specs.declared.scan.Scan.{Scan}
 use Rattle.table.specs.declared.scan.Placed.{Placed}
@@ -40,10 +41,10 @@ Scans newest bytes r = Says (at bytes 0) (ReadsTableUpTo newest bytes) (r .answe
 -- the promise of reading at a place: where a row is whole, it is read from its body, and the next place is the one behind it; where none is,
 -- the filler and the place itself
 pub record PlacedAt (bytes : List ℕ) (place : ℕ) (r : Placed) : Type 0 where
-  pub read : WholeAt bytes place → r .row ≡ constraintOf (bodyAt bytes place)
-  pub stands : WholeAt bytes place → (edition : ℕ) → RowAt edition bytes place (r .row)
+  pub read : WholeAt bytes place → rowIn (r .row) ≡ rowReadAt bytes place
+  pub stands : WholeAt bytes place → (edition : ℕ) → RowAt edition bytes place (rowIn (r .row))
   pub behind : WholeAt bytes place → r .next ≡ place + 2 + lengthAt bytes place
-  pub none : ¬ WholeAt bytes place → (r .row ≡ filler) × (r .next ≡ place)
+  pub none : ¬ WholeAt bytes place → (rowIn (r .row) ≡ filler) × (r .next ≡ place)
 
 -- the row behind i others of a table that is read
 abbrev pub RowBehind : List ℕ → ℕ → Constraint → Type 0
@@ -58,5 +59,5 @@ pub record RowIs (count i : ℕ) (c : Constraint) (rows : List Constraint) : Typ
 -- the promise of finding a row by its number: the table is judged, and the row is the one of that number
 pub record FindsRow (newest : ℕ) (bytes : List ℕ) (i : ℕ) (r : Numbered) : Type 0 where
   pub scans : Scans newest bytes (r .scan)
-  pub found : (rows : List Constraint) → ReadsTableUpTo newest bytes (table-of rows) → RowIs (r .scan .rows) i (r .row) rows
-  pub none : r .scan .rows ≤ i → r .row ≡ filler
+  pub found : (rows : List Constraint) → ReadsTableUpTo newest bytes (table-of rows) → RowIs (r .scan .rows) i (rowIn (r .row)) rows
+  pub none : r .scan .rows ≤ i → rowIn (r .row) ≡ filler

@@ -7,7 +7,7 @@ use Rattle.constraint.specs.Questions.{Judged}
 use Rattle.constraint.specs.Table.{tableBytesIn, writerQuestions, writtenTo}
 use Rattle.constraint.specs.declared.Answer.{Answer}
 use Rattle.constraint.specs.declared.Answer.the-variants.{Taken, Refused}
-use Rattle.constraint.specs.declared.Constraint.{Constraint}
+use Rattle.constraint.specs.Constraint.{Constraint}
 use Rattle.table.specs.declared.WriteAnswer.{WriteAnswer}
 
 abbrev pub answerIn : WriteAnswer → Answer

@@ -4,7 +4,7 @@ use constraint::Answer;
 use table_row::TableRow;
 use table_row::types::length_of;
 use table_row::types::type_known;
-ghost use Prim.Native.Nat.{_+_, _*_, _≤_};
+ghost use Prim.Native.Nat.{_+_, _*_, _<_, _≤_};
 ghost use mathlib.Core.Path.{_≡_};
 ghost use mathlib.Core.List.{[]};
 ghost use lib.ListN.{length};
@@ -13,15 +13,30 @@ ghost use Rattle.constraint.specs.Accepted.{rowsQuestions};
 ghost use Rattle.constraint.specs.Questions.{Judged};
 ghost use Rattle.constraint.specs.Records.{Decides};
 ghost use Rattle.constraint.specs.Table.{rowsBytes};
-ghost use Rattle.table.specs.Rows.{constraintOf};
-ghost use Rattle.table.specs.Raw.{rawSize, bodyLength, rawBody, rawRows, WholeRow, Known, RowTaken, FirstRefused, StoresRow, WritesRaw};
+ghost use Rattle.table_row.specs.Records.{rowFrom};
+ghost use Rattle.table.specs.Raw.{rawSize, bodyLength, rawBody, rawRows, KnownFrom, WholeRow, KnownRows, RowTaken, FirstRefused, StoresRow, WritesRaw};
 
 // How many bytes each row is given, which the longest type needs.
 const RAW_SIZE: usize = 34;
 
+// Question 4 of the row that starts at a place, where the type gives the length: is the type one of the edition, n in range, and are the bytes that
+// the row is given enough for it?
+fn known_at(edition: u8, bytes: &[u8], start: usize) -> bool
+    requires { ⌜ start < length (now bytes) ⌝ }
+    ensures { λ r. ⌜ Decides (KnownFrom edition (now (bytes .entry)) start) r ⌝ }
+{
+    let tag = big_endian::byte_at(bytes, start);
+    let next = start + 1;
+    let n = big_endian::byte_at(bytes, next);
+    if !type_known(edition, tag, n as u64) {
+        return false;
+    }
+    length_of(tag, n) <= RAW_SIZE
+}
+
 // How many of the first rows are whole and of types of the edition: at most as many as a table has entries.
 fn known_rows(edition: u8, bytes: &[u8]) -> usize
-    ensures { λ r. ⌜ Known edition (now (bytes .entry)) r ⌝ }
+    ensures { λ r. ⌜ KnownRows edition (now (bytes .entry)) r ⌝ }
 {
     let mut start = 0;
     let mut i = 0;
@@ -29,10 +44,7 @@ fn known_rows(edition: u8, bytes: &[u8]) -> usize
         if bytes.len() - start < RAW_SIZE {
             return i;
         }
-        let tag = big_endian::byte_at(bytes, start);
-        let next = start + 1;
-        let n = big_endian::byte_at(bytes, next);
-        if !type_known(edition, tag, n) {
+        if !known_at(edition, bytes, start) {
             return i;
         }
         start += RAW_SIZE;
@@ -56,7 +68,7 @@ fn body_end(edition: u8, bytes: &[u8], i: usize) -> usize
 // The row that the body of row i is read as.
 fn row_at(edition: u8, bytes: &[u8], i: usize) -> TableRow
     requires { ⌜ WholeRow edition (now bytes) i ⌝ }
-    ensures { λ r. ⌜ r ≡ constraintOf (rawBody (now (bytes .entry)) i) ⌝ }
+    ensures { λ r. ⌜ r ≡ rowFrom (rawBody (now (bytes .entry)) i) ⌝ }
 {
     let start = i * RAW_SIZE;
     let end = body_end(edition, bytes, i);
@@ -65,7 +77,7 @@ fn row_at(edition: u8, bytes: &[u8], i: usize) -> TableRow
 
 // The answer to questions 3 to 7 and 18 of the first rows, row by row.
 fn validate_rows(edition: u8, bytes: &[u8], count: usize) -> Answer
-    requires { ⌜ Known edition (now bytes) count ⌝ }
+    requires { ⌜ KnownRows edition (now bytes) count ⌝ }
     ensures { λ r. ⌜ Judged (rowsQuestions edition 0 (rawRows (now (bytes .entry)) 0 count) []) r ⌝ }
 {
     let mut i = 0;
@@ -84,7 +96,7 @@ fn validate_rows(edition: u8, bytes: &[u8], count: usize) -> Answer
 
 // The number of bytes of the table of the first rows.
 fn size_of(edition: u8, bytes: &[u8], count: usize) -> usize
-    requires { ⌜ Known edition (now bytes) count ⌝ }
+    requires { ⌜ KnownRows edition (now bytes) count ⌝ }
     ensures { λ r. ⌜ r ≡ 1 + length (rowsBytes (rawRows (now (bytes .entry)) 0 count)) ⌝ }
 {
     let mut size = 1;
@@ -111,7 +123,7 @@ fn put_row(edition: u8, buffer: &mut [u8], place: usize, bytes: &[u8], i: usize)
 
 // Stores the first rows behind the version byte.
 fn put_rows(edition: u8, buffer: &mut [u8], bytes: &[u8], count: usize)
-    requires { ⌜ Known edition (now bytes) count × (1 + length (rowsBytes (rawRows (now bytes) 0 count)) ≤ length (now buffer)) ⌝ }
+    requires { ⌜ KnownRows edition (now bytes) count × (1 + length (rowsBytes (rawRows (now bytes) 0 count)) ≤ length (now buffer)) ⌝ }
     ensures { λ _. ⌜ now (buffer .exit) ≡ sets (now (buffer .entry)) 1 (rowsBytes (rawRows (now (bytes .entry)) 0 count)) ⌝ }
 {
     let mut place = 1;
@@ -127,11 +139,7 @@ fn row_taken(edition: u8, bytes: &[u8], i: usize) -> bool
     requires { ⌜ (i + 1) * rawSize ≤ length (now bytes) ⌝ }
     ensures { λ r. ⌜ Decides (RowTaken edition (now (bytes .entry)) i) r ⌝ }
 {
-    let start = i * RAW_SIZE;
-    let tag = big_endian::byte_at(bytes, start);
-    let next = start + 1;
-    let n = big_endian::byte_at(bytes, next);
-    if !type_known(edition, tag, n) {
+    if !known_at(edition, bytes, i * RAW_SIZE) {
         return false;
     }
     let row = row_at(edition, bytes, i);

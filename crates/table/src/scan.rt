@@ -7,6 +7,7 @@ use constraint::Answer;
 use table_row::TableRow;
 ghost use Prim.Native.Nat.{_<_};
 ghost use lib.ListN.{length};
+ghost use Rattle.table_row.specs.Records.{rowIn};
 ghost use Rattle.table.specs.Scan.{CountsRows, Scans, PlacedAt, RowBehind, FindsRow};
 
 // The answer to a table's bytes, and how many rows they hold; after a refusal none.
@@ -81,7 +82,7 @@ pub fn row_at(bytes: &[u8], place: usize) -> Placed
 
 // The row behind i others of an accepted table.
 fn row_behind(bytes: &[u8], i: usize) -> TableRow
-    ensures { λ r. ⌜ RowBehind (now (bytes .entry)) i r ⌝ }
+    ensures { λ r. ⌜ RowBehind (now (bytes .entry)) i (rowIn r) ⌝ }
 {
     let mut place = 1;
     let mut k = 0;

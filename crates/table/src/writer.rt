@@ -2,11 +2,11 @@
 use table_row::Table;
 ghost use mathlib.Core.Path.{_≡_};
 ghost use Prim.Native.Nat.{_+_, _≤_};
-ghost use lib.ListN.{length, take};
+ghost use lib.ListN.{length};
 ghost use lib.Seq.{sets};
 ghost use Rattle.constraint.specs.Limits.{rowLimit};
-ghost use Rattle.constraint.specs.Records.{rowsOf, timesBytes};
-ghost use Rattle.constraint.specs.Table.{rowBody, rowBytes, rowsBytes};
+ghost use Rattle.constraint.specs.Table.{rowsBytes};
+ghost use Rattle.table_row.specs.Tables.{rowsOf};
 
 // Stores the rows of a table behind the version byte.
 pub(crate) fn put_rows(buffer: &mut [u8], table: Table)

@@ -7,16 +7,11 @@ use Rattle.constraint.proofs.Lengths.{at-most}
 use Rattle.constraint.proofs.Lists.{split}
 use Rattle.constraint.specs.Steps.{at}
 use Rattle.constraint.specs.Types.{lengths, entrySizes, lengthOf}
-use Rattle.table_row.specs.Records.{placeRoles, placeNeeds, uses, roleAt, rolesFrom, rolesOf, total, width}
+use Rattle.table_row.specs.Records.{uses, roleAt, rolesFrom, rolesOf, total, width}
 
 pub uses-leb : (m n : ℕ) → uses m n ≡ leb m n
 uses-leb zero n = sym (le-leb 0 n (omega arith))
 uses-leb (suc m) n = refl
-
--- past the end of the lists stands no role
-pub role-unknown : (t n i : ℕ) → 324 ≤ 18 * t + i → roleAt t n i ≡ 0
-role-unknown t n i past =
-    rw (List·getD-eq-default placeNeeds 0 {n = 18 * t + i} past, List·getD-eq-default placeRoles 0 {n = 18 * t + i} past)
 
 pub roles-more : (roles : List ℕ) (t n i left : ℕ) → i + left ≡ 18 → 0 < left
     → sets roles i (rolesFrom left t n i) ≡ sets (set roles i (roleAt t n i)) (i + 1) (rolesFrom (left - 1) t n (i + 1))

@@ -23,11 +23,10 @@ pub struct TableRow {
     pub values: [u64; 18],
 }
 
-// The values of the fields of these roles in a body, from its second byte on: past its end, of the bytes that are there.
-fn values_in(body: &[u8], roles: [u8; 18]) -> [u64; 18]
-    ensures { λ r. ⌜ r ≡ valuesAt roles (now (body .entry)) 1 ⌝ }
+// Stores the values of the fields of these roles in a body, from its second byte on: past its end, of the bytes that are there.
+fn fill(values: &mut [u64; 18], body: &[u8], roles: &[u8; 18])
+    ensures { λ _. ⌜ now (values .exit) ≡ valuesAt (now (roles .entry)) (now (body .entry)) 1 ⌝ }
 {
-    let mut values = [0u64; 18];
     let mut place = 1;
     let mut i = 0;
     while i < MOST_FIELDS {
@@ -36,7 +35,6 @@ fn values_in(body: &[u8], roles: [u8; 18]) -> [u64; 18]
         place += width;
         i += 1;
     }
-    values
 }
 
 // How many bytes fields of these roles have.
@@ -88,31 +86,34 @@ impl TableRow {
         let tag = big_endian::byte_at(body, 0);
         let n = big_endian::byte_at(body, 1);
         let roles = types::roles_of(tag, n as u64);
-        let values = values_in(body, roles);
-        TableRow { tag, values }
+        let mut row = TableRow {
+            tag,
+            values: [0u64; 18],
+        };
+        fill(&mut row.values, body, &roles);
+        row
     }
 
     // The answer to questions 4, without the length, 5, 18, 6 and 7, in an edition. Any record is taken, also one of no type.
-    pub fn validate(self, edition: u8) -> Answer
-        ensures { λ r. ⌜ Judged (rowQuestionsIn edition (rowIn self)) r ⌝ }
+    pub fn validate(&self, edition: u8) -> Answer
+        ensures { λ r. ⌜ Judged (rowQuestionsIn edition (rowIn (now (self .entry)))) r ⌝ }
     {
         let tag = self.tag;
-        let values = self.values;
-        let n = values[0];
+        let n = self.values[0];
         if !types::type_known(edition, tag, n) {
             return Answer::Refused(4);
         }
         let roles = types::roles_of(tag, n);
-        if !fields::kinds_fit(roles, values) {
+        if !fields::kinds_fit(&roles, &self.values) {
             return Answer::Refused(5);
         }
-        if !fields::kind_classes_valid(roles, values) {
+        if !fields::kind_classes_valid(&roles, &self.values) {
             return Answer::Refused(18);
         }
-        if !fields::ranges_fit(roles, values) {
+        if !fields::ranges_fit(&roles, &self.values) {
             return Answer::Refused(6);
         }
-        if !fields::lower_first(n, roles, values) {
+        if !fields::lower_first(n, &roles, &self.values) {
             return Answer::Refused(7);
         }
         Answer::Taken

@@ -21,7 +21,7 @@ returns c =
     let at-loop = c .before .before .before .before in let a = at-loop .before .args in
     let is = sym (c .before .before .is-kind .ensures) ∙ c .before .if1 .taken in
     at-loop .loop .inv .1 false
-    (λ fit. let first = kinds-first _ _ (rw (kind-here (a .t1) (a .t2) (at-loop .loop .i) (omega arith) (omega arith) is) at fit) in omega arith)
+    (λ fit. let first = kinds-first _ _ (rw (kind-here (a .roles .now) (a .values .now) (at-loop .loop .i) (omega arith) (omega arith) is) at fit) in omega arith)
 
 returns-2 : tie.Need-returns-2 Inv-loop μ-loop
 returns-2 c =
@@ -30,7 +30,7 @@ returns-2 c =
     let test = c .before .is-new in
     at-loop .loop .inv .1 false
     (λ fit. failed (test .result) (test .ensures) (c .if3 .taken)
-    (kinds-first _ _ (rw (kind-here (a .t1) (a .t2) (at-loop .loop .i) (omega arith) (omega arith) is) at fit) .1))
+    (kinds-first _ _ (rw (kind-here (a .roles .now) (a .values .now) (at-loop .loop .i) (omega arith) (omega arith) is) at fit) .1))
 
 loop-again : tie.Need-loop-again Inv-loop μ-loop
 loop-again c =
@@ -41,16 +41,16 @@ loop-again c =
       λ b later. at-loop .loop .inv .1 b
           (⊎-elim
           (λ came. let new = passed (came .2 .result) (came .2 .ensures) (came .3 .left) in
-          rw (kind-here (a .t1) (a .t2) i (omega arith) (omega arith) (is ∙ came .0 .taken))
-          (same-test (kinds-more (at (a .t2) i) _ (came .1 .left, new)) (kinds-rest (at (a .t2) i) _) b later))
-          (λ came. rw (kind-elsewhere (a .t1) (a .t2) i (omega arith) (omega arith) (is ∙ came .left)) later)
+          rw (kind-here (a .roles .now) (a .values .now) i (omega arith) (omega arith) (is ∙ came .0 .taken))
+          (same-test (kinds-more (at (a .values .now) i) _ (came .1 .left, new)) (kinds-rest (at (a .values .now) i) _) b later))
+          (λ came. rw (kind-elsewhere (a .roles .now) (a .values .now) i (omega arith) (omega arith) (is ∙ came .left)) later)
           (c .if1 .came)),
     )
 
 returns-3 : tie.Need-returns-3 Inv-loop μ-loop
 returns-3 c =
     let a = c .before .before .args in
-    c .before .loop .inv .1 true (rw (fields-end (a .t1) (a .t2) (c .before .loop .i) (omega arith)) kinds-none)
+    c .before .loop .inv .1 true (rw (fields-end (a .roles .now) (a .values .now) (c .before .loop .i) (omega arith)) kinds-none)
 
 pub kinds-fit-spec : {M : Type 1} → statement M
 kinds-fit-spec =

@@ -20,13 +20,13 @@ returns : tie.Need-returns Inv-loop μ-loop
 returns c =
     let at-loop = c .before .before .before in let a = at-loop .before .args in let test = c .before .bound-fits in
     at-loop .loop .inv .2 false
-    (bound-missed (a .n) (at-loop .loop .low) (a .t2) (a .t3) (at-loop .loop .i) (omega arith) (omega arith)
+    (bound-missed (a .n) (at-loop .loop .low) (a .roles .now) (a .values .now) (at-loop .loop .i) (omega arith) (omega arith)
     (failed (test .result) (test .ensures) (c .if1 .taken)))
 
 bound-after-requires : tie.Need-bound-after-requires Inv-loop μ-loop
 bound-after-requires c κs =
     let at-loop = c .before .before .before in let a = at-loop .before .args in
-    field-parts FieldInRange (a .t2) (a .t3) (at-loop .loop .i) (omega arith) (omega arith) (at-loop .loop .inv .1) .0
+    field-parts FieldInRange (a .roles .now) (a .values .now) (at-loop .loop .i) (omega arith) (omega arith) (at-loop .loop .inv .1) .0
 
 loop-again : tie.Need-loop-again Inv-loop μ-loop
 loop-again c =
@@ -34,15 +34,15 @@ loop-again c =
     let test = c .before .before .bound-fits in
     let here = passed (test .result) (test .ensures) (c .before .if1 .left) in (
       omega arith,
-      field-parts FieldInRange (a .t2) (a .t3) i (omega arith) (omega arith) (at-loop .loop .inv .1) .1,
+      field-parts FieldInRange (a .roles .now) (a .values .now) i (omega arith) (omega arith) (at-loop .loop .inv .1) .1,
       λ b later. at-loop .loop .inv .2 b
-          (bound-here (a .n) (at-loop .loop .low) (a .t2) (a .t3) i (omega arith) (omega arith) here b (rw (c .bound-after .ensures) at later)),
+          (bound-here (a .n) (at-loop .loop .low) (a .roles .now) (a .values .now) i (omega arith) (omega arith) here b (rw (c .bound-after .ensures) at later)),
     )
 
 returns-2 : tie.Need-returns-2 Inv-loop μ-loop
 returns-2 c =
     let a = c .before .before .args in
-    c .before .loop .inv .2 true (rw (fields-end (a .t2) (a .t3) (c .before .loop .i) (omega arith)) tt)
+    c .before .loop .inv .2 true (rw (fields-end (a .roles .now) (a .values .now) (c .before .loop .i) (omega arith)) tt)
 
 pub lower-first-spec : {M : Type 1} → statement M
 lower-first-spec =

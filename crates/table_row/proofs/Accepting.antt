@@ -91,7 +91,7 @@ row-fits edition c known fit =
     let about = shape edition (typeOf c) (countOf c) known in
     let own = again c (known .n-known) in
     let long = ap (λ (fs : List Field). length (fieldsBytes fs)) (own-fields edition c known)
-    ∙ fields-long (rolesOf (typeOf c) (countOf c)) (placed c) (about .2 ∙ sym (own .2)) in
+    ∙ fields-long (rolesOf (typeOf c) (countOf c)) (placed c) 0 in
     record {
       type-there = omega arith;
       known = subst₂ (TypeKnown edition) refl n known;

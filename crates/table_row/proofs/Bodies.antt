@@ -9,7 +9,7 @@ use Rattle.constraint.specs.Bytes.{Bytes, bytesAt, bytesOf, number, numberAt}
 use Rattle.big_endian.proofs.Numbers.{bytes-length, bytes-of-number, number-below, number-of-bytes}
 use Rattle.constraint.specs.Types.{Field, byte, time}
 use Rattle.constraint.specs.Table.{fieldsBytes, FieldsFit}
-use Rattle.table_row.specs.Records.{byteRole, timeRole, width, fieldOf, fieldAt, fieldsAs, valuesAt, total, cleared}
+use Rattle.table_row.specs.Records.{byteRole, timeRole, width, fieldOf, fieldAt, fieldsAs, fieldsWith, valuesAt, total, cleared}
 
 -- A part of some bytes
 
@@ -70,20 +70,32 @@ fits-place r x later =
     (λ long. FieldsFit (cond long (time (timeRole r) x) (byte (byteRole r) x) ∷ later) → (x < 256 ^ cond long 8 1) × FieldsFit later)
     (λ e fit. fit) (λ e fit. fit))
 
+-- the values behind the first are those of the rest
+pub with-shift : (roles : List ℕ) (x : ℕ) (values : List ℕ) (i : ℕ) → fieldsWith roles (x ∷ values) (suc i) ≡ fieldsWith roles values i
+unfolding fieldsWith
+with-shift [] x values i = refl
+with-shift (r ∷ roles) x values i = ap (λ (later : List Field). fieldAt r (at values i) ++ later) (with-shift roles x values (suc i))
+
+pub as-cons : (r : ℕ) (roles : List ℕ) (x : ℕ) (values : List ℕ) → fieldsAs (r ∷ roles) (x ∷ values) ≡ fieldAt r x ++ fieldsAs roles values
+unfolding fieldsWith
+as-cons r roles x values = ap (λ (later : List Field). fieldAt r x ++ later) (with-shift roles x values 0)
+
 -- From values to bytes and back
 
 pub written-read : (roles values before after : List ℕ) → length roles ≡ length values → FieldsFit (fieldsAs roles values)
     → valuesAt roles (before ++ (fieldsBytes (fieldsAs roles values) ++ after)) (length before) ≡ cleared roles values
-unfolding valuesAt fieldsAs
+unfolding valuesAt
 written-read [] values before after same fit = refl
 written-read (r ∷ roles) [] before after same fit = absurd (omega arith)
 written-read (r ∷ roles) (x ∷ values) before after same fit =
     let later = fieldsBytes (fieldsAs roles values) in
     let here = bytesOf (width r) (kept r x) in
     let size : length here ≡ width r = bytes-length (width r) (kept r x) in
-    let fits = fits-place r x (fieldsAs roles values) fit in
-    let all : before ++ (fieldsBytes (fieldAt r x ++ fieldsAs roles values) ++ after) ≡ before ++ (here ++ (later ++ after)) =
-    ap (λ (l : List ℕ). before ++ (l ++ after)) (place-bytes r x (fieldsAs roles values) ∙ ap (λ (l : List ℕ). l ++ later) (kept-bytes r x))
+    let cons = as-cons r roles x values in
+    let fits = fits-place r x (fieldsAs roles values) (subst FieldsFit cons fit) in
+    let all : before ++ (fieldsBytes (fieldsAs (r ∷ roles) (x ∷ values)) ++ after) ≡ before ++ (here ++ (later ++ after)) =
+    ap (λ (l : List ℕ). before ++ (l ++ after))
+    (ap fieldsBytes cons ∙ place-bytes r x (fieldsAs roles values) ∙ ap (λ (l : List ℕ). l ++ later) (kept-bytes r x))
     ∙ ap (λ (l : List ℕ). before ++ l) (append-assoc here later after) in
     let first : numberAt (width r) (before ++ (here ++ (later ++ after))) (length before) ≡ kept r x =
     rw (drop-append-seam before (here ++ (later ++ after)), take-at here (later ++ after) (width r) size)
@@ -99,18 +111,20 @@ written-read (r ∷ roles) (x ∷ values) before after same fit =
 module _ (body : List ℕ) (all : Bytes body) where
   pub read-written : (roles : List ℕ) (place : ℕ) → place + total roles ≤ length body
       → fieldsBytes (fieldsAs roles (valuesAt roles body place)) ≡ bytesAt (total roles) body place
-  unfolding valuesAt fieldsAs fieldsBytes
+  unfolding valuesAt fieldsWith fieldsBytes
   read-written [] place there = refl
   read-written (r ∷ roles) place there =
       let x = numberAt (width r) body place in
-      place-bytes r x (fieldsAs roles (valuesAt roles body (place + width r)))
+      ap fieldsBytes (as-cons r roles x (valuesAt roles body (place + width r)))
+      ∙ place-bytes r x (fieldsAs roles (valuesAt roles body (place + width r)))
       ∙ ap₂ (λ (first later : List ℕ). first ++ later) (number-back (width r) body place all (omega arith))
       (read-written roles (place + width r) (omega arith))
       ∙ sym (take-add (width r) (total roles) (drop place body) ∙ rw (drop-drop (width r) place body))
 
   pub read-fits : (roles : List ℕ) (place : ℕ) → place + total roles ≤ length body → FieldsFit (fieldsAs roles (valuesAt roles body place))
-  unfolding valuesAt fieldsAs
+  unfolding valuesAt fieldsWith
   read-fits [] place there = tt
   read-fits (r ∷ roles) place there =
-      place-fits r (numberAt (width r) body place) (fieldsAs roles (valuesAt roles body (place + width r)))
-      (number-small (width r) body place all (omega arith)) (read-fits roles (place + width r) (omega arith))
+      subst⁻¹ FieldsFit (as-cons r roles (numberAt (width r) body place) (valuesAt roles body (place + width r)))
+      (place-fits r (numberAt (width r) body place) (fieldsAs roles (valuesAt roles body (place + width r)))
+      (number-small (width r) body place all (omega arith)) (read-fits roles (place + width r) (omega arith)))

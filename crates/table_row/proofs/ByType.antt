@@ -16,7 +16,7 @@ use Rattle.constraint.specs.Constraint.{Arbitrary, Comparison}
 use Rattle.constraint.specs.Types.{Field, typeOf, fieldsOf, countOf}
 use Rattle.constraint.specs.Table.{widthOf}
 use Rattle.constraint.specs.Types.{lengths, leastCounts, mostCounts, takesCount, lengthOf}
-use Rattle.table_row.specs.Records.{rowRead, rolesOf, fieldsAs, entries, pairs, total, width, cleared}
+use Rattle.table_row.specs.Records.{rowRead, rolesOf, fieldsAs, fieldsWith, entries, pairs, total, width, cleared}
 use Rattle.table_row.specs.Records.{noConstraint}
 
 -- what is shown of each of n numbers from i on, one after the other, is shown of all of them
@@ -44,9 +44,8 @@ abbrev pub CountIs : ℕ → ℕ → ℕ → Type 0
 CountIs t n first = (first ≡ n) × (at leastCounts t ≤ n) × (n ≤ at mostCounts t)
 
 module _ (n : ℕ) (v : List ℕ) where
-  -- with the first 18 of the values, each by itself
   abbrev Here : ℕ → Type 0
-  Here t = Reads t n (entries 18 v 0)
+  Here t = Reads t n v
 
   abbrev Counted : ℕ → Type 0
   Counted t = CountIs t n (at v 0) → Here t
@@ -59,35 +58,35 @@ module _ (n : ℕ) (v : List ℕ) where
       (λ each. each n (omega (arith, known .1)) (omega (arith, known .2)) (known .0, refl))
 
   strong-synchronization : Counted 7
-  unfolding rowRead fieldsAs
+  unfolding rowRead fieldsWith
   strong-synchronization known =
       by-count 7 known 2 3 (omega arith) (omega arith)
       (λ e. rw (e .0, e .1) (refl, refl, refl, refl, refl)) (λ e. rw (e .0, e .1) (refl, refl, refl, refl, refl))
       (λ e. rw (e .0, e .1) (refl, refl, refl, refl, refl))
 
   synchronization : Counted 11
-  unfolding rowRead fieldsAs
+  unfolding rowRead fieldsWith
   synchronization known =
       by-count 11 known 2 3 (omega arith) (omega arith)
       (λ e. rw (e .0, e .1) (refl, refl, refl, refl, refl)) (λ e. rw (e .0, e .1) (refl, refl, refl, refl, refl))
       (λ e. rw (e .0, e .1) (refl, refl, refl, refl, refl))
 
   output : Counted 13
-  unfolding rowRead fieldsAs
+  unfolding rowRead fieldsWith
   output known =
       by-count 13 known 2 3 (omega arith) (omega arith)
       (λ e. rw (e .0, e .1) (refl, refl, refl, refl, refl)) (λ e. rw (e .0, e .1) (refl, refl, refl, refl, refl))
       (λ e. rw (e .0, e .1) (refl, refl, refl, refl, refl))
 
   input : Counted 14
-  unfolding rowRead fieldsAs
+  unfolding rowRead fieldsWith
   input known =
       by-count 14 known 2 3 (omega arith) (omega arith)
       (λ e. rw (e .0, e .1) (refl, refl, refl, refl, refl)) (λ e. rw (e .0, e .1) (refl, refl, refl, refl, refl))
       (λ e. rw (e .0, e .1) (refl, refl, refl, refl, refl))
 
   pattern : Counted 15
-  unfolding rowRead fieldsAs
+  unfolding rowRead fieldsWith
   pattern known =
       by-count 15 known 1 8 (omega arith) (omega arith)
       (λ e. rw (e .0, e .1) (refl, refl, refl, refl, refl)) (λ e. rw (e .0, e .1) (refl, refl, refl, refl, refl))
@@ -96,7 +95,7 @@ module _ (n : ℕ) (v : List ℕ) where
       (λ e. rw (e .0, e .1) (refl, refl, refl, refl, refl)) (λ e. rw (e .0, e .1) (refl, refl, refl, refl, refl))
 
   arbitrary : Counted 16
-  unfolding rowRead fieldsAs
+  unfolding rowRead fieldsWith
   arbitrary known =
       by-count 16 known 1 8 (omega arith) (omega arith)
       (λ e. rw (e .0, e .1) (refl, refl, refl, refl, refl)) (λ e. rw (e .0, e .1) (refl, refl, refl, refl, refl))
@@ -105,7 +104,7 @@ module _ (n : ℕ) (v : List ℕ) where
       (λ e. rw (e .0, e .1) (refl, refl, refl, refl, refl)) (λ e. rw (e .0, e .1) (refl, refl, refl, refl, refl))
 
   pub values-read : (t : ℕ) → (1 ≤ t) × (t < length lengths) → (takesCount t ≡ true → CountIs t n (at v 0)) → Here t
-  unfolding rowRead fieldsAs
+  unfolding rowRead fieldsWith
   values-read t known several =
       each-then (λ m. t ≡ m → Here m) (Here t) 1 17 (λ each. each t (known .0) (omega (arith, known .1)) refl)
       (λ e. (refl, refl, omega arith, refl, refl))

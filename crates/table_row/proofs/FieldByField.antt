@@ -10,17 +10,17 @@ use Rattle.constraint.specs.Steps.{at}
 use Rattle.constraint.specs.Types.{kind, coloured, count, span, plain, lower, upper, upper-or-none, offset, left, right, TimeRole, ByteRole, Field, byte, time}
 use Rattle.constraint.specs.Accepted.{kindsIn, KindClassFits, FieldInRange, EachField, NotBelow, boundAfter, Ordered}
 use Rattle.table_row.specs.Records.{boundBehind}
-use Rattle.table_row.specs.Records.{byteRole, timeRole, operandRole, plainRole, isKind, fieldOf, fieldAt, fieldsAs, fieldsFrom}
+use Rattle.table_row.specs.Records.{byteRole, timeRole, operandRole, plainRole, isKind, fieldOf, fieldAt, fieldsFrom, fieldsWith}
 
 -- Places
 
 module _ (roles values : List ℕ) (i : ℕ) where
-  pub fields-next : i < length roles → i < length values → fieldsFrom roles values i ≡ fieldAt (at roles i) (at values i) ++ fieldsFrom roles values (i + 1)
-  unfolding fieldsAs
-  fields-next h k = rw (add-one i, drop-cons roles i 0 h, drop-cons values i 0 k)
+  pub fields-next : i < length roles → fieldsFrom roles values i ≡ fieldAt (at roles i) (at values i) ++ fieldsFrom roles values (i + 1)
+  unfolding fieldsWith
+  fields-next h = rw (add-one i, drop-cons roles i 0 h)
 
   pub fields-end : length roles ≤ i → fieldsFrom roles values i ≡ []
-  unfolding fieldsAs
+  unfolding fieldsWith
   fields-end h = rw (drop-of-length-le roles {i = i} h)
 
 -- by what a number of a role says: none, a time of a role, or a byte of one
@@ -41,20 +41,20 @@ pub each-parts : (Asked : Field → Type 0) (a b : List Field) → EachField Ask
 each-parts Asked [] b h = (tt, h)
 each-parts Asked (f ∷ a) b h = let parts = each-parts Asked a b (h .1) in ((h .0, parts .0), parts .1)
 
-module _ (Asked : Field → Type 0) (roles values : List ℕ) (i : ℕ) (h : i < length roles) (k : i < length values) where
+module _ (Asked : Field → Type 0) (roles values : List ℕ) (i : ℕ) (h : i < length roles) where
   -- where the field at a place is as asked, the answer is that of those behind it
   pub field-here : EachField Asked (fieldAt (at roles i) (at values i)) → (b : Bool) → Decides (EachField Asked (fieldsFrom roles values (i + 1))) b
       → Decides (EachField Asked (fieldsFrom roles values i)) b
   field-here here =
       let one = fieldAt (at roles i) (at values i) in
       let later = fieldsFrom roles values (i + 1) in
-      same-test (λ rest. subst⁻¹ (EachField Asked) (fields-next roles values i h k) (each-join Asked one later here rest))
-      (λ all. each-parts Asked one later (subst (EachField Asked) (fields-next roles values i h k) all) .1)
+      same-test (λ rest. subst⁻¹ (EachField Asked) (fields-next roles values i h) (each-join Asked one later here rest))
+      (λ all. each-parts Asked one later (subst (EachField Asked) (fields-next roles values i h) all) .1)
 
   pub field-parts : EachField Asked (fieldsFrom roles values i)
       → EachField Asked (fieldAt (at roles i) (at values i)) × EachField Asked (fieldsFrom roles values (i + 1))
   field-parts all =
-      each-parts Asked (fieldAt (at roles i) (at values i)) (fieldsFrom roles values (i + 1)) (subst (EachField Asked) (fields-next roles values i h k) all)
+      each-parts Asked (fieldAt (at roles i) (at values i)) (fieldsFrom roles values (i + 1)) (subst (EachField Asked) (fields-next roles values i h) all)
 
 -- Kinds
 
@@ -76,15 +76,15 @@ other-kinds : (r x : ℕ) → r ≢ 107 → r ≢ 99 → kindsIn (fieldAt r x) �
 other-kinds r x no-kind uncoloured =
     by-role (λ fs. kindsIn fs ≡ []) r x (λ e. refl) (λ e. refl) (λ e. other-byte (λ role. kindsIn (byte role x ∷ []) ≡ []) r no-kind uncoloured refl (λ limit. refl))
 
-module _ (roles values : List ℕ) (i : ℕ) (h : i < length roles) (k : i < length values) where
+module _ (roles values : List ℕ) (i : ℕ) (h : i < length roles) where
   pub kind-here : isKind (at roles i) ≡ true → kindsIn (fieldsFrom roles values i) ≡ at values i ∷ kindsIn (fieldsFrom roles values (i + 1))
   kind-here is =
-      ⊎-elim (λ e. rw (fields-next roles values i h k, eqb-true (at roles i) 107 e))
-      (λ e. rw (fields-next roles values i h k, eqb-true (at roles i) 99 e)) (or-true (eqb (at roles i) 107) (eqb (at roles i) 99) is)
+      ⊎-elim (λ e. rw (fields-next roles values i h, eqb-true (at roles i) 107 e))
+      (λ e. rw (fields-next roles values i h, eqb-true (at roles i) 99 e)) (or-true (eqb (at roles i) 107) (eqb (at roles i) 99) is)
 
   pub kind-elsewhere : isKind (at roles i) ≡ false → kindsIn (fieldsFrom roles values i) ≡ kindsIn (fieldsFrom roles values (i + 1))
   kind-elsewhere is =
-      ap kindsIn (fields-next roles values i h k)
+      ap kindsIn (fields-next roles values i h)
       ∙ kinds-append (fieldAt (at roles i) (at values i)) (fieldsFrom roles values (i + 1))
       ∙ rw (other-kinds (at roles i) (at values i) (λ e. both (sym (ap isKind e) ∙ is)) (λ e. both (sym (ap isKind e) ∙ is)))
 
@@ -147,16 +147,16 @@ module _ (r x low : ℕ) (b : r ≢ 85) (c : r ≢ 78) (d : r ≢ 79) (f : r ≢
       by-role (λ fs. low ≡ boundBehind low fs) r x (λ e. refl)
       (λ e. other-time (λ role. low ≡ boundBehind low (time role x ∷ [])) r a b c d g f refl) (λ e. refl)
 
-module _ (n low : ℕ) (roles values : List ℕ) (i : ℕ) (h : i < length roles) (k : i < length values) where
+module _ (n low : ℕ) (roles values : List ℕ) (i : ℕ) (h : i < length roles) where
   abbrev one : List Field
   one = fieldAt (at roles i) (at values i)
 
   pub bound-here : Ordered n low one → (b : Bool) → Decides (Ordered n (boundBehind low one) (fieldsFrom roles values (i + 1))) b
       → Decides (Ordered n low (fieldsFrom roles values i)) b
   bound-here here =
-      same-test (λ rest. subst⁻¹ (Ordered n low) (fields-next roles values i h k) (ordered-join n low one (fieldsFrom roles values (i + 1)) here rest))
-      (λ all. ordered-parts n low one (fieldsFrom roles values (i + 1)) (subst (Ordered n low) (fields-next roles values i h k) all) .1)
+      same-test (λ rest. subst⁻¹ (Ordered n low) (fields-next roles values i h) (ordered-join n low one (fieldsFrom roles values (i + 1)) here rest))
+      (λ all. ordered-parts n low one (fieldsFrom roles values (i + 1)) (subst (Ordered n low) (fields-next roles values i h) all) .1)
 
   pub bound-missed : ¬ Ordered n low one → ¬ Ordered n low (fieldsFrom roles values i)
   bound-missed missed all =
-      missed (ordered-parts n low one (fieldsFrom roles values (i + 1)) (subst (Ordered n low) (fields-next roles values i h k) all) .0)
+      missed (ordered-parts n low one (fieldsFrom roles values (i + 1)) (subst (Ordered n low) (fields-next roles values i h) all) .0)

@@ -17,7 +17,7 @@ use Rattle.constraint.specs.Types.{Field, typeOf, fieldsOf, countOf, firstOf}
 use Rattle.constraint.specs.Table.{fieldsBytes, rowBody, rowBytes}
 use Rattle.constraint.specs.Types.{lengths, lastType, leastCounts, mostCounts, takesCount, TypeKnown, Known}
 use Rattle.constraint.specs.Accepted.{EachField, FieldInRange, KindClassFits, Ordered, kindsIn, rowQuestionsIn}
-use Rattle.table_row.specs.Records.{fieldAt, fieldsAs, rolesOf, rowRead, total, width, noConstraint}
+use Rattle.table_row.specs.Records.{fieldAt, fieldsAs, fieldsWith, rolesOf, rowRead, total, width, noConstraint}
 use Rattle.table_row.proofs.ByType.{no-type, says}
 use Rattle.table_row.proofs.Bodies.{place-bytes}
 use Rattle.table_row.proofs.FieldByField.{by-role}
@@ -58,50 +58,48 @@ module _ (edition t : ℕ) (v : List ℕ) where
           }
 
 -- the bytes of fields are as long as their roles say
-pub fields-long : (roles values : List ℕ) → length roles ≡ length values → length (fieldsBytes (fieldsAs roles values)) ≡ total roles
-unfolding fieldsAs fieldsBytes
-fields-long [] values same = refl
-fields-long (r ∷ roles) [] same = absurd (omega arith)
-fields-long (r ∷ roles) (x ∷ values) same =
-    ap length (place-bytes r x (fieldsAs roles values))
-    ∙ length-append (bytesOf (width r) x) (fieldsBytes (fieldsAs roles values))
-    ∙ ap₂ (λ (m n : ℕ). m + n) (bytes-length (width r) x) (fields-long roles values (omega arith))
+pub fields-long : (roles values : List ℕ) (i : ℕ) → length (fieldsBytes (fieldsWith roles values i)) ≡ total roles
+unfolding fieldsWith fieldsBytes
+fields-long [] values i = refl
+fields-long (r ∷ roles) values i =
+    ap length (place-bytes r (at values i) (fieldsWith roles values (suc i)))
+    ∙ length-append (bytesOf (width r) (at values i)) (fieldsBytes (fieldsWith roles values (suc i)))
+    ∙ ap₂ (λ (m n : ℕ). m + n) (bytes-length (width r) (at values i)) (fields-long roles values (suc i))
 
 -- the questions of fields whose n is at hand
 abbrev pub askedWith : ℕ → List Field → List Question
 askedWith n fields = (5, KindsFit (kindsIn fields)) ∷ (18, EachField KindClassFits fields) ∷ (6, EachField FieldInRange fields) ∷ (7, Ordered n 0 fields) ∷ []
 
 -- the first of some fields has the first value, where its role is that of a byte
-first-field : (roles values : List ℕ) → length values ≡ 18 → width (at roles 0) ≡ 1 → firstOf (fieldsAs roles values) ≡ at values 0
-unfolding fieldsAs
-first-field [] values long one = absurd (omega arith)
-first-field (r ∷ roles) [] long one = absurd (omega arith)
-first-field (r ∷ roles) (x ∷ values) long first =
-    by-role (λ fs. width r ≡ 1 → firstOf (fs ++ fieldsAs roles values) ≡ x) r x (λ less one. absurd (small less one)) (λ less one. refl)
-    (λ more one. refl) first
+first-field : (roles values : List ℕ) → width (at roles 0) ≡ 1 → firstOf (fieldsAs roles values) ≡ at values 0
+unfolding fieldsWith
+first-field [] values first = absurd (omega arith)
+first-field (r ∷ roles) values first =
+    by-role (λ fs. width r ≡ 1 → firstOf (fs ++ fieldsWith roles values 1) ≡ at values 0) r (at values 0) (λ less one. absurd (small less one))
+        (λ less one. refl) (λ more one. refl) first
   where
     small : r < 65 → width r ≡ 1 → ⊥
     small less one = let none : width r ≡ 0 = rw (lt-ltb r 65 less) in omega (arith, one, none)
 
-module _ (edition t : ℕ) (v : List ℕ) (long : length v ≡ 18) (known : TypeKnown edition t (at v 0)) where
+module _ (edition t : ℕ) (v : List ℕ) (known : TypeKnown edition t (at v 0)) where
   pub row-fields : fieldsOf (rowRead t v) ≡ fieldsAs (rolesOf t (at v 0)) v
-  row-fields = reads edition t (at v 0) v known long (λ e. refl) .1
+  row-fields = reads edition t (at v 0) v known (λ e. refl) .1
 
   pub row-asked : (a : Answer) → Judged (askedWith (at v 0) (fieldsAs (rolesOf t (at v 0)) v)) a → Judged (rowQuestionsIn edition (rowRead t v)) a
   unfolding KindsSuit InRange LowerFirst
   row-asked a h =
       let n : firstOf (fieldsAs (rolesOf t (at v 0)) v) ≡ at v 0 =
-      first-field (rolesOf t (at v 0)) v long (shape edition t (at v 0) known .1) in
+      first-field (rolesOf t (at v 0)) v (shape edition t (at v 0) known .1) in
       judged-yes 4 _ _ a (row-known edition t v known)
       (subst⁻¹ (λ (fs : List Field). Judged (askedWith (firstOf fs) fs) a) row-fields
       (subst⁻¹ (λ (m : ℕ). Judged (askedWith m (fieldsAs (rolesOf t (at v 0)) v)) a) n h))
 
   pub row-body : rowBody (rowRead t v) ≡ t ∷ fieldsBytes (fieldsAs (rolesOf t (at v 0)) v)
   unfolding rowBody
-  row-body = ap₂ (λ (m : ℕ) (l : List ℕ). m ∷ l) (reads edition t (at v 0) v known long (λ e. refl) .0) (ap fieldsBytes row-fields)
+  row-body = ap₂ (λ (m : ℕ) (l : List ℕ). m ∷ l) (reads edition t (at v 0) v known (λ e. refl) .0) (ap fieldsBytes row-fields)
 
   pub body-long : length (rowBody (rowRead t v)) ≡ 1 + total (rolesOf t (at v 0))
-  body-long = ap length row-body ∙ omega (arith, fields-long (rolesOf t (at v 0)) v (sym long))
+  body-long = ap length row-body ∙ omega (arith, fields-long (rolesOf t (at v 0)) v 0)
 
   -- the stores of the length field, of the type byte and of the fields
   pub row-stores : (buffer one two three : List ℕ) (place size : ℕ) → size ≡ 1 + total (rolesOf t (at v 0)) → one ≡ sets buffer place (bytesOf 2 size)

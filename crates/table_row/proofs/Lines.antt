@@ -2,16 +2,33 @@
 use Rattle.constraint.proofs.Library.{Bool, List, List·getD-eq-default, [], _*_, _+_, _-_, _<_, _∙_, _∷_, _≡_, _≤_, add-one, ap, arith, cond, drop}
 use Rattle.constraint.proofs.Library.{drop-cons}
 use Rattle.constraint.proofs.Library.{drop-of-length-le, false, le-leb, leb, length, mul-le-mul-left, refl, set, sets, suc, sym, true, zero, ℕ, eqb}
-use Rattle.constraint.proofs.Library.{ltb}
+use Rattle.constraint.proofs.Library.{_≢_, getD, ltb, replicate}
 use Rattle.constraint.proofs.Lengths.{at-most}
 use Rattle.constraint.proofs.Lists.{split}
 use Rattle.constraint.specs.Steps.{at}
-use Rattle.constraint.specs.Types.{lengths, entrySizes, lengthOf}
+use Rattle.constraint.specs.Types.{lengths, entrySizes, leastCounts, mostCounts, lengthOf}
 use Rattle.table_row.specs.Records.{uses, roleAt, rolesFrom, rolesOf, total, width}
 
 pub uses-leb : (m n : ℕ) → uses m n ≡ leb m n
 uses-leb zero n = sym (le-leb 0 n (omega arith))
 uses-leb (suc m) n = refl
+
+-- what a match of the types 1, 2 and so on leaves: a number that is none of them is past them
+abbrev NoneUpTo : ℕ → ℕ → Type 0
+NoneUpTo zero t = Unit {0}
+NoneUpTo (suc k) t = NoneUpTo k t × (t ≢ suc k)
+
+pub past-all : (k t : ℕ) → NoneUpTo k t → 0 < t → k < t
+past-all zero t others some = some
+past-all (suc k) t others some = omega (arith, past-all k t (others .0) some, others .1)
+
+-- a number that is no type's has the line of none
+pub other-line : (lines : List (List ℕ)) → length lines ≡ 18 → getD lines 0 [] ≡ replicate 18 0 → (t : ℕ) → (0 < t → 18 ≤ t)
+    → replicate 18 0 ≡ getD lines t (replicate 18 0)
+other-line [] long first t other = absurd (omega arith)
+other-line (l ∷ lines) long first zero other = sym first
+other-line (l ∷ lines) long first (suc t) other =
+    sym (List·getD-eq-default (l ∷ lines) (replicate 18 0) {n = suc t} (omega (arith, other (omega arith))))
 
 pub roles-more : (roles : List ℕ) (t n i left : ℕ) → i + left ≡ 18 → 0 < left
     → sets roles i (rolesFrom left t n i) ≡ sets (set roles i (roleAt t n i)) (i + 1) (rolesFrom (left - 1) t n (i + 1))
@@ -23,6 +40,15 @@ length-unknown t n past = rw (List·getD-eq-default lengths 0 {n = t} past, List
 
 pub entries-small : (t n : ℕ) → n * at entrySizes t ≤ n * 16
 entries-small t n = mul-le-mul-left n (at-most 16 entrySizes (omega arith) t)
+
+pub entry-small : (t : ℕ) → at entrySizes t ≤ 16
+entry-small t = at-most 16 entrySizes (omega arith) t
+
+pub least-small : (t : ℕ) → at leastCounts t ≤ 8
+least-small t = at-most 8 leastCounts (omega arith) t
+
+pub most-small : (t : ℕ) → at mostCounts t ≤ 8
+most-small t = at-most 8 mostCounts (omega arith) t
 
 pub lengths-small : (t : ℕ) → at lengths t ≤ 34
 lengths-small t = at-most 34 lengths (omega arith) t

@@ -19,19 +19,6 @@ use Rattle.table_row.proofs.Bodies.{read-fits, read-written, written-re
 
 -- Places
 
--- a list is its elements, each by itself
-pub entries-all : (v : List ℕ) (n : ℕ) → length v ≡ n → entries n v 0 ≡ v
-entries-all v n e = go v n [] e
-  where
-    go : (v : List ℕ) (n : ℕ) (before : List ℕ) → length v ≡ n → entries n (before ++ v) (length before) ≡ v
-    go [] zero before e = refl
-    go [] (suc n) before e = absurd (omega arith)
-    go (x ∷ v) zero before e = absurd (omega arith)
-    go (x ∷ v) (suc n) before e =
-        let next : length (before ++ (x ∷ [])) ≡ suc (length before) = length-append before (x ∷ []) ∙ omega arith in
-        ap₂ (λ (y : ℕ) (l : List ℕ). y ∷ l) (at-next before x v (length before) refl)
-        (subst₂ (λ (l : List ℕ) (i : ℕ). entries n l i ≡ v) (append-assoc before (x ∷ []) v) next (go v n (before ++ (x ∷ [])) (omega arith)))
-
 pub values-length : (roles body : List ℕ) (place : ℕ) → length (valuesAt roles body place) ≡ length roles
 unfolding valuesAt
 values-length [] body place = refl
@@ -76,11 +63,10 @@ shape edition t n known =
     let all = values-read n (n ∷ []) t (type-listed edition t (known .type-known)) (λ e. (refl, known .n-known e .0, known .n-known e .1)) in
     (all .2, all .3, all .4)
 
--- 18 values of which the first is the n, where the type has one
-pub reads : (edition t n : ℕ) (v : List ℕ) → TypeKnown edition t n → length v ≡ 18 → (takesCount t ≡ true → at v 0 ≡ n) → Reads t n v
-reads edition t n v known long first =
-    subst (Reads t n) (entries-all v 18 long)
-    (values-read n v t (type-listed edition t (known .type-known)) (λ e. (first e, known .n-known e .0, known .n-known e .1)))
+-- values of which the first is the n, where the type has one
+pub reads : (edition t n : ℕ) (v : List ℕ) → TypeKnown edition t n → (takesCount t ≡ true → at v 0 ≡ n) → Reads t n v
+reads edition t n v known first =
+    values-read n v t (type-listed edition t (known .type-known)) (λ e. (first e, known .n-known e .0, known .n-known e .1))
 
 -- From a body
 
@@ -94,7 +80,7 @@ row-stands {edition} body all fits =
     let about = shape edition t n (fits .known) in
     let first : at v 0 ≡ n =
     first-value roles body 1 (omega (arith, about .2)) ∙ ap (λ (w : ℕ). numberAt w body 1) (about .1) ∙ one-byte body 1 in
-    let here = reads edition t n v (fits .known) (values-length roles body 1 ∙ about .2) (λ e. first) in
+    let here = reads edition t n v (fits .known) (λ e. first) in
     let there : 1 + total roles ≤ length body = omega (arith, fits .length-right, about .0) in
     record {
       bytes = ap₂ (λ (t : ℕ) (l : List ℕ). t ∷ l) (here .0) (ap fieldsBytes (here .1) ∙ read-written body all roles 1 there
@@ -110,7 +96,7 @@ pub own-fields : (edition : ℕ) (c : Constraint) → TypeKnown edition (typeOf 
     → fieldsOf c ≡ fieldsAs (rolesOf (typeOf c) (countOf c)) (placed c)
 own-fields edition c known =
     let own = again c (known .n-known) in
-    ap fieldsOf (sym (own .0)) ∙ reads edition (typeOf c) (countOf c) (placed c) known (own .2) (λ e. own .1) .1
+    ap fieldsOf (sym (own .0)) ∙ reads edition (typeOf c) (countOf c) (placed c) known (λ e. own .1) .1
 
 pub row-again : (edition : ℕ) (c : Constraint) → TypeKnown edition (typeOf c) (countOf c) → FieldsFit (fieldsOf c)
     → rowIn (rowFrom (rowBody c)) ≡ c

@@ -22,12 +22,12 @@ pub values-more : (values roles body : List ℕ) (place i : ℕ) → i < length 
 unfolding valuesAt
 values-more values roles body place i h = rw (add-one i, drop-cons roles i 0 h)
 
-pub fields-more : (buffer : List ℕ) (next : ℕ) (roles values : List ℕ) (i : ℕ) → i < length roles → i < length values
+pub fields-more : (buffer : List ℕ) (next : ℕ) (roles values : List ℕ) (i : ℕ) → i < length roles
     → sets buffer next (fieldsBytes (fieldsFrom roles values i))
     ≡ sets (sets buffer next (bytesOf (width (at roles i)) (at values i))) (next + width (at roles i)) (fieldsBytes (fieldsFrom roles values (i + 1)))
-fields-more buffer next roles values i h k =
+fields-more buffer next roles values i h =
     let later = fieldsBytes (fieldsFrom roles values (i + 1)) in
     let here = bytesOf (width (at roles i)) (at values i) in
-    ap (sets buffer next) (ap fieldsBytes (fields-next roles values i h k) ∙ place-bytes (at roles i) (at values i) (fieldsFrom roles values (i + 1)))
+    ap (sets buffer next) (ap fieldsBytes (fields-next roles values i h) ∙ place-bytes (at roles i) (at values i) (fieldsFrom roles values (i + 1)))
     ∙ stores-append buffer next here later
     ∙ ap (λ (n : ℕ). sets (sets buffer next here) (next + n) later) (bytes-length (width (at roles i)) (at values i))

@@ -50,15 +50,17 @@ fieldOf r x = cond (ltb r 97) (time (timeRole r) x) (byte (byteRole r) x)
 abbrev pub fieldAt : ℕ → ℕ → List Field
 fieldAt r x = cond (ltb r 65) [] (fieldOf r x ∷ [])
 
--- the fields of some roles and values
-unfoldable pub fieldsAs : List ℕ → List ℕ → List Field
-fieldsAs [] values = []
-fieldsAs (r ∷ roles) [] = []
-fieldsAs (r ∷ roles) (x ∷ values) = fieldAt r x ++ fieldsAs roles values
+-- the fields of some roles, with the values from the i-th on
+unfoldable pub fieldsWith : List ℕ → List ℕ → ℕ → List Field
+fieldsWith [] values i = []
+fieldsWith (r ∷ roles) values i = fieldAt r (at values i) ++ fieldsWith roles values (suc i)
+
+abbrev pub fieldsAs : List ℕ → List ℕ → List Field
+fieldsAs roles values = fieldsWith roles values 0
 
 -- from the i-th place on
 abbrev pub fieldsFrom : List ℕ → List ℕ → ℕ → List Field
-fieldsFrom roles values i = fieldsAs (drop i roles) (drop i values)
+fieldsFrom roles values i = fieldsWith (drop i roles) values i
 
 -- The types
 

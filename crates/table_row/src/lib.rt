@@ -8,7 +8,7 @@ ghost use mathlib.Core.Path.{_≡_};
 ghost use Prim.Native.Nat.{_+_, _≤_};
 ghost use lib.ListN.{length};
 ghost use lib.Seq.{sets};
-ghost use Rattle.table_row.specs.Records.{fieldsAs, valuesAt, total, rowFrom, rowIn};
+ghost use Rattle.table_row.specs.Records.{fieldsAs, valuesAt, total, rowFrom, rowIn, rowRead};
 ghost use Rattle.constraint.specs.Accepted.{rowQuestionsIn, rowsQuestions};
 ghost use Rattle.table_row.specs.Tables.{rowsOf, Adds};
 ghost use mathlib.Core.List.{[]};
@@ -24,8 +24,8 @@ pub struct TableRow {
 }
 
 // Stores the values of the fields of these roles in a body, from its second byte on: past its end, of the bytes that are there.
-fn fill(values: &mut [u64; 18], body: &[u8], roles: &[u8; 18])
-    ensures { λ _. ⌜ now (values .exit) ≡ valuesAt (now (roles .entry)) (now (body .entry)) 1 ⌝ }
+fn fill(values: &mut [u64; 18], body: &[u8], roles: [u8; 18])
+    ensures { λ _. ⌜ now (values .exit) ≡ sets (now (values .entry)) 0 (valuesAt roles (now (body .entry)) 1) ⌝ }
 {
     let mut place = 1;
     let mut i = 0;
@@ -78,6 +78,30 @@ pub fn shape_fits(edition: u8, body: &[u8], size: usize) -> bool
     size == types::length_of(tag, n)
 }
 
+// The answer to questions 4, without the length, 5, 18, 6 and 7, of a row of a type with these values, in an edition.
+pub fn validate_values(edition: u8, tag: u8, values: &[u64; 18]) -> Answer
+    ensures { λ r. ⌜ Judged (rowQuestionsIn edition (rowRead tag (now (values .entry)))) r ⌝ }
+{
+    let n = values[0];
+    if !types::type_known(edition, tag, n) {
+        return Answer::Refused(4);
+    }
+    let roles = types::roles_of(tag, n);
+    if !fields::kinds_fit(roles, values) {
+        return Answer::Refused(5);
+    }
+    if !fields::kind_classes_valid(roles, values) {
+        return Answer::Refused(18);
+    }
+    if !fields::ranges_fit(roles, values) {
+        return Answer::Refused(6);
+    }
+    if !fields::lower_first(n, roles, values) {
+        return Answer::Refused(7);
+    }
+    Answer::Taken
+}
+
 impl TableRow {
     // The row that a body is read as: of a body of fitting shape, the one that it stands for (`row-stands`).
     pub fn read(body: &[u8]) -> Self
@@ -90,33 +114,15 @@ impl TableRow {
             tag,
             values: [0u64; 18],
         };
-        fill(&mut row.values, body, &roles);
+        fill(&mut row.values, body, roles);
         row
     }
 
     // The answer to questions 4, without the length, 5, 18, 6 and 7, in an edition. Any record is taken, also one of no type.
-    pub fn validate(&self, edition: u8) -> Answer
-        ensures { λ r. ⌜ Judged (rowQuestionsIn edition (rowIn (now (self .entry)))) r ⌝ }
+    pub fn validate(self, edition: u8) -> Answer
+        ensures { λ r. ⌜ Judged (rowQuestionsIn edition (rowIn self)) r ⌝ }
     {
-        let tag = self.tag;
-        let n = self.values[0];
-        if !types::type_known(edition, tag, n) {
-            return Answer::Refused(4);
-        }
-        let roles = types::roles_of(tag, n);
-        if !fields::kinds_fit(&roles, &self.values) {
-            return Answer::Refused(5);
-        }
-        if !fields::kind_classes_valid(&roles, &self.values) {
-            return Answer::Refused(18);
-        }
-        if !fields::ranges_fit(&roles, &self.values) {
-            return Answer::Refused(6);
-        }
-        if !fields::lower_first(n, &roles, &self.values) {
-            return Answer::Refused(7);
-        }
-        Answer::Taken
+        validate_values(edition, self.tag, &self.values)
     }
 
     // The length of the body of a row of a known type.

@@ -4,35 +4,30 @@ use Rattle.constraint.proofs.Library.{replicate, sets, sym}
 use Rattle.constraint.proofs.Judged.{free}
 use Rattle.constraint.specs.Steps.{at}
 use Rattle.table_row.specs.Records.{valuesAt, width}
-use Rattle.table_row.proofs.{Standing.values-length, Stores.sets-all, Stores.values-more, Lines.width-small, values_in.Statement.statement}
-use Rattle.table_row.proofs.values_in.Tie as tie
+use Rattle.table_row.proofs.{Stores.values-more, Lines.width-small, fill.Statement.statement}
+use Rattle.table_row.proofs.fill.Tie as tie
 
 abbrev Inv-loop : tie.InvT-loop
-Inv-loop body roles values₀ place₀ i₀ values place i =
-    (i ≤ 18) × (place ≤ 1 + 8 * i) × (sets values i (valuesAt (drop i roles) body place) ≡ valuesAt roles body 1)
+Inv-loop values₀ body roles place₀ i₀ values place i =
+    (i ≤ 18) × (place ≤ 1 + 8 * i) × (sets values i (valuesAt (drop i roles) body place) ≡ sets values₀ 0 (valuesAt roles body 1))
 
 abbrev μ-loop : tie.MeasureT-loop
-μ-loop body roles values₀ place₀ i₀ values place i = 18 - i
-
-loop-holds : tie.Need-loop-holds Inv-loop μ-loop
-loop-holds c =
-    let a = c .before .args in
-    (omega arith, omega arith, sets-all (replicate 18 0) (valuesAt (a .t2) (now (a .body)) 1) (omega (arith, values-length (a .t2) (now (a .body)) 1)))
+μ-loop values₀ body roles place₀ i₀ values place i = 18 - i
 
 number-at-requires : tie.Need-number-at-requires Inv-loop μ-loop
-number-at-requires c κs = let a = c .before .before .before .before .args in omega (arith, c .width-of .ensures, width-small (at (a .t2) (c .before .before .loop .i)))
+number-at-requires c κs = let a = c .before .before .before .before .args in omega (arith, c .width-of .ensures, width-small (at (a .t3) (c .before .before .loop .i)))
 
 add-place : tie.Need-add-place Inv-loop μ-loop
 add-place c =
     let at-loop = c .before .before .before in let a = at-loop .before .before .args in
-    omega (arith, c .before .width-of .ensures, width-small (at (a .t2) (at-loop .loop .i)), at-loop .loop .inv .1)
+    omega (arith, c .before .width-of .ensures, width-small (at (a .t3) (at-loop .loop .i)), at-loop .loop .inv .1)
 
 loop-again : tie.Need-loop-again Inv-loop μ-loop
 loop-again c =
     let at-loop = c .before .before .before in let a = at-loop .before .before .args in let loop = at-loop .loop in let wide = c .before .width-of in (
       omega arith,
-      omega (arith, wide .ensures, width-small (at (a .t2) (loop .i))),
-      rw (c .number-at .ensures, wide .ensures) (sym (values-more (loop .values) (a .t2) (now (a .body)) (loop .place) (loop .i) (omega arith)) ∙ loop .inv .2),
+      omega (arith, wide .ensures, width-small (at (a .t3) (loop .i))),
+      rw (c .number-at .ensures, wide .ensures) (sym (values-more (loop .values) (a .t3) (now (a .body)) (loop .place) (loop .i) (omega arith)) ∙ loop .inv .2),
     )
 
 returns : tie.Need-returns Inv-loop μ-loop
@@ -40,11 +35,11 @@ unfolding valuesAt
 returns c =
     let a = c .before .before .before .args in let loop = c .before .loop in
     sym (ap (λ (left : List ℕ). sets (loop .values) (loop .i) (valuesAt left (now (a .body)) (loop .place)))
-    (drop-of-length-le (a .t2) {i = loop .i} (omega arith)))
+    (drop-of-length-le (a .t3) {i = loop .i} (omega arith)))
     ∙ loop .inv .2
 
-pub values-in-spec : {M : Type 1} → statement M
-values-in-spec =
+pub fill-spec : {M : Type 1} → statement M
+fill-spec =
     tie.close
-    (tie.spec Inv-loop μ-loop loop-holds (λ c. omega arith) free number-at-requires (λ c. omega arith) (λ c. omega arith) add-place (λ c. omega arith)
-    (λ c. omega arith) loop-again returns)
+    (tie.spec Inv-loop μ-loop (λ c. (omega arith, omega arith, refl)) (λ c. omega arith) free number-at-requires (λ c. omega arith) (λ c. omega arith)
+    add-place (λ c. omega arith) (λ c. omega arith) loop-again returns)

@@ -33,7 +33,7 @@ loop-again c =
       omega arith,
       put .kept .0 ∙ loop .inv .1,
       omega (arith, wide .ensures, width-small (at (a .t3) (loop .i)), loop .inv .2),
-      rw (put .ensures, wide .ensures) (sym (fields-more (loop .buffer) (loop .next) (a .t3) (a .t4) (loop .i) (omega arith) (omega arith)) ∙ loop .inv .3),
+      rw (put .ensures, wide .ensures) (sym (fields-more (loop .buffer) (loop .next) (a .t3) (a .t4) (loop .i) (omega arith)) ∙ loop .inv .3),
     )
 
 returns : tie.Need-returns Inv-loop μ-loop

@@ -5,10 +5,6 @@ use Rattle.table_row.proofs.Judging.{body-long, known-row}
 use Rattle.table_row.proofs.{Lines.total-small, TableRow.length.Statement.statement}
 use Rattle.table_row.proofs.TableRow.length.Tie as tie
 
--- a record has 18 values
-size : (c : tie.Start) → length (c .args .self .values) ≡ 18
-size c = sym (length-map (c .args .self .values) _) ∙ c .good .0 .1 .1 .1 .0 .1 .0 .1
-
 add-result : tie.Need-add-result
 add-result c = omega (arith, c .size-of .ensures, total-small (c .before .roles-of .result))
 
@@ -16,7 +12,7 @@ returns : tie.Need-returns
 returns c =
     let start = c .before .before .before in let row = start .args .self in let edition = start .pre .0 in
     ap (λ (n : ℕ). 1 + n) (c .size-of .ensures ∙ ap total (c .before .roles-of .ensures))
-    ∙ sym (body-long edition (row .tag) (row .values) (size start) (known-row edition (row .tag) (row .values) (start .pre .1)))
+    ∙ sym (body-long edition (row .tag) (row .values) (known-row edition (row .tag) (row .values) (start .pre .1)))
 
 pub length-spec : {M : Type 1} → statement M
 length-spec = tie.close (tie.spec (λ c. search needs) (λ c κs. search needs) (λ c κs. search needs) add-result returns)

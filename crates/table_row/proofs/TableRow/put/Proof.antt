@@ -8,10 +8,6 @@ use Rattle.table_row.proofs.Judging.{body-long, known-row, row-bytes-lo
 use Rattle.table_row.proofs.{Lines.total-small, TableRow.put.Statement.statement}
 use Rattle.table_row.proofs.TableRow.put.Tie as tie
 
--- a record has 18 values
-size : (c : tie.Start) → length (c .args .self .values) ≡ 18
-size c = sym (length-map (c .args .self .values) _) ∙ c .good .0 .1 .1 .1 .0 .1 .0 .1
-
 -- of a known type, with a known n
 known : (c : tie.Start) → TypeKnown (c .pre .0 .0) (c .args .self .tag) (at (c .args .self .values) 0)
 known c = known-row (c .pre .0 .0) (c .args .self .tag) (c .args .self .values) (c .pre .0 .1)
@@ -32,7 +28,7 @@ put-fields-requires c κs =
       arith,
       start .pre .1,
       row-bytes-long (rowIn row),
-      body-long (start .pre .0 .0) (row .tag) (row .values) (size start) (known start),
+      body-long (start .pre .0 .0) (row .tag) (row .values) (known start),
       at-byte .put-byte .kept .0,
       at-two .put-two .kept .0,
     )
@@ -41,7 +37,7 @@ returns : tie.Need-returns
 returns c =
     let at-fields = c .before .before in let at-byte = at-fields .before .before .before .before in let at-two = at-byte .before .before .before .before in
     let at-size = at-two .before .before in let start = at-size .before .before .before .before in let row = start .args .self in
-    row-stores (start .pre .0 .0) (row .tag) (row .values) (size start) (known start) (now (start .args .buffer)) _ _ _ (start .args .place) _
+    row-stores (start .pre .0 .0) (row .tag) (row .values) (known start) (now (start .args .buffer)) _ _ _ (start .args .place) _
     (long at-size)
     (at-two .put-two .ensures) (at-byte .put-byte .ensures)
     (at-fields .put-fields .ensures

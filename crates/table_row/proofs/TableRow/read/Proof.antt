@@ -1,12 +1,25 @@
 -- The values are read where the definition reads them.
-use Rattle.constraint.proofs.Library.{needs}
-use Rattle.table_row.proofs.TableRow.read.Statement.{statement}
+use Rattle.constraint.proofs.Library.{List, _∙_, ap, ap₂, arith, needs, now, replicate, sets, ℕ}
+use Rattle.constraint.specs.Steps.{at}
+use Rattle.table_row.specs.Records.{rolesOf, valuesAt}
+use Rattle.table_row.specs.declared.TableRow.{TableRow}
+use Rattle.table_row.proofs.{Standing.values-length, Stores.sets-all, TableRow.read.Statement.statement}
 use Rattle.table_row.proofs.TableRow.read.Tie as tie
 
+-- a record of a type and values
+row : ℕ → List ℕ → TableRow
+row t v = record { tag = t; values = v }
+
 returns : tie.Need-returns
+unfolding row
 returns c =
-    let at-roles = c .before in let at-n = at-roles .before in
-    rw (c .values-in .ensures, at-roles .roles-of .ensures, at-n .byte-at2 .ensures, at-n .before .byte-at .ensures)
+    let at-n = c .before .before .before in let body = now (at-n .before .before .before .args .body) in
+    let roles = rolesOf (at body 0) (at body 1) in
+    ap₂ row (at-n .before .byte-at .ensures)
+    (c .fill .ensures
+    ∙ ap (λ (l : List ℕ). sets (replicate 18 0) 0 (valuesAt l body 1))
+    (c .before .before .roles-of .ensures ∙ ap₂ rolesOf (at-n .before .byte-at .ensures) (at-n .byte-at2 .ensures))
+    ∙ sets-all (replicate 18 0) (valuesAt roles body 1) (omega (arith, values-length roles body 1)))
 
 pub read-spec : {M : Type 1} → statement M
 read-spec = tie.close (tie.spec (λ c. search needs) (λ c. search needs) (λ c. search needs) (λ c. search needs) (λ c. search needs) returns)

@@ -1,5 +1,5 @@
 -- The loop asks field after field: the answer to what is asked of those left is the answer to all.
-use Rattle.constraint.proofs.Library.{Bool, _-_, _∙_, _≡_, _≤_, arith, false, length, length-map, sym, true}
+use Rattle.constraint.proofs.Library.{Bool, _-_, _≤_, arith, false, true}
 use Rattle.constraint.proofs.Judged.{failed, free, passed}
 use Rattle.constraint.specs.Records.{Decides}
 use Rattle.constraint.specs.Accepted.{EachField, KindClassFits}
@@ -9,38 +9,31 @@ use Rattle.table_row.proofs.fields.kind_classes_valid.Statement.{statem
 use Rattle.table_row.proofs.fields.kind_classes_valid.Tie as tie
 
 abbrev Inv-loop : tie.InvT-loop
-Inv-loop roles values i₀ i =
+Inv-loop values roles i₀ i =
     (i ≤ 18) × ((b : Bool) → Decides (EachField KindClassFits (fieldsFrom roles values i)) b → Decides (EachField KindClassFits (fieldsFrom roles values 0)) b)
 
 abbrev μ-loop : tie.MeasureT-loop
-μ-loop roles values i₀ i = 18 - i
-
-roles-size : (c : tie.Start Inv-loop μ-loop) → length (c .args .roles .now) ≡ 18
-roles-size c = omega (arith, c .good)
-
-values-size : (c : tie.Start Inv-loop μ-loop) → length (c .args .values .now) ≡ 18
-values-size c = omega (arith, c .good)
+μ-loop values roles i₀ i = 18 - i
 
 returns : tie.Need-returns Inv-loop μ-loop
 returns c =
-    let at-loop = c .before .before .before .before .before in let a = at-loop .before .args in let test = c .before .kind-class-valid in
+    let at-loop = c .before .before .before .before in let a = at-loop .before .args in let test = c .before .kind-class-valid in
     at-loop .loop .inv .1 false
     (λ all. failed (test .result) (test .ensures) (c .if1 .taken)
-    (field-parts KindClassFits (a .roles .now) (a .values .now) (at-loop .loop .i) (omega arith) (omega arith) all .0))
+    (field-parts KindClassFits (a .t1) (a .values .now) (at-loop .loop .i) (omega arith) all .0))
 
 loop-again : tie.Need-loop-again Inv-loop μ-loop
 loop-again c =
-    let at-loop = c .before .before .before .before .before in let a = at-loop .before .args in let test = c .before .kind-class-valid in
+    let at-loop = c .before .before .before .before in let a = at-loop .before .args in let test = c .before .kind-class-valid in
     let here = passed (test .result) (test .ensures) (c .if1 .left) in (
       omega arith,
-      λ b later. at-loop .loop .inv .1 b (field-here KindClassFits (a .roles .now) (a .values .now) (at-loop .loop .i) (omega arith)
-          (omega arith) here b later),
+      λ b later. at-loop .loop .inv .1 b (field-here KindClassFits (a .t1) (a .values .now) (at-loop .loop .i) (omega arith) here b later),
     )
 
 returns-2 : tie.Need-returns-2 Inv-loop μ-loop
 returns-2 c =
     let a = c .before .before .args in
-    c .before .loop .inv .1 true (rw (fields-end (a .roles .now) (a .values .now) (c .before .loop .i) (omega arith)) tt)
+    c .before .loop .inv .1 true (rw (fields-end (a .t1) (a .values .now) (c .before .loop .i) (omega arith)) tt)
 
 pub kind-classes-valid-spec : {M : Type 1} → statement M
 kind-classes-valid-spec =

@@ -9,40 +9,40 @@ use Rattle.table_row.proofs.fields.lower_first.Statement.{statement}
 use Rattle.table_row.proofs.fields.lower_first.Tie as tie
 
 abbrev Inv-loop : tie.InvT-loop
-Inv-loop n roles values low₀ i₀ low i =
+Inv-loop n values roles low₀ i₀ low i =
     (i ≤ 18) × EachField FieldInRange (fieldsFrom roles values i)
     × ((b : Bool) → Decides (Ordered n low (fieldsFrom roles values i)) b → Decides (Ordered n 0 (fieldsFrom roles values 0)) b)
 
 abbrev μ-loop : tie.MeasureT-loop
-μ-loop n roles values low₀ i₀ low i = 18 - i
+μ-loop n values roles low₀ i₀ low i = 18 - i
 
 returns : tie.Need-returns Inv-loop μ-loop
 returns c =
-    let at-loop = c .before .before .before in let a = at-loop .before .args in let test = c .before .bound-fits in
+    let at-loop = c .before .before .before .before in let a = at-loop .before .args in let test = c .before .bound-fits in
     at-loop .loop .inv .2 false
-    (bound-missed (a .n) (at-loop .loop .low) (a .roles .now) (a .values .now) (at-loop .loop .i) (omega arith) (omega arith)
+    (bound-missed (a .n) (at-loop .loop .low) (a .t2) (a .values .now) (at-loop .loop .i) (omega arith)
     (failed (test .result) (test .ensures) (c .if1 .taken)))
 
 bound-after-requires : tie.Need-bound-after-requires Inv-loop μ-loop
 bound-after-requires c κs =
-    let at-loop = c .before .before .before in let a = at-loop .before .args in
-    field-parts FieldInRange (a .roles .now) (a .values .now) (at-loop .loop .i) (omega arith) (omega arith) (at-loop .loop .inv .1) .0
+    let at-loop = c .before .before .before .before .before in let a = at-loop .before .args in
+    field-parts FieldInRange (a .t2) (a .values .now) (at-loop .loop .i) (omega arith) (at-loop .loop .inv .1) .0
 
 loop-again : tie.Need-loop-again Inv-loop μ-loop
 loop-again c =
-    let at-loop = c .before .before .before .before in let a = at-loop .before .args in let i = at-loop .loop .i in
-    let test = c .before .before .bound-fits in
-    let here = passed (test .result) (test .ensures) (c .before .if1 .left) in (
+    let at-loop = c .before .before .before .before .before .before in let a = at-loop .before .args in let i = at-loop .loop .i in
+    let test = c .before .before .before .bound-fits in
+    let here = passed (test .result) (test .ensures) (c .before .before .if1 .left) in (
       omega arith,
-      field-parts FieldInRange (a .roles .now) (a .values .now) i (omega arith) (omega arith) (at-loop .loop .inv .1) .1,
+      field-parts FieldInRange (a .t2) (a .values .now) i (omega arith) (at-loop .loop .inv .1) .1,
       λ b later. at-loop .loop .inv .2 b
-          (bound-here (a .n) (at-loop .loop .low) (a .roles .now) (a .values .now) i (omega arith) (omega arith) here b (rw (c .bound-after .ensures) at later)),
+          (bound-here (a .n) (at-loop .loop .low) (a .t2) (a .values .now) i (omega arith) here b (rw (c .bound-after .ensures) at later)),
     )
 
 returns-2 : tie.Need-returns-2 Inv-loop μ-loop
 returns-2 c =
     let a = c .before .before .args in
-    c .before .loop .inv .2 true (rw (fields-end (a .roles .now) (a .values .now) (c .before .loop .i) (omega arith)) tt)
+    c .before .loop .inv .2 true (rw (fields-end (a .t2) (a .values .now) (c .before .loop .i) (omega arith)) tt)
 
 pub lower-first-spec : {M : Type 1} → statement M
 lower-first-spec =

@@ -10,8 +10,8 @@ use Rattle.constraint.specs.Types.{tolerance, upper, upper-or-none}
 use Rattle.table_row.specs.Records.{byteRole, cleared, entries, fieldAt, fieldsAs, fieldsFrom, isKind, operandRole, plainRole, rolesOf, rowRead, timeRole}
 use Rattle.table_row.proofs.ByType.{CountIs, EachThen, each-then}
 use Rattle.table_row.proofs.FieldByField.{by-role, fields-next}
-use Rattle.table_row.proofs.Standing.{entries-all, reads, shape, type-listed}
-use Rattle.row_type.specs.Parameters.{constantsOf, firstConstant, noFields, parametersOf, startRing, withField, withFields, withKind, withLimits}
+use Rattle.table_row.proofs.Standing.{reads, type-listed}
+use Rattle.row_type.specs.Parameters.{constantsOf, firstConstant, noFields, parametersOf, startRing, usedFrom, withField, withFields, withKind, withLimits}
 use Rattle.row_type.specs.declared.Parameters.{Parameters}
 
 -- ---- one field
@@ -52,31 +52,26 @@ fields-append [] b r = refl
 fields-append (f ∷ a) b r = ap (withField f) (fields-append a b r)
 
 -- a field before those that are there
-pub field-before : (roles values : List ℕ) (j i : ℕ) → j + 1 ≡ i → j < length roles → j < length values → (r next made : Parameters)
+pub field-before : (roles values : List ℕ) (j i : ℕ) → j + 1 ≡ i → j < length roles → (r next made : Parameters)
     → next ≡ withFields (fieldsFrom roles values i) r → made ≡ withFields (fieldAt (at roles j) (at values j)) next
     → made ≡ withFields (fieldsFrom roles values j) r
-field-before roles values j i e h k r next made so-far one =
+field-before roles values j i e h r next made so-far one =
     one ∙ ap (withFields (fieldAt (at roles j) (at values j))) (so-far ∙ ap (λ (n : ℕ). withFields (fieldsFrom roles values n) r) (sym e))
-    ∙ sym (ap (λ (fields : List Field). withFields fields r) (fields-next roles values j h k)
+    ∙ sym (ap (λ (fields : List Field). withFields fields r) (fields-next roles values j h)
     ∙ fields-append (fieldAt (at roles j) (at values j)) (fieldsFrom roles values (j + 1)) r)
 
 -- of a record of a known type
-pub row-parameters : (edition t : ℕ) (v : List ℕ) → length v ≡ 18 → TypeKnown edition t (at v 0)
+pub row-parameters : (edition t : ℕ) (v : List ℕ) → TypeKnown edition t (at v 0)
     → withFields (fieldsAs (rolesOf t (at v 0)) v) (noFields t) ≡ parametersOf (rowRead t v)
-row-parameters edition t v long known =
-    let here = reads edition t (at v 0) v known long (λ e. refl) in
+row-parameters edition t v known =
+    let here = reads edition t (at v 0) v known (λ e. refl) in
     sym (ap₂ (λ (fields : List Field) (m : ℕ). withFields fields (noFields m)) (here .1) (here .0))
 
 -- ---- the words of the ring
 
--- the values of the places from the first constant on
-abbrev pub wordsIn : ℕ → ℕ → List ℕ → List ℕ
-wordsIn t n v = cleared (drop (firstConstant t) (rolesOf t n)) (drop (firstConstant t) v)
-
 module _ (n : ℕ) (v : List ℕ) where
-  -- with the first 18 of the values, each by itself
   abbrev Here : ℕ → Type 0
-  Here t = sets (replicate 64 0) 0 (wordsIn t n (entries 18 v 0)) ≡ startRing (rowRead t (entries 18 v 0))
+  Here t = sets (replicate 64 0) 0 (usedFrom (rolesOf t n) v (firstConstant t)) ≡ startRing (rowRead t v)
 
   -- by the n
   by-count : (t : ℕ) → CountIs t n (at v 0) → (least number : ℕ) → least ≤ n → n < least + number
@@ -106,14 +101,13 @@ module _ (n : ℕ) (v : List ℕ) where
       (λ e. refl) (λ e. refl) (λ e. refl) (λ e. pattern (rw e at several refl)) (λ e. arbitrary (rw e at several refl)) (λ e. refl)
 
 -- of a record of a known type
-pub row-words : (edition t : ℕ) (v : List ℕ) → length v ≡ 18 → TypeKnown edition t (at v 0)
-    → sets (replicate 64 0) 0 (wordsIn t (at v 0) v) ≡ startRing (rowRead t v)
-row-words edition t v long known =
-    subst (λ (l : List ℕ). sets (replicate 64 0) 0 (wordsIn t (at v 0) l) ≡ startRing (rowRead t l)) (entries-all v 18 long)
-    (words-read (at v 0) v t (type-listed edition t (known .type-known)) (λ e. (refl, known .n-known e .0, known .n-known e .1)))
+pub row-words : (edition t : ℕ) (v : List ℕ) → TypeKnown edition t (at v 0)
+    → sets (replicate 64 0) 0 (usedFrom (rolesOf t (at v 0)) v (firstConstant t)) ≡ startRing (rowRead t v)
+row-words edition t v known =
+    words-read (at v 0) v t (type-listed edition t (known .type-known)) (λ e. (refl, known .n-known e .0, known .n-known e .1))
 
 -- one place more
-pub words-more : (times roles values : List ℕ) (next i : ℕ) → i < length roles → i < length values
-    → sets times next (cleared (drop i roles) (drop i values))
-    ≡ sets (set times next (cond (ltb (at roles i) 65) 0 (at values i))) (next + 1) (cleared (drop (i + 1) roles) (drop (i + 1) values))
-words-more times roles values next i h k = rw (add-one i, add-one next, drop-cons roles i 0 h, drop-cons values i 0 k)
+pub words-more : (times roles values : List ℕ) (next i : ℕ) → i < length roles
+    → sets times next (usedFrom roles values i)
+    ≡ sets (set times next (cond (ltb (at roles i) 65) 0 (at values i))) (next + 1) (usedFrom roles values (i + 1))
+words-more times roles values next i h = rw (add-one i, add-one next, drop-cons roles i 0 h)

@@ -1,9 +1,9 @@
 -- A constraint as numbers.
-use Prim.Native.Nat.{ℕ}
+use Prim.Native.Nat.{ℕ, suc}
 use mathlib.Core.List.{List, [], _∷_, _++_}
-use mathlib.Core.Bool.{Bool, _||_}
-use lib.Dec.{eqb}
-use lib.ListN.{replicate, take}
+use mathlib.Core.Bool.{Bool, cond, _||_}
+use lib.Dec.{eqb, ltb}
+use lib.ListN.{drop, replicate, take}
 use Rattle.constraint.specs.Limits.{noLimit}
 use Rattle.constraint.specs.Steps.{at}
 use Rattle.constraint.specs.Types.{kind, coloured, count, span, lower, upper, upper-or-none, offset, left, right, plain, jitter, minimum, len}
@@ -145,3 +145,12 @@ firstConstants = 18 ∷ 18 ∷ 18 ∷ 18 ∷ 18 ∷ 18 ∷ 18 ∷ 18 ∷ 18 ∷ 
 
 abbrev pub firstConstant : ℕ → ℕ
 firstConstant t = at firstConstants t
+
+-- the values of some roles from the i-th on, 0 for a place that is not used
+abbrev pub usedWith : List ℕ → List ℕ → ℕ → List ℕ
+usedWith [] values i = []
+usedWith (r ∷ roles) values i = cond (ltb r 65) 0 (at values i) ∷ usedWith roles values (suc i)
+
+-- from the i-th place on
+abbrev pub usedFrom : List ℕ → List ℕ → ℕ → List ℕ
+usedFrom roles values i = usedWith (drop i roles) values i

@@ -1,7 +1,6 @@
 // A row of a table as numbers: the parameters of its type's machine, and the words that its ring has from the start.
 use crate::Parameters;
 use constraint::NO_LIMIT;
-use table_row::TableRow;
 use table_row::fields::FIRST_BYTE;
 use table_row::fields::FIRST_TIME;
 use table_row::fields::JITTER;
@@ -17,18 +16,20 @@ ghost use mathlib.Core.Path.{_≡_};
 ghost use mathlib.Core.List.{[], _∷_};
 ghost use mathlib.Core.Bool.{cond};
 ghost use lib.Dec.{ltb};
+ghost use lib.ListN.{replicate};
+ghost use lib.Seq.{sets};
 ghost use Rattle.constraint.specs.Types.{Known, byte, time};
-ghost use Rattle.table_row.specs.Records.{byteRole, timeRole, fieldAt, fieldsAs, rowIn};
-ghost use Rattle.row_type.specs.Parameters.{noFields, withFields, parametersOf, startWordCount, startRing, firstConstant};
+ghost use Rattle.table_row.specs.Records.{byteRole, timeRole, fieldAt, fieldsAs, rowRead};
+ghost use Rattle.row_type.specs.Parameters.{noFields, withFields, parametersOf, startWordCount, startRing, firstConstant, usedFrom};
 
 // A kind that no event has.
 pub const NO_KIND: u8 = 64;
 
 // How many words a row has from the start, by the type byte.
-const WORD_COUNTS: [usize; 18] = [0, 0, 0, 0, 0, 0, 0, 0, 0, 16, 0, 0, 16, 40, 40, 8, 24, 0];
+const WORD_COUNTS: [u8; 18] = [0, 0, 0, 0, 0, 0, 0, 0, 0, 16, 0, 0, 16, 40, 40, 8, 24, 0];
 
 // The place from which on the values of a row are such words, by the type byte; 18 for none.
-const FIRST_CONSTANTS: [usize; 18] = [
+const FIRST_CONSTANTS: [u8; 18] = [
     18,
     18,
     18,
@@ -132,8 +133,8 @@ fn with_field(parameters: Parameters, role: u8, value: u64) -> Parameters
 }
 
 // The numbers with some fields, from the last to the first.
-fn with_fields(parameters: Parameters, roles: [u8; 18], values: [u64; 18]) -> Parameters
-    ensures { λ r. ⌜ r ≡ withFields (fieldsAs roles values) parameters ⌝ }
+fn with_fields(parameters: Parameters, roles: [u8; 18], values: &[u64; 18]) -> Parameters
+    ensures { λ r. ⌜ r ≡ withFields (fieldsAs roles (now (values .entry))) parameters ⌝ }
 {
     let mut next = parameters;
     let mut i = MOST_FIELDS;
@@ -144,13 +145,11 @@ fn with_fields(parameters: Parameters, roles: [u8; 18], values: [u64; 18]) -> Pa
     next
 }
 
-// A row of a known type as numbers: its type, and what each field is among them.
-pub fn parameters_of(row: TableRow) -> Parameters
-    requires { ⌜ Known (rowIn row) ⌝ }
-    ensures { λ r. ⌜ r ≡ parametersOf (rowIn row) ⌝ }
+// A row of a known type with these values as numbers: its type, and what each field is among them.
+pub fn parameters_of(tag: u8, values: &[u64; 18]) -> Parameters
+    requires { ⌜ Known (rowRead tag (now values)) ⌝ }
+    ensures { λ r. ⌜ r ≡ parametersOf (rowRead tag (now (values .entry))) ⌝ }
 {
-    let tag = row.tag;
-    let values = row.values;
     let n = values[0];
     let roles = roles_of(tag, n);
     with_fields(no_fields(tag), roles, values)
@@ -164,7 +163,7 @@ pub fn start_word_count(parameters: Parameters) -> usize
     if WORD_COUNTS.len() <= place {
         return 0;
     }
-    WORD_COUNTS[place]
+    WORD_COUNTS[place] as usize
 }
 
 // The place from which on the values of a row are words of its ring.
@@ -175,7 +174,7 @@ fn first_constant(tag: u8) -> usize
     if FIRST_CONSTANTS.len() <= place {
         return 0;
     }
-    FIRST_CONSTANTS[place]
+    FIRST_CONSTANTS[place] as usize
 }
 
 // The value of a place of a role, and 0 where the place is not used.
@@ -188,22 +187,28 @@ fn used(role: u8, value: u64) -> u64
     value
 }
 
-// The ring of a row of a known type before any step: its constants, and 0 in all other places.
-pub fn start_ring(row: TableRow) -> [u64; 64]
-    requires { ⌜ Known (rowIn row) ⌝ }
-    ensures { λ r. ⌜ r ≡ startRing (rowIn row) ⌝ }
+// Stores the values of the used places from the first one on in a ring, and 0 for each other.
+fn put_values(times: &mut [u64; 64], roles: [u8; 18], values: &[u64; 18], first: usize)
+    ensures { λ _. ⌜ now (times .exit) ≡ sets (now (times .entry)) 0 (usedFrom roles (now (values .entry)) first) ⌝ }
 {
-    let tag = row.tag;
-    let values = row.values;
-    let n = values[0];
-    let roles = roles_of(tag, n);
-    let mut times = [0u64; 64];
     let mut next = 0;
-    let mut i = first_constant(tag);
+    let mut i = first;
     while i < MOST_FIELDS {
         times[next] = used(roles[i], values[i]);
         next += 1;
         i += 1;
     }
-    times
+}
+
+// Stores the constants of a row of a known type with these values in a ring of zeros.
+pub fn put_constants(times: &mut [u64; 64], tag: u8, values: &[u64; 18])
+    requires { ⌜ Known (rowRead tag (now values)) ⌝ }
+    ensures { λ _. ⌜ (now (times .entry) ≡ replicate 64 0 → now (times .exit) ≡ startRing (rowRead tag (now (values .entry)))) ⌝ }
+{
+    let first = first_constant(tag);
+    if first < MOST_FIELDS {
+        let n = values[0];
+        let roles = roles_of(tag, n);
+        put_values(times, roles, values, first);
+    }
 }

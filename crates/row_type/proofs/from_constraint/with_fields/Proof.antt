@@ -9,21 +9,21 @@ use Rattle.row_type.proofs.{RowNumbers.field-before, from_constraint.wi
 use Rattle.row_type.proofs.from_constraint.with_fields.Tie as tie
 
 abbrev Inv-loop : tie.InvT-loop
-Inv-loop roles values next₀ i₀ next i = (i ≤ 18) × (next ≡ withFields (fieldsFrom roles values i) next₀)
+Inv-loop values roles next₀ i₀ next i = (i ≤ 18) × (next ≡ withFields (fieldsFrom roles values i) next₀)
 
 abbrev μ-loop : tie.MeasureT-loop
-μ-loop roles values next₀ i₀ next i = i
+μ-loop values roles next₀ i₀ next i = i
 
 loop-holds : tie.Need-loop-holds Inv-loop μ-loop
 loop-holds c =
     let a = c .args in
-    (omega arith, sym (ap (λ (fields : List Field). withFields fields (a .parameters)) (fields-end (a .t2) (a .t3) 18 (omega arith))))
+    (omega arith, sym (ap (λ (fields : List Field). withFields fields (a .parameters)) (fields-end (a .t2) (a .values .now) 18 (omega arith))))
 
 loop-again : tie.Need-loop-again Inv-loop μ-loop
 loop-again c =
-    let at-loop = c .before .before in let loop = at-loop .loop in let a = at-loop .before .args in (
+    let at-loop = c .before .before .before in let loop = at-loop .loop in let a = at-loop .before .args in (
       omega arith,
-      field-before (a .t2) (a .t3) (loop .i - 1) (loop .i) (omega arith) (omega arith) (omega arith) (a .parameters) (loop .next)
+      field-before (a .t2) (a .values .now) (loop .i - 1) (loop .i) (omega arith) (omega arith) (a .parameters) (loop .next)
           (c .with-field .result) (loop .inv .1) (c .with-field .ensures),
     )
 
@@ -31,7 +31,7 @@ returns : tie.Need-returns Inv-loop μ-loop
 returns c =
     let a = c .before .before .args in let loop = c .before .loop in
     let none : loop .i ≡ 0 = omega arith in
-    loop .inv .1 ∙ ap (λ (i : ℕ). withFields (fieldsFrom (a .t2) (a .t3) i) (a .parameters)) none
+    loop .inv .1 ∙ ap (λ (i : ℕ). withFields (fieldsFrom (a .t2) (a .values .now) i) (a .parameters)) none
 
 pub with-fields-spec : {M : Type 1} → statement M
 with-fields-spec =

@@ -26,7 +26,6 @@ use Rattle.monitor.proofs.Theorem.{monitor-is-exact}
 use Rattle.examples.specs.Reading.{ReadsSo, AllRead, BothRead, CrowdedSilence}
 use Rattle.examples.proofs.Fitting.{and-true, fits, accepted-by, accepted-both}
 use Rattle.examples.specs.Vectors.{crowdedRows, crowdedCalls, crowdedAnswers}
--- begin imports: made by release/row-types.py
 use Rattle.delay_order.specs.Delay.{answeredBy, decideDelay}
 use Rattle.delay_order.specs.StrongDelay.{sourceStrongDelay, targetStrongDelay, decideStrongDelay}
 use Rattle.repeat_burst.specs.Repeat.{decideRepeat}
@@ -38,8 +37,6 @@ use Rattle.event_chain.specs.Reaction.{dueBut, decideReaction}
 use Rattle.repetition.specs.Repetition.{placed, decideRepetition}
 use Rattle.synchronizations.specs.Synchronization.{decideSynchronization}
 use Rattle.examples.specs.Vectors.{unlimited-delays, silences, execution-times, repetitions, long-clocks, reactions, synchronizations}
-
--- end imports
 
 -- ---- what the machine computes
 
@@ -103,7 +100,6 @@ allCompute : List Example → Bool
 allCompute [] = true
 allCompute (e ∷ later) = computes e && allCompute later
 
--- begin computed: made by release/row-types.py
 all-computed : (allCompute examples ≡ true) × (allCompute unlimited-delays ≡ true) × (allCompute silences ≡ true)
     × (allCompute execution-times ≡ true) × (allCompute repetitions ≡ true) × (allCompute long-clocks ≡ true) × (allCompute reactions ≡ true)
     × (allCompute synchronizations ≡ true)
@@ -113,8 +109,6 @@ unfolding allCompute computes playOf sameAnswers isVerdict play rowOf brokenRow 
     decideStrongSynchronization whileIdle whileRunning whilePreempted decideExecutionTime dueBut decideReaction placed decideRepetition
     decideSynchronization
 all-computed = (refl, refl, refl, refl, refl, refl, refl, refl)
-
--- end computed
 
 -- ---- so each reads by the definitions what the machine computes
 
@@ -145,8 +139,6 @@ all-read (e ∷ later) computed = let parts = and-true (computes e) (allCompute 
 pub examples-hold : AllRead examples
 examples-hold = all-read examples (all-computed .0)
 
--- begin hold: made by release/row-types.py
-
 -- §5.1.6, §5.1.7
 pub unlimited-delays-hold : AllRead unlimited-delays
 unlimited-delays-hold = all-read unlimited-delays (all-computed .1)
@@ -174,8 +166,6 @@ reactions-hold = all-read reactions (all-computed .6)
 -- §5.11 to §5.11.5
 pub synchronizations-hold : AllRead synchronizations
 synchronizations-hold = all-read synchronizations (all-computed .7)
-
--- end hold
 
 -- ---- a table of two rows
 

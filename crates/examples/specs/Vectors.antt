@@ -10,8 +10,7 @@ use Rattle.constraint.specs.declared.Answer.the-variants.{Taken, Refused}
 use Rattle.constraint.specs.declared.Call.{Call}
 use Rattle.constraint.specs.declared.Call.the-variants.{Event, ColouredEvent, Tick, Close}
 use Rattle.constraint.specs.Constraint.{Constraint}
-use Rattle.constraint.specs.Constraint.{Delay, Repeat, Sporadic, Burst, ExecutionTime, Reaction, Repetition}
-use Rattle.constraint.specs.Constraint.{Synchronization2, Synchronization3, Synchronization4}
+use Rattle.constraint.specs.Constraint.{Delay, Repeat, Sporadic, Burst, ExecutionTime, Reaction, Repetition, Synchronization}
 use Rattle.constraint.specs.declared.Verdict.the-variants.{Open, Kept, Broken}
 
 -- §5.1.6, §5.1.7; CR 1: Delays without an upper limit
@@ -227,37 +226,37 @@ reactions =
 abbrev pub synchronizations : List Example
 synchronizations =
     -- §5.11: both kinds within tolerance, a kind that has two events in a window, and an event that lies in two windows
-    reads (Synchronization2 0 1 2) (Event 0 5 ∷ Event 1 7 ∷ []) Open
-    ∷ reads (Synchronization2 0 1 2) (Event 0 5 ∷ Event 1 7 ∷ Close ∷ []) Kept
-    ∷ reads (Synchronization2 0 1 2) (Event 0 5 ∷ Event 0 6 ∷ Event 1 7 ∷ Close ∷ []) Kept
-    ∷ reads (Synchronization2 0 1 2) (Event 0 5 ∷ Event 1 7 ∷ Event 0 9 ∷ Close ∷ []) Kept
+    reads (Synchronization (0 ∷ 1 ∷ []) 2) (Event 0 5 ∷ Event 1 7 ∷ []) Open
+    ∷ reads (Synchronization (0 ∷ 1 ∷ []) 2) (Event 0 5 ∷ Event 1 7 ∷ Close ∷ []) Kept
+    ∷ reads (Synchronization (0 ∷ 1 ∷ []) 2) (Event 0 5 ∷ Event 0 6 ∷ Event 1 7 ∷ Close ∷ []) Kept
+    ∷ reads (Synchronization (0 ∷ 1 ∷ []) 2) (Event 0 5 ∷ Event 1 7 ∷ Event 0 9 ∷ Close ∷ []) Kept
     -- §5.11.2: the last moment of an event that lies in no full window, and the one after it
-    ∷ reads (Synchronization2 0 1 2) (Event 0 5 ∷ Event 1 7 ∷ Event 0 10 ∷ Tick 12 ∷ []) Open
-    ∷ reads (Synchronization2 0 1 2) (Event 0 5 ∷ Event 1 7 ∷ Event 0 10 ∷ Tick 12 ∷ Tick 13 ∷ []) (Broken 5)
-    ∷ reads (Synchronization2 0 1 2) (Event 0 5 ∷ Tick 7 ∷ []) Open
-    ∷ reads (Synchronization2 0 1 2) (Event 0 5 ∷ Tick 8 ∷ []) (Broken 2)
-    ∷ reads (Synchronization2 0 1 2) (Event 0 5 ∷ Event 0 8 ∷ []) (Broken 2)
-    ∷ reads (Synchronization2 0 1 2) (Event 0 5 ∷ Event 9 7 ∷ Event 9 8 ∷ []) (Broken 3)
+    ∷ reads (Synchronization (0 ∷ 1 ∷ []) 2) (Event 0 5 ∷ Event 1 7 ∷ Event 0 10 ∷ Tick 12 ∷ []) Open
+    ∷ reads (Synchronization (0 ∷ 1 ∷ []) 2) (Event 0 5 ∷ Event 1 7 ∷ Event 0 10 ∷ Tick 12 ∷ Tick 13 ∷ []) (Broken 5)
+    ∷ reads (Synchronization (0 ∷ 1 ∷ []) 2) (Event 0 5 ∷ Tick 7 ∷ []) Open
+    ∷ reads (Synchronization (0 ∷ 1 ∷ []) 2) (Event 0 5 ∷ Tick 8 ∷ []) (Broken 2)
+    ∷ reads (Synchronization (0 ∷ 1 ∷ []) 2) (Event 0 5 ∷ Event 0 8 ∷ []) (Broken 2)
+    ∷ reads (Synchronization (0 ∷ 1 ∷ []) 2) (Event 0 5 ∷ Event 9 7 ∷ Event 9 8 ∷ []) (Broken 3)
     -- three kinds and four
-    ∷ reads (Synchronization3 0 1 2 2) (Event 0 5 ∷ Event 1 6 ∷ Event 2 7 ∷ Event 0 8 ∷ Close ∷ []) Kept
-    ∷ reads (Synchronization3 0 1 2 2) (Event 0 5 ∷ Event 1 6 ∷ Event 2 7 ∷ Event 0 9 ∷ []) Open
-    ∷ reads (Synchronization3 0 1 2 2) (Event 0 5 ∷ Event 1 6 ∷ Event 2 7 ∷ Event 0 9 ∷ Close ∷ []) (Broken 5)
-    ∷ reads (Synchronization3 0 1 2 2) (Event 0 5 ∷ Event 1 6 ∷ Event 2 7 ∷ Event 0 9 ∷ Event 1 9 ∷ Close ∷ []) Kept
-    ∷ reads (Synchronization4 0 1 2 3 2) (Event 3 5 ∷ Event 2 6 ∷ Event 1 6 ∷ Event 0 7 ∷ Close ∷ []) Kept
-    ∷ reads (Synchronization4 0 1 2 3 2) (Event 3 5 ∷ Event 2 6 ∷ Event 1 6 ∷ Event 0 8 ∷ []) (Broken 4)
+    ∷ reads (Synchronization (0 ∷ 1 ∷ 2 ∷ []) 2) (Event 0 5 ∷ Event 1 6 ∷ Event 2 7 ∷ Event 0 8 ∷ Close ∷ []) Kept
+    ∷ reads (Synchronization (0 ∷ 1 ∷ 2 ∷ []) 2) (Event 0 5 ∷ Event 1 6 ∷ Event 2 7 ∷ Event 0 9 ∷ []) Open
+    ∷ reads (Synchronization (0 ∷ 1 ∷ 2 ∷ []) 2) (Event 0 5 ∷ Event 1 6 ∷ Event 2 7 ∷ Event 0 9 ∷ Close ∷ []) (Broken 5)
+    ∷ reads (Synchronization (0 ∷ 1 ∷ 2 ∷ []) 2) (Event 0 5 ∷ Event 1 6 ∷ Event 2 7 ∷ Event 0 9 ∷ Event 1 9 ∷ Close ∷ []) Kept
+    ∷ reads (Synchronization (0 ∷ 1 ∷ 2 ∷ 3 ∷ []) 2) (Event 3 5 ∷ Event 2 6 ∷ Event 1 6 ∷ Event 0 7 ∷ Close ∷ []) Kept
+    ∷ reads (Synchronization (0 ∷ 1 ∷ 2 ∷ 3 ∷ []) 2) (Event 3 5 ∷ Event 2 6 ∷ Event 1 6 ∷ Event 0 8 ∷ []) (Broken 4)
     -- §5.11.3: the close, with an event in no full window and with no event
-    ∷ reads (Synchronization2 0 1 2) (Event 0 5 ∷ Close ∷ []) (Broken 2)
-    ∷ reads (Synchronization2 0 1 2) (Tick 9 ∷ Close ∷ []) Kept
+    ∷ reads (Synchronization (0 ∷ 1 ∷ []) 2) (Event 0 5 ∷ Close ∷ []) (Broken 2)
+    ∷ reads (Synchronization (0 ∷ 1 ∷ []) 2) (Tick 9 ∷ Close ∷ []) Kept
     -- §5.11.4: tolerance 0
-    ∷ reads (Synchronization2 0 1 0) (Event 1 5 ∷ Event 0 5 ∷ Close ∷ []) Kept
-    ∷ reads (Synchronization2 0 1 0) (Event 0 5 ∷ Tick 6 ∷ []) (Broken 2)
-    ∷ reads (Synchronization2 0 1 0) (Event 0 5 ∷ Event 1 5 ∷ Event 0 9 ∷ Event 1 9 ∷ Close ∷ []) Kept
+    ∷ reads (Synchronization (0 ∷ 1 ∷ []) 0) (Event 1 5 ∷ Event 0 5 ∷ Close ∷ []) Kept
+    ∷ reads (Synchronization (0 ∷ 1 ∷ []) 0) (Event 0 5 ∷ Tick 6 ∷ []) (Broken 2)
+    ∷ reads (Synchronization (0 ∷ 1 ∷ []) 0) (Event 0 5 ∷ Event 1 5 ∷ Event 0 9 ∷ Event 1 9 ∷ Close ∷ []) Kept
     -- §5.11.5: however many events come, none is refused
-    ∷ reads (Synchronization2 0 1 1000) (sources 200 1) Open
-    ∷ reads (Synchronization2 0 1 1000) (sources 200 1 ++ (Event 1 201 ∷ Close ∷ [])) Kept
-    ∷ reads (Synchronization2 0 1 1000) (sources 200 1 ++ (Tick 1001 ∷ [])) Open
-    ∷ reads (Synchronization2 0 1 1000) (sources 200 1 ++ (Tick 1001 ∷ Tick 1002 ∷ [])) (Broken 202)
+    ∷ reads (Synchronization (0 ∷ 1 ∷ []) 1000) (sources 200 1) Open
+    ∷ reads (Synchronization (0 ∷ 1 ∷ []) 1000) (sources 200 1 ++ (Event 1 201 ∷ Close ∷ [])) Kept
+    ∷ reads (Synchronization (0 ∷ 1 ∷ []) 1000) (sources 200 1 ++ (Tick 1001 ∷ [])) Open
+    ∷ reads (Synchronization (0 ∷ 1 ∷ []) 1000) (sources 200 1 ++ (Tick 1001 ∷ Tick 1002 ∷ [])) (Broken 202)
     -- the last time
-    ∷ reads (Synchronization2 0 1 lastTime) (Event 0 0 ∷ Event 1 lastTime ∷ Close ∷ []) Kept
-    ∷ reads (Synchronization2 0 1 lastTime) (Event 0 1 ∷ Tick lastTime ∷ []) Open
+    ∷ reads (Synchronization (0 ∷ 1 ∷ []) lastTime) (Event 0 0 ∷ Event 1 lastTime ∷ Close ∷ []) Kept
+    ∷ reads (Synchronization (0 ∷ 1 ∷ []) lastTime) (Event 0 1 ∷ Tick lastTime ∷ []) Open
     ∷ []

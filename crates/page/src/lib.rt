@@ -20,8 +20,7 @@ const GROUP: usize = 16;
 const HYPHENS: [u8; 73] =
     *b"------------------------------------------------------------------------\n";
 // The names of the types by their numbers, left-aligned in 24. 0 is not a type.
-// begin names: made by release/row-types.py
-const NAMES: [[u8; 24]; 12] = [
+const NAMES: [[u8; 24]; 18] = [
     *b"Unknown                 ",
     *b"Delay                   ",
     *b"StrongDelay             ",
@@ -34,8 +33,13 @@ const NAMES: [[u8; 24]; 12] = [
     *b"Reaction                ",
     *b"Repetition              ",
     *b"Synchronization         ",
+    *b"Age                     ",
+    *b"OutputSynchronization   ",
+    *b"InputSynchronization    ",
+    *b"Pattern                 ",
+    *b"Arbitrary               ",
+    *b"Comparison              ",
 ];
-// end names
 
 // What a page and a report say of a monitor.
 pub struct Summary {

@@ -1,21 +1,20 @@
--- An event of a coloured kind overflows no row: nothing waits in a Reaction, and such an event does not concern a row of any other type.
+-- An event of a coloured kind overflows no row: nothing waits in a row with coloured fields, and such an event does not concern any other row.
 use Rattle.constraint.proofs.Library.{ℕ, _≤_, _<_, arith, _≡_, refl, false, List, [], _∷_, _++_, eqb, ne-eqb}
 use Rattle.constraint.specs.Limits.{firstColoured}
 use Rattle.constraint.specs.Streams.{stream}
 use Rattle.constraint.specs.Steps.{Step, event, among}
-use Rattle.constraint.specs.Accepted.{KindsSuit, Accepted}
+use Rattle.constraint.specs.Accepted.{EachField, KindClassFits, KindsSuit, Accepted}
 use Rattle.constraint.specs.Questions.{Judged}
 use Rattle.constraint.specs.Run.{stepFor, questions, Request, Left}
 use Rattle.constraint.specs.Waiting.{waiting}
 use Rattle.constraint.specs.declared.Answer.the-variants.{Refused}
 use Rattle.constraint.specs.declared.Call.{Call}
-use Rattle.constraint.specs.Constraint.{Constraint}
--- begin imports: made by release/row-types.py
-use Rattle.constraint.specs.Constraint.{Delay, StrongDelay, Repeat, Sporadic, Burst, Order, StrongSynchronization2}
-use Rattle.constraint.specs.Constraint.{StrongSynchronization3, StrongSynchronization4, ExecutionTime, Reaction, Repetition}
-use Rattle.constraint.specs.Constraint.{Synchronization2, Synchronization3, Synchronization4}
--- end imports
-use Rattle.constraint.proofs.Streams.{streams}
+use Rattle.constraint.specs.Constraint.{Age, Arbitrary, Burst, Comparison, Constraint, Delay, ExecutionTime, InputSynchronization, Order}
+use Rattle.constraint.specs.Constraint.{OutputSynchronization, Pattern, Reaction, Repeat, Repetition, Sporadic, StrongDelay, StrongSynchronization}
+use Rattle.constraint.specs.Constraint.{Synchronization}
+use Rattle.constraint.specs.Types.{Field, byte, coloured, count, fieldsOf, kind as plainKind, kindFields, plain as neither, span, time as timed, tolerance}
+use Rattle.constraint.proofs.AsBefore.{Uncoloured}
+use Rattle.constraint.proofs.Streams.{streams, streamsIn}
 use Rattle.constraint.proofs.History.{own-other}
 use Rattle.constraint.proofs.Continuations.{open-before}
 use Rattle.constraint.proofs.Waitings.{waiting-same}
@@ -31,6 +30,11 @@ use Rattle.queries.proofs.Theorem.{fit-at}
 
 -- ---- what waits in a row stays as it is
 
+-- the kinds of a list without colours
+plain-fields : (ks : List ℕ) (later : List Field) → Uncoloured later → Uncoloured (kindFields plainKind ks ++ later)
+plain-fields [] later h = h
+plain-fields (k ∷ ks) later h = plain-fields ks later h
+
 module _ (s t : ℕ) (late : firstColoured ≤ s) (steps : List Step) where
   other : (k : ℕ) → k < firstColoured → eqb s k ≡ false
   other k plain = ne-eqb s k (λ same. omega (arith, same, plain, late))
@@ -39,28 +43,38 @@ module _ (s t : ℕ) (late : firstColoured ≤ s) (steps : List Step) where
   same-waits : (c : Constraint) → among s (streams c) ≡ false → waiting c (steps ++ (event s t ∷ [])) ≡ waiting c steps
   same-waits c none = waiting-same c (steps ++ (event s t ∷ [])) steps (own-other (streams c) s t steps none)
 
+  -- fields of which none is coloured have none
+  plain-none : (fields : List Field) → EachField KindClassFits fields → Uncoloured fields → among s (streamsIn fields) ≡ false
+  plain-none [] suit plain = refl
+  plain-none (byte plainKind x ∷ fields) suit plain = rw (other x (suit .0)) (plain-none fields (suit .1) plain)
+  plain-none (byte coloured x ∷ fields) suit plain = absurd plain
+  plain-none (byte count x ∷ fields) suit plain = plain-none fields (suit .1) plain
+  plain-none (byte (span limit) x ∷ fields) suit plain = plain-none fields (suit .1) plain
+  plain-none (timed role x ∷ fields) suit plain = plain-none fields (suit .1) plain
+
+  plain-waits : (c : Constraint) → KindsSuit c → Uncoloured (fieldsOf c) → waiting c (steps ++ (event s t ∷ [])) ≡ waiting c steps
+  unfolding KindsSuit
+  plain-waits c suit plain = same-waits c (plain-none (fieldsOf c) suit plain)
+
   coloured-waits : (c : Constraint) → KindsSuit c → waiting c (steps ++ (event s t ∷ [])) ≡ waiting c steps
-  unfolding KindsSuit waiting
-  -- begin coloured waits: made by release/row-types.py
-  coloured-waits (Delay a b x y) k = same-waits (Delay a b x y) (rw (other a (k .0), other b (k .1 .0)) refl)
-  coloured-waits (StrongDelay a b x y) k = same-waits (StrongDelay a b x y) (rw (other a (k .0), other b (k .1 .0)) refl)
-  coloured-waits (Repeat a b x y) k = refl
-  coloured-waits (Sporadic a x y z w) k = refl
-  coloured-waits (Burst a b x y) k = refl
-  coloured-waits (Order a b) k = refl
-  coloured-waits (StrongSynchronization2 a b x) k = same-waits (StrongSynchronization2 a b x) (rw (other a (k .1 .0), other b (k .1 .1 .0)) refl)
-  coloured-waits (StrongSynchronization3 a b c x) k =
-      same-waits (StrongSynchronization3 a b c x) (rw (other a (k .1 .0), other b (k .1 .1 .0), other c (k .1 .1 .1 .0)) refl)
-  coloured-waits (StrongSynchronization4 a b c d x) k =
-      same-waits (StrongSynchronization4 a b c d x)
-      (rw (other a (k .1 .0), other b (k .1 .1 .0), other c (k .1 .1 .1 .0), other d (k .1 .1 .1 .1 .0)) refl)
-  coloured-waits (ExecutionTime a b c d x y) k = refl
-  coloured-waits (Reaction a b x y) k = refl
-  coloured-waits (Repetition a b x y z) k = refl
-  coloured-waits (Synchronization2 a b x) k = refl
-  coloured-waits (Synchronization3 a b c x) k = refl
-  coloured-waits (Synchronization4 a b c d x) k = refl
-  -- end coloured waits
+  unfolding waiting
+  coloured-waits (Delay a b x y) suit = plain-waits (Delay a b x y) suit tt
+  coloured-waits (StrongDelay a b x y) suit = plain-waits (StrongDelay a b x y) suit tt
+  coloured-waits (Repeat a b x y) suit = refl
+  coloured-waits (Sporadic a x y z w) suit = refl
+  coloured-waits (Burst a b x y) suit = refl
+  coloured-waits (Order a b) suit = refl
+  coloured-waits (StrongSynchronization ks x) suit = plain-waits (StrongSynchronization ks x) suit (plain-fields ks (timed (neither tolerance) x ∷ []) tt)
+  coloured-waits (ExecutionTime a b c d x y) suit = refl
+  coloured-waits (Reaction a b x y) suit = refl
+  coloured-waits (Repetition a b x y z) suit = refl
+  coloured-waits (Synchronization ks x) suit = refl
+  coloured-waits (Age a b x y) suit = refl
+  coloured-waits (OutputSynchronization a ks x) suit = refl
+  coloured-waits (InputSynchronization ks a x) suit = refl
+  coloured-waits (Pattern a x y z xs) suit = refl
+  coloured-waits (Arbitrary a ps) suit = refl
+  coloured-waits (Comparison a x y) suit = refl
 
 -- ---- so it is never why an event is refused
 

@@ -28,9 +28,7 @@ pub fn deadline_by(closed: u64, broken: u64, due: u64) -> u64
 fn waits_in(tag: u64) -> bool
     ensures { λ r. ⌜ r ≡ waitsIn tag ⌝ }
 {
-    // begin waits in: made by release/row-types.py
     tag == 1 || (tag == 2 || tag == 7)
-    // end waits in
 }
 
 // Returns how many wait in a row, given the mark of the close, the step that broke the row, its type and how many times it keeps.

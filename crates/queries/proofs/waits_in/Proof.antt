@@ -1,4 +1,4 @@
--- The tests are those of `waitsIn`, in its order; made by release/row-types.py
+-- The tests are those of `waitsIn`, in its order.
 use borrow.Author.Tests.{eq-eqb, ne-eqb}
 use Rattle.queries.proofs.waits_in.Statement.{statement}
 use Rattle.queries.proofs.waits_in.Tie as tie

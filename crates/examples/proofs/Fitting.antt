@@ -1,5 +1,6 @@
 -- A row whose numbers are written out is accepted by computation: a test goes through its type and its fields as questions 4, 5, 18, 6 and 7 do.
-use Rattle.constraint.proofs.Library.{ℕ, _≤_, arith, _≡_, refl, sym, Bool, true, false, not, cond, _&&_, _||_, List, [], _∷_, _++_, _⊎_, inl, inr, leb, ltb}
+use Rattle.constraint.proofs.Library.{ℕ, _≤_, arith, _≡_, refl, sym, Bool, true, false, not, cond, _&&_, _||_, List, [], _∷_, _++_, _⊎_, inl, inr}
+use Rattle.constraint.proofs.Library.{leb, ltb}
 use Rattle.constraint.proofs.Library.{eqb, leb-true, ltb-true, eqb-true, eqb-false, not-true}
 use Rattle.constraint.specs.Limits.{lastKind, firstColoured, lastTime, noLimit}
 use Rattle.constraint.specs.Questions.{Question, Judged}

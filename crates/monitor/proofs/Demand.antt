@@ -36,7 +36,8 @@ rows-sound : (edition i : ℕ) (rows : List Constraint) → Judged (rowsQuestion
 unfolding Judged rowsQuestions
 rows-sound edition i [] taken = tt
 rows-sound edition i (c ∷ rows) (inl (room, inl (known, inl (fit, inl (suit, inl (range, inl (lower, later))))))) =
-    (record { known = (edition, known); kinds-fit = fit; kinds-suit = suit; in-range = range; lower-first = lower }, rows-sound edition (i + 1) rows later)
+    let sound : Sound c = record { known = (edition, known); kinds-fit = fit; kinds-suit = suit; in-range = range; lower-first = lower } in
+    (sound, rows-sound edition (i + 1) rows later)
 rows-sound edition i (c ∷ rows) (inl (room, inl (known, inl (fit, inl (suit, inl (range, inr e)))))) = never (cc (e .1))
 rows-sound edition i (c ∷ rows) (inl (room, inl (known, inl (fit, inl (suit, inr e))))) = never (cc (e .1))
 rows-sound edition i (c ∷ rows) (inl (room, inl (known, inl (fit, inr e)))) = never (cc (e .1))

@@ -12,7 +12,8 @@ use Rattle.constraint.specs.declared.Call.{Call}
 use Rattle.constraint.specs.Constraint.{Age, Arbitrary, Burst, Comparison, Constraint, Delay, ExecutionTime, InputSynchronization, Order}
 use Rattle.constraint.specs.Constraint.{OutputSynchronization, Pattern, Reaction, Repeat, Repetition, Sporadic, StrongDelay, StrongSynchronization}
 use Rattle.constraint.specs.Constraint.{Synchronization}
-use Rattle.constraint.specs.Types.{Field, byte, coloured, count, fieldsOf, kind as plainKind, kindFields, plain as neither, span, time as timed, tolerance}
+use Rattle.constraint.specs.Types.{Field, byte, coloured, count, fieldsOf, kind as plainKind, kindFields, plain as neither, span, time as timed}
+use Rattle.constraint.specs.Types.{tolerance}
 use Rattle.constraint.proofs.AsBefore.{Uncoloured}
 use Rattle.constraint.proofs.Streams.{streams, streamsIn}
 use Rattle.constraint.proofs.History.{own-other}
@@ -64,7 +65,8 @@ module _ (s t : ℕ) (late : firstColoured ≤ s) (steps : List Step) where
   coloured-waits (Sporadic a x y z w) suit = refl
   coloured-waits (Burst a b x y) suit = refl
   coloured-waits (Order a b) suit = refl
-  coloured-waits (StrongSynchronization ks x) suit = plain-waits (StrongSynchronization ks x) suit (plain-fields ks (timed (neither tolerance) x ∷ []) tt)
+  coloured-waits (StrongSynchronization ks x) suit =
+      plain-waits (StrongSynchronization ks x) suit (plain-fields ks (timed (neither tolerance) x ∷ []) tt)
   coloured-waits (ExecutionTime a b c d x y) suit = refl
   coloured-waits (Reaction a b x y) suit = refl
   coloured-waits (Repetition a b x y z) suit = refl

@@ -2,7 +2,8 @@
 use Rattle.ring.proofs.Names.{Bool, Drop, Edit, List, Push, PushTwo, Ring, Store, [], _%_, _++_, _+_, _-_, _<_, _∙_, _∷_, _≡_, _≢_, _≤_, _⊎_}
 use Rattle.ring.proofs.Names.{add-assoc, add-one, add-suc, add-zero, ap, append-assoc, arith, by-cases, changed, cond, drop, drop-cons}
 use Rattle.ring.proofs.Names.{drop-of-length-le, dropRing, editPlace, edited, eqb, eqb-true, ext-getD, false, getD, getD-set-other, getD-take}
-use Rattle.ring.proofs.Names.{getD-set-same, headAfter, inl, inr, items, le-ltb, length, length-append, length-drop, length-set, length-take-le, lt-ltb, ltb}
+use Rattle.ring.proofs.Names.{getD-set-same, headAfter, inl, inr, items, le-ltb, length, length-append, length-drop, length-set}
+use Rattle.ring.proofs.Names.{length-take-le, lt-ltb, ltb}
 use Rattle.ring.proofs.Names.{ltb-false, ltb-true, pushRing, putBack, putRing, refl, ring, ringOf, ringPlace, secondAt, set}
 use Rattle.ring.proofs.Names.{set-out, subst, suc, suc-add, sym, take, timeAt, true, twoFrom, zero, ℕ, ℕ-discrete, ⊎-elim}
 

@@ -17,12 +17,16 @@ use Rattle.repetition.proofs.Laws.Repetition.{exactRepetition}
 use Rattle.synchronizations.proofs.Laws.Synchronization.{exactSynchronization}
 use Rattle.row_type.proofs.FieldNumbers.{tag-is}
 use Rattle.row.proofs.Exact.{Exact, Sound}
-use Rattle.row.proofs.Names.{_≤_, arith, machineOf, parametersOf, ℕ}
+use Rattle.row.proofs.Names.{_<_, _≤_, arith, machineOf, parametersOf, ℕ}
 use Rattle.row_type.proofs.Exact as M
 
 -- the last type that an edition has
 known-type : (c : Constraint) → Sound c → typeOf c ≤ 11
 known-type c sound = let (edition, known) = sound .known in omega (arith, known .type-known .1, at-most 11 lastTypes (omega arith) edition)
+
+-- so a constraint of a later one is in no table
+no-type : (c : Constraint) → 11 < typeOf c → Sound c → M.Exact c (machineOf (typeOf c) .decide (parametersOf c))
+no-type c late sound = absurd (omega (arith, late, known-type c sound))
 
 -- by the type
 by-type : (c : Constraint) → Sound c → M.Exact c (machineOf (typeOf c) .decide (parametersOf c))
@@ -37,12 +41,12 @@ by-type (ExecutionTime start stop preempt resume lower upper) = exactExecutionTi
 by-type (Reaction stimulus response minimum maximum) = exactReaction stimulus response minimum maximum
 by-type (Repetition event span lower upper jitter) = exactRepetition event span lower upper jitter
 by-type (Synchronization kinds tolerance) = exactSynchronization kinds tolerance
-by-type (Age stimulus response minimum maximum) = λ sound. absurd (omega (arith, known-type (Age stimulus response minimum maximum) sound))
-by-type (OutputSynchronization stimulus responses tolerance) = λ sound. absurd (omega (arith, known-type (OutputSynchronization stimulus responses tolerance) sound))
-by-type (InputSynchronization stimuli response tolerance) = λ sound. absurd (omega (arith, known-type (InputSynchronization stimuli response tolerance) sound))
-by-type (Pattern event period jitter minimum offsets) = λ sound. absurd (omega (arith, known-type (Pattern event period jitter minimum offsets) sound))
-by-type (Arbitrary event pairs) = λ sound. absurd (omega (arith, known-type (Arbitrary event pairs) sound))
-by-type (Comparison operator left right) = λ sound. absurd (omega (arith, known-type (Comparison operator left right) sound))
+by-type (Age stimulus response minimum maximum) = no-type (Age stimulus response minimum maximum) (omega arith)
+by-type (OutputSynchronization stimulus responses tolerance) = no-type (OutputSynchronization stimulus responses tolerance) (omega arith)
+by-type (InputSynchronization stimuli response tolerance) = no-type (InputSynchronization stimuli response tolerance) (omega arith)
+by-type (Pattern event period jitter minimum offsets) = no-type (Pattern event period jitter minimum offsets) (omega arith)
+by-type (Arbitrary event pairs) = no-type (Arbitrary event pairs) (omega arith)
+by-type (Comparison operator left right) = no-type (Comparison operator left right) (omega arith)
 
 -- a row's numbers have its type
 pub every-type-exact : (c : Constraint) → Sound c → Exact c

@@ -85,4 +85,3 @@ fits =
     (one-more fitsRepetition
     (one-more fitsSynchronization
     none-more))))))))))))
-

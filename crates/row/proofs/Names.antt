@@ -4,14 +4,15 @@ pub use Rattle.constraint.proofs.History.{own-close, own-other, own-tick, past-
 pub use Rattle.constraint.proofs.Library.{Bool, List, List·getD-eq-default, [], _&&_, _++_, _+_, _-_, _<_, _||_, _∙_, _∷_, _≡_, _≢_, _≤_, _⊎_, ap}
 pub use Rattle.constraint.proofs.Library.{append-nil, arith, cond, drop, eq-eqb, eqb, eqb-false, eqb-true, false, getD, inl, inr, le-ltb, length}
 pub use Rattle.constraint.proofs.Library.{length-append, length-drop, length-set, lt-ltb, ltb, ltb-false, ltb-true, min, ne-eqb, needs, not-false}
-pub use Rattle.constraint.proofs.Library.{length-replicate, length-take-le, not-true, now, refl, replicate, set, subst, suc, sym, take, true, zero, ℕ, ⊎-elim}
+pub use Rattle.constraint.proofs.Library.{length-replicate, length-take-le, not-true, now, refl, replicate, set, subst, suc, sym, take, true, zero, ℕ}
+pub use Rattle.constraint.proofs.Library.{⊎-elim}
 pub use Rattle.constraint.proofs.{Continuations.continues-closed, Continuations.meets-same, Continuations.open-at-tick, Lists.both, Lists.split}
 pub use Rattle.constraint.proofs.{Streams.among-kinds, Streams.among-where, Streams.kind-small, Streams.streams, Verdicts.broken-later}
 pub use Rattle.constraint.proofs.Lengths.{few-kinds}
 pub use Rattle.constraint.proofs.{Verdicts.broken-now, Verdicts.broken-shut, Verdicts.open-of-meets}
 pub use Rattle.constraint.specs.Continuation.{BrokenAt, Open, Reads, reads-broken, reads-kept, reads-open}
 pub use Rattle.constraint.specs.Steps.{Step, among, at, clock, close, event, own, tick}
-pub use Rattle.constraint.specs.{Accepted.KindsFit, Accepted.kinds, Limits.lastTime, Limits.streamCount, Limits.waitingLimit, Meets.Meets}
+pub use Rattle.constraint.specs.{Accepted.kinds, Limits.lastTime, Limits.streamCount, Limits.waitingLimit, Meets.Meets}
 pub use Rattle.constraint.specs.{Streams.kindOf, Types.Known, Types.fieldsOf, Waiting.waiting, Constraint.Constraint, declared.Verdict.Verdict}
 pub use Rattle.row_type.proofs.FitsRow.{FitsRow, kind-overflows, fits-none, neither, words-few}
 pub use Rattle.row_type.proofs.{FieldNumbers.kinds-are, SeveralKinds.kinds-small}

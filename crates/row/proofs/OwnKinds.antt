@@ -1,7 +1,8 @@
 -- The row's test of an event's kind is right: its five numbers are the constraint's kinds and, for those that it lacks, 64, which is no kind; and
 -- an event is of one of the row's streams just where it is of one of its kinds.
 use Rattle.row.proofs.Names.{Constraint, KindsSuit, Known, List, [], _++_, _<_, _||_, _∙_, _∷_, _≡_, _≤_, among, among-kinds, among-where}
-use Rattle.row.proofs.Names.{ap, arith, concerns, eqb, false, few-kinds, fieldsOf, kind-small, kindOf, kinds, kinds-are, kinds-small, length, ne-eqb}
+use Rattle.row.proofs.Names.{ap, arith, concerns, eqb, false, few-kinds, fieldsOf, kind-small, kindOf, kinds, kinds-are, kinds-small, length}
+use Rattle.row.proofs.Names.{ne-eqb}
 use Rattle.row.proofs.Names.{noEvent, noKind, refl, replicate, parametersOf, split, streamCount, streams, suc, take, true, zero, ℕ}
 use Rattle.row.proofs.Exact.{OfStream, Sound}
 

@@ -1,6 +1,6 @@
 -- A row of any type keeps what it has to: going on, it is open and holds what waits; broken, it has the first step after which no
 -- continuation was left. By cases on what the machine does at a step, from what each type proves.
-use Rattle.row.proofs.Names.{Accepts, Bool, BrokenAt, Change, Constraint, KindsSuit, List, Meets, StepInput, Open, Past, Reads, Row, RowStep}
+use Rattle.row.proofs.Names.{Accepts, Bool, BrokenAt, Change, Constraint, List, Meets, StepInput, Open, Past, Reads, Row, RowStep}
 use Rattle.row.proofs.Names.{Parameters, State, Step, Valid, Verdict, [], _&&_, _++_, _+_, _<_, _∙_, _∷_, _≡_, _≤_, _⊎_, among, ap, append-nil}
 use Rattle.row.proofs.Names.{applied, arith, both, broken-later, broken-now, broken-shut, brokenRow, changed, changedRow, clock, clock-close}
 use Rattle.row.proofs.Names.{clock-event, clock-tick, clockFrom, close, closeAt, closed, closed-close, closed-event, closed-tick, cond}
@@ -85,7 +85,8 @@ fits-start c exact =
   where
     whole : length (startRing c) ≡ 64
     whole =
-        length-take-le 64 (constantsOf c ++ replicate 64 0) (omega (arith, length-append (constantsOf c) (replicate 64 0), length-replicate {A = ℕ} 64 0))
+        length-take-le 64 (constantsOf c ++ replicate 64 0)
+        (omega (arith, length-append (constantsOf c) (replicate 64 0), length-replicate {A = ℕ} 64 0))
 
     from-start : ring (startRing c) 0 (startWordCount (parametersOf c)) ≡ startWords c
     from-start = let few = words-few (parametersOf c) in ring-take (startRing c) (startWordCount (parametersOf c)) few (omega (arith, few, whole))

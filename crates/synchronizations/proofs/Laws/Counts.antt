@@ -1,8 +1,10 @@
 -- The marks of a row as one number for each kind, a count in a StrongSynchronization: the kinds are different, so the machine's four places are
 -- those of the list of kinds, and a place without a kind never matters.
-use Rattle.constraint.proofs.Library.{Bool, List, [], _&&_, _++_, _+_, _-_, _<_, _||_, _∙_, _∷_, _≡_, _≤_, _⊎_, and-eq-true-iff, ap, ap₂, arith, by-cases}
+use Rattle.constraint.proofs.Library.{Bool, List, [], _&&_, _++_, _+_, _-_, _<_, _||_, _∙_, _∷_, _≡_, _≤_, _⊎_, and-eq-true-iff, ap, ap₂, arith}
+use Rattle.constraint.proofs.Library.{by-cases}
 use Rattle.constraint.proofs.Library.{decLt, eq-eqb, eqb, eqb-false, false, false≢true, getD-replicate, inl, inr, length, length-append}
-use Rattle.constraint.proofs.Library.{length-replicate, ltb, ltb-false, ltb-true, ne-eqb, refl, replicate, subst, suc, sym, take, take-take, true, zero, ℕ, ⊎-elim}
+use Rattle.constraint.proofs.Library.{length-replicate, ltb, ltb-false, ltb-true, ne-eqb, refl, replicate, subst, suc, sym, take, take-take, true}
+use Rattle.constraint.proofs.Library.{zero, ℕ, ⊎-elim}
 use Rattle.constraint.proofs.Lists.{at-left, at-right, split}
 use Rattle.constraint.proofs.Streams.{streams, streamsIn}
 use Rattle.constraint.specs.Types.{Field, byte, count as number, fieldsOf, typeOf}

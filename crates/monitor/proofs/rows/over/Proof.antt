@@ -1,5 +1,6 @@
 -- The loop puts the row of one constraint after the other into an array of rows of the filler.
-use Rattle.monitor.proofs.Names.{Known, Table, TableRow, _-_, _<_, _∙_, _≡_, _≤_, ap, arith, drop-cons, filler, getD, length, length-map, length-take-le}
+use Rattle.monitor.proofs.Names.{Known, Table, TableRow, _-_, _<_, _∙_, _≡_, _≤_, arith, drop-cons, filler, getD, length, length-map}
+use Rattle.monitor.proofs.Names.{length-take-le}
 use Rattle.monitor.proofs.Names.{monitorOf, needs, noRow, rowIn, rowOf, rows-from, rows-length, rowsOf, subst, subst⁻¹, sym, ℕ}
 use Rattle.monitor.proofs.{Filled.filled, Filled.filled-next, rows.over.Statement.statement}
 use Rattle.monitor.proofs.rows.over.Tie as tie
@@ -31,7 +32,8 @@ begin2-requires c κs =
 
 loop-again : tie.Need-loop-again Inv-loop μ-loop
 loop-again c =
-    let at-loop = c .before .before .before in let start = at-loop .before .before .before in let table = start .args .t1 in let i = at-loop .loop .i in
+    let at-loop = c .before .before .before in let i = at-loop .loop .i in
+    let start = at-loop .before .before .before in let table = start .args .t1 in
     let counted : i < table .count = omega arith in (
       omega arith,
       rw (at-loop .loop .inv .1, c .begin2 .ensures, ← row-at table i _ counted (omega (arith, size start)))

@@ -123,4 +123,3 @@ apply-by-type-spec =
     returns-9
     returns-10
     returns-11)
-

@@ -73,4 +73,3 @@ overflows-spec =
     let a = c .before .before .args in
     by-type noMachine (a .w .now) (a .stream) (a .t) refl
     (none-of _ (c .match .rest))))
-

@@ -67,4 +67,3 @@ slots-used-by-type-spec =
     let a = c .before .args in
     by-type noMachine (a .tag) (a .span) (a .len) refl
     (none-of _ (c .match .rest))))
-

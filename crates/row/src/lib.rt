@@ -11,7 +11,8 @@ ghost use mathlib.Core.Path.{_≡_};
 ghost use Rattle.constraint.specs.Types.{Known};
 ghost use Rattle.table_row.specs.Records.{rowIn};
 ghost use Rattle.row.specs.Undo.{movesBy, savedBy, rowWithout, keptWithout, rowUndoOf, noRowUndo};
-ghost use Rattle.row.specs.Machine.{concerns, rowOf, rowStep};
+ghost use Rattle.row.specs.Machine.{concerns, freshState, rowFrom, rowOf, rowStep};
+ghost use lib.ListN.{replicate};
 
 pub mod stored;
 
@@ -76,12 +77,10 @@ fn moves(parameters: Parameters, now: State, o: StepInput) -> bool
 }
 
 impl Row {
-    // The row of a constraint of a known type before any step.
-    pub fn begin(row: TableRow) -> Self
-        requires { ⌜ Known (rowIn row) ⌝ }
-        ensures { λ r. ⌜ r ≡ rowOf (rowIn row) ⌝ }
+    // A row of these numbers before any step, with 0 in each place of its ring.
+    pub(crate) fn blank(parameters: Parameters) -> Self
+        ensures { λ r. ⌜ r ≡ rowFrom parameters (replicate 64 0) (freshState parameters) ⌝ }
     {
-        let parameters = from_constraint::parameters_of(row);
         let now = State {
             registers: parts::no_registers(),
             head: 0,
@@ -90,12 +89,21 @@ impl Row {
             kept: 1,
             broken: 0,
         };
-        let times = from_constraint::start_ring(row);
         Row {
             parameters,
-            times,
+            times: [0u64; SIZE],
             now,
         }
+    }
+
+    // The row of a constraint of a known type before any step.
+    pub fn begin(row: TableRow) -> Self
+        requires { ⌜ Known (rowIn row) ⌝ }
+        ensures { λ r. ⌜ r ≡ rowOf (rowIn row) ⌝ }
+    {
+        let mut made = Row::blank(from_constraint::parameters_of(row.tag, &row.values));
+        from_constraint::put_constants(&mut made.times, row.tag, &row.values);
+        made
     }
 
     // §6.5

@@ -4,16 +4,10 @@ use crate::RowUndo;
 use crate::StepInput;
 use crate::concerns;
 use constraint::WAITING_LIMIT;
-use delay_order::delay;
-use delay_order::order;
-use delay_order::strong_delay;
-use event_chain::reaction;
-use execution::execution_time;
-use hidden_points::sporadic;
-use repeat_burst::repeat;
 use ring::SIZE;
 use ring::minus;
 use ring::put_back;
+use row_type::from_constraint;
 use row_type::Parameters;
 use row_type::Registers;
 use row_type::State;
@@ -21,13 +15,19 @@ use row_type::parts::smaller;
 use row_type::row_words;
 use row_type::row_words::parameters_at;
 use row_type::row_words::registers_at;
+use delay_order::delay;
+use delay_order::order;
+use delay_order::strong_delay;
+use event_chain::reaction;
+use execution::execution_time;
+use hidden_points::sporadic;
+use repeat_burst::repeat;
 use synchronizations::strong_synchronization;
 use synchronizations::synchronization;
-use table_row::TableRow;
 ghost use Prim.Native.Nat.{ℕ};
 ghost use mathlib.Core.Path.{_≡_};
 ghost use Rattle.constraint.specs.Types.{Known};
-ghost use Rattle.table_row.specs.Records.{rowIn};
+ghost use Rattle.table_row.specs.Records.{rowRead};
 ghost use lib.ListN.{replicate};
 ghost use Rattle.row_type.specs.Words.{UndoRecord, askedOf, numberWords, NumbersBecome};
 ghost use Rattle.row_type.specs.declared.Parameters.{Parameters};
@@ -335,12 +335,14 @@ pub fn would_overflow(row: &[[u64; SIZE]; 2], o: StepInput) -> bool
     step_overflows(row, o)
 }
 
-// The row is that of a constraint of a known type before any step.
-pub fn begin(row: &mut [[u64; SIZE]; 2], wanted: TableRow)
-    requires { ⌜ Known (rowIn wanted) ⌝ }
-    ensures { λ _. ⌜ now (row .exit) ≡ wordsOfRow (rowOf (rowIn wanted)) noRowUndo ⌝ }
+// The row is that of a constraint of a known type, with these values, before any step.
+pub fn begin(row: &mut [[u64; SIZE]; 2], tag: u8, values: &[u64; 18])
+    requires { ⌜ Known (rowRead tag (now values)) ⌝ }
+    ensures { λ _. ⌜ now (row .exit) ≡ wordsOfRow (rowOf (rowRead tag (now (values .entry)))) noRowUndo ⌝ }
 {
-    *row = encode_row(Row::begin(wanted), RowUndo::none());
+    let parameters = from_constraint::parameters_of(tag, values);
+    *row = encode_row(Row::blank(parameters), RowUndo::none());
+    from_constraint::put_constants(&mut row[0], tag, values);
 }
 
 // The larger of two numbers.

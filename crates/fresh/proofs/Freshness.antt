@@ -5,12 +5,15 @@ use Rattle.fresh.proofs.Names.{Row}
 use Rattle.fresh.proofs.Names.{RowsPut, Parameters, Shaped, SoundNumbers, SoundRows, Words, [], _%_, _++_, _+_, _-_, _<_, _∙_, _∷_, _≡_, _≤_}
 use Rattle.fresh.proofs.Names.{accepted-few}
 use Rattle.fresh.proofs.Names.{accepted-sound, after, ap, ap₂, arith, at, concerns, concerns-none, cond, each-append, each-cons, each-none}
-use Rattle.fresh.proofs.Names.{endOf, endsTo, false, filler, freshLent, getD, getD-append-add, getD-at, heldRows, isOf, keptAt, length}
-use Rattle.fresh.proofs.Names.{length-append, length-map, length-replicate, listedTo, ltb, ltb-false, ltb-true, map, mod-eq-of-lt, monitorOf}
-use Rattle.fresh.proofs.Names.{namedRows, noRowUndo, noEvent, noRow, noWords, numbers, padded, play, refl, replicate, rest-zero-fresh, rowAt}
+use Rattle.fresh.proofs.Names.{endOf, endsTo, entryIn, false, filler, freshLent, getD, getD-append-add, getD-at, heldRows, isOf, keptAt}
+use Rattle.fresh.proofs.Names.{length}
+use Rattle.fresh.proofs.Names.{length-append, length-map, length-replicate, listedTo, ltb, ltb-false, ltb-true, map, monitorOf}
+use Rattle.fresh.proofs.Names.{namedRows, noRowUndo, noEvent, noRow, noWords, numbers, packed, padded, play, refl, replicate, rest-zero-fresh}
+use Rattle.fresh.proofs.Names.{rowAt}
 use Rattle.fresh.proofs.Names.{rowCount, rowLimit, rowNamed, rowOf, rowsOfKind, set, split, startOf, subst, subst₂, suc, sym, take, take-at}
 use Rattle.fresh.proofs.Names.{take-length, take-suc, taken-few, true, waitingLimit, withLists, words-few, wordsOfLent, zero, ℕ}
-use Rattle.fresh.proofs.Padding.{padded-at, padded-length, padded-next}
+use Rattle.fresh.proofs.Packing.{packed-at, packed-length}
+use Rattle.fresh.proofs.Padding.{padded-next}
 use Rattle.fresh.proofs.{Lists.shaped-lists, Lists.words-known, Totals.listed-few}
 use Rattle.row_type.specs.Parameters as Rules
 use Rattle.row.proofs.Exact as Exact
@@ -87,7 +90,7 @@ named-are h first list (suc n) few each =
     ∙ sym (take-suc list n 0 (omega (arith, few)))
 
 module _ (h : Lent) (n : ℕ) (few : n ≤ 32) (ends : h .ends ≡ endsTo (h .monitor) n 64)
-    (entries : h .entries ≡ padded 128 (listedTo (h .monitor) n 64)) where
+    (entries : h .entries ≡ packed (listedTo (h .monitor) n 64)) where
   end-is : (kind : ℕ) → kind < 64 → endOf h kind ≡ length (listedTo (h .monitor) n (suc kind))
   end-is kind small =
       let stored : at (h .ends) kind ≡ length (listedTo (h .monitor) n (suc kind)) =
@@ -110,10 +113,10 @@ module _ (h : Lent) (n : ℕ) (few : n ≤ 32) (ends : h .ends ≡ endsTo (h .mo
       ∙ named-are h first list (length list) (omega arith) (λ i below.
       let there : first + i < length (listedTo m n (suc kind)) = omega (arith, longer, below) in
       let last = later-at m n 64 (suc kind) (first + i) small there in
-      ap (λ (l : List ℕ). at l (first + i) % 32) entries
-      ∙ ap (λ (k : ℕ). k % 32)
-      (padded-at (listedTo m n 64) 128 (first + i) (last .0) (omega (arith, there, listed-few m n (suc kind), few)) ∙ last .1 ∙ kind-at m n kind i)
-      ∙ mod-eq-of-lt (omega (arith, numbers-small (isOf m kind) n i below, few)))
+      let row : at (listedTo m n 64) (first + i) ≡ at list i = last .1 ∙ kind-at m n kind i in
+      ap (λ (l : List ℕ). entryIn l (first + i) % 32) entries
+      ∙ packed-at (listedTo m n 64) (first + i) (last .0) (omega (arith, there, listed-few m n (suc kind), few))
+      (omega (arith, row, numbers-small (isOf m kind) n i below, few)) ∙ row)
       ∙ take-length list
 
 -- ---- its rows
@@ -177,7 +180,7 @@ fresh-shaped rows few =
       kept-there = refl;
       next-there = refl;
       ends-there = ends-length (after rows []) (length rows) 64;
-      entries-there = padded-length (listedTo (after rows []) (length rows) 64) 128;
+      entries-there = packed-length (listedTo (after rows []) (length rows) 64);
       rest-zero = λ i _. subst₂ RestZero (sym (row-is rows i)) (sym (kept-is rows i)) (rest-zero-fresh (getD rows i filler));
     }
 
@@ -233,9 +236,9 @@ numbered words n =
     set opened 32 (set (getD opened 32 []) 0 (set (getD (getD opened 32 []) 0 []) 3 n))
 
 pub begun-words : (rows : List Constraint) → length rows ≤ rowLimit → (words exit : Words) → words ≡ replicate 35 noWords
-    → RowsPut (numbered words (length rows)) (after rows []) 32 exit → exit ≡ wordsOfLent (withLists (freshLent rows) (padded 64 []) (padded 128 []))
-unfolding after play monitorOf padded
+    → RowsPut (numbered words (length rows)) (after rows []) 32 exit → exit ≡ wordsOfLent (withLists (freshLent rows) (padded 64 []) (packed []))
+unfolding after play monitorOf padded packed
 begun-words rows few words exit cleared put =
     let done = subst (λ (w : Words). RowsPut (numbered w (length rows)) (after rows []) 32 exit) cleared put in
-    words-known (withLists (freshLent rows) (padded 64 []) (padded 128 [])) (shaped-lists (freshLent rows) (fresh-shaped rows few) [] []) exit
+    words-known (withLists (freshLent rows) (padded 64 []) (packed [])) (shaped-lists (freshLent rows) (fresh-shaped rows few) [] []) exit
     (done .long) (done .rows-lie) (λ k. done .others 32 (omega arith) k ∷ done .others 33 (omega arith) k ∷ done .others 34 (omega arith) k ∷ [])

@@ -1,6 +1,7 @@
 -- Why the words of a monitor that is made fresh are those of the fresh monitor over the table.
 mod Names
 mod Padding
+mod Packing
 mod Totals
 mod Lists
 mod Scanned

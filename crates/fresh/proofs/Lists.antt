@@ -1,10 +1,10 @@
 -- The lists of a lent monitor where they lie: a store in one is a store in one part of the record. Words whose blocks are all known are a monitor's.
 use Rattle.fresh.proofs.Names.{RowUndo, Lent, List, Row, RowsLie, Shaped, Words, [], _%_, _++_, _/_, _<_, _∙_, _∷_, _≡_, _≤_, ap, ap₂, arith}
 use Rattle.fresh.proofs.Names.{drop, drop-cons, drop-length, entries-read, getD, half-written, halves, last-written, lastBlocks, length}
-use Rattle.fresh.proofs.Names.{noRowUndo, noRow, numberBlock, numbers-read, padded, refl, rowBlocks, set, subst, suc, sym, withLists}
+use Rattle.fresh.proofs.Names.{noRowUndo, noRow, numberBlock, numbers-read, packed, padded, refl, rowBlocks, set, subst, suc, sym, withLists}
 use Rattle.fresh.proofs.Names.{wordsOfLent}
 use Rattle.fresh.proofs.Names.{ℕ}
-use Rattle.fresh.proofs.Padding.{padded-length}
+use Rattle.fresh.proofs.{Packing.packed-length, Padding.padded-length}
 use Rattle.row.specs.Stored as Stored
 
 -- ---- stores
@@ -29,14 +29,14 @@ module _ (h : Lent) (s : Shaped h) where
       ++ (numberBlock h ∷ b ∷ halves (drop 48 (h .monitor .next)) ∷ []))
       (half-written (h .entries) i v small)
 
-  pub shaped-lists : (ends entries : List ℕ) → Shaped (withLists h (padded 64 ends) (padded 128 entries))
+  pub shaped-lists : (ends entries : List ℕ) → Shaped (withLists h (padded 64 ends) (packed entries))
   shaped-lists ends entries =
       record {
         rows-there = s .rows-there;
         kept-there = s .kept-there;
         next-there = s .next-there;
         ends-there = padded-length ends 64;
-        entries-there = padded-length entries 128;
+        entries-there = packed-length entries;
         rest-zero = s .rest-zero;
       }
 

@@ -1,9 +1,12 @@
 -- The names of the definitions and laws below this crate that its proofs use, passed on from one place.
 pub use Rattle.constraint.proofs.Library.{Bool, List, List·getD-append, [], _%_, _*_, _++_, _+_, _-_, _/_, _<_, _||_, _∙_, _∷_, _≡_, _≤_, add-one, ap}
-pub use Rattle.constraint.proofs.Library.{append-assoc, append-nil, append-snoc, ap₂, arith, cond, drop, drop-cons, drop-length, drop-of-length-le}
-pub use Rattle.constraint.proofs.Library.{eqb, eqb-false, eqb-true, false, getD, getD-append-add, getD-at, getD-set-other, getD-set-same, getD-take}
-pub use Rattle.constraint.proofs.Library.{inl, inr, length, length-append, length-drop, length-map, length-replicate, length-set, length-take-le, ltb}
-pub use Rattle.constraint.proofs.Library.{ltb-false, ltb-true, map, mod-eq-of-lt, needs, now, refl, replicate, replicate-append-replicate, set}
+pub use Rattle.constraint.proofs.Library.{append-assoc, append-nil, append-snoc, ap₂, arith, cond, drop, drop-append-le, drop-cons, drop-length}
+pub use Rattle.constraint.proofs.Library.{drop-of-length-le}
+pub use Rattle.constraint.proofs.Library.{eqb, eqb-false, eqb-true, false, getD, getD-append-add, getD-at, getD-drop, getD-replicate, getD-set-other}
+pub use Rattle.constraint.proofs.Library.{getD-set-same, getD-take}
+pub use Rattle.constraint.proofs.Library.{inl, inr, le-ltb, length, length-append, length-drop, length-map, length-replicate, length-set}
+pub use Rattle.constraint.proofs.Library.{length-take-le, lt-ltb, ltb}
+pub use Rattle.constraint.proofs.Library.{ltb-false, ltb-true, map, needs, now, refl, replicate, replicate-append-replicate, set}
 pub use Rattle.constraint.proofs.Library.{set-at, subst, subst₂, suc, sym, take, take-all, take-append-le, take-at, take-length, take-set-le}
 pub use Rattle.constraint.proofs.Library.{take-set-lt, take-suc, take-suc-set, true, zero, ℕ}
 pub use Rattle.constraint.proofs.Lists.{Each, each-append, each-cons, each-none, split}
@@ -12,8 +15,8 @@ pub use Rattle.constraint.specs.Table.{ReadsRows, ReadsTableUpTo, ShapeFits, Ta
 pub use Rattle.constraint.specs.Table.{table-of, table-refused, version-refused, version-taken}
 pub use Rattle.constraint.specs.{Accepted.Accepted, Limits.rowLimit, Limits.waitingLimit, Questions.Question, Records.filler, Steps.among, Steps.at}
 pub use Rattle.constraint.specs.{declared.Answer.the-variants.Refused, declared.Answer.the-variants.Taken, declared.Constraint.Constraint}
-pub use Rattle.fresh.specs.Fresh.{BeginsUpTo, ListsLie, RowsBehind, RowsLie, RowsPut, begun, freshLent, noWords, refused, withLists}
-pub use Rattle.in_place.proofs.{Blocks.last-written, Blocks.row-lies, Parts.entries-read, Parts.half-written, Parts.numbers-read}
+pub use Rattle.fresh.specs.Fresh.{BeginsUpTo, ListsLie, RowsBehind, RowsLie, RowsPut, begun, freshLent, noWords, refused, twoIn, withLists}
+pub use Rattle.in_place.proofs.{Blocks.last-written, Blocks.row-lies, Parts.entries-read, Parts.half-read, Parts.half-written, Parts.numbers-read}
 pub use Rattle.in_place.specs.Contract.{Indexes, HintSound, SoundNumbers, isOf, namedRows, numbers, rowsOfKind}
 pub use Rattle.in_place.specs.Layout.{Lent, Shaped, Words, endOf, halves, heldRows, keptAt, lastBlocks, numberBlock, rowAt, rowNamed, startOf}
 pub use Rattle.in_place.specs.Steps.{rowCount}
@@ -26,8 +29,8 @@ pub use Rattle.row.specs.{Machine.concerns, Machine.noEvent, Stored.RestZero, U
 pub use Rattle.table.proofs.{Places.place-taken, Scanning.scan-start, Scanning.scan-step}
 pub use Rattle.table.specs.{Scan.PlacedAt, declared.scan.Placed.Placed}
 unfoldable pub use Rattle.constraint.specs.{Promise.play, Questions.Judged, Table.placeQuestions}
-unfoldable pub use Rattle.fresh.specs.Fresh.{endsTo, listedTo, padded}
-unfoldable pub use Rattle.in_place.specs.Layout.{rowBlocks, wordsOfLent}
+unfoldable pub use Rattle.fresh.specs.Fresh.{endsTo, entered, listedTo, packed, padded}
+unfoldable pub use Rattle.in_place.specs.Layout.{entryIn, rowBlocks, wordsOfLent}
 unfoldable pub use Rattle.row_type.specs.Words.{numberWords, rowWords}
 unfoldable pub use Rattle.monitor.specs.{Contract.after, Machine.monitorOf}
 unfoldable pub use Rattle.row.specs.Machine.{rowOf}

@@ -1,9 +1,10 @@
 -- A lent monitor made fresh over a table: every word of it, and the number that answers to the table's bytes.
-use Prim.Native.Nat.{ℕ, zero, suc, _+_, _*_, _<_, _≤_}
+use Prim.Native.Nat.{ℕ, zero, suc, _+_, _-_, _*_, _%_, _<_, _≤_}
 use mathlib.Core.Path.{_≡_}
 use mathlib.Core.Bool.{Bool, cond}
 use mathlib.Core.List.{List, [], _∷_, _++_}
-use lib.ListN.{length, getD, take, replicate}
+use lib.ListN.{length, getD, set, take, drop, replicate}
+use lib.Dec.{ltb}
 use Rattle.constraint.specs.Limits.{rowLimit}
 use Rattle.constraint.specs.Accepted.{Accepted}
 use Rattle.constraint.specs.Table.{ReadsRows, ReadsTableUpTo, table-of, table-refused}
@@ -33,6 +34,21 @@ endsTo m rows (suc kind) = endsTo m rows kind ++ (length (listedTo m rows (suc k
 unfoldable pub padded : ℕ → List ℕ → List ℕ
 padded places list = take places (list ++ replicate places 0)
 
+-- two lists of entries in the same words: below 32, and 32 times
+abbrev pub twoIn : List ℕ → List ℕ → List ℕ
+twoIn [] above = []
+twoIn (x ∷ below) [] = []
+twoIn (x ∷ below) (y ∷ above) = (x % 32 + 32 * y) ∷ twoIn below above
+
+-- a list of entries in 128 words: those behind the first 128 stand above them
+unfoldable pub packed : List ℕ → List ℕ
+packed list = twoIn (padded 128 list) (padded 128 (drop 128 list))
+
+-- the words with an entry stored at a place
+unfoldable pub entered : List ℕ → ℕ → ℕ → List ℕ
+entered words place i =
+    cond (ltb place 128) (set words place i) (set words (place - 128) (getD words (place - 128) 0 % 32 + 32 * i))
+
 -- ---- the fresh monitor over a table's rows
 
 abbrev pub withLists : Lent → List ℕ → List ℕ → Lent
@@ -45,7 +61,7 @@ freshLent rows =
       soonest = 0;
       hint = 0;
       ends = endsTo (after rows []) (length rows) 64;
-      entries = padded 128 (listedTo (after rows []) (length rows) 64);
+      entries = packed (listedTo (after rows []) (length rows) 64);
     }
 
 -- §11.5: the number that answers and the words then: 0, and each is the fresh monitor's; or 256 times the place and the number of the refusal, and
@@ -101,7 +117,7 @@ StoresRows bytes entry exit =
 
 -- the lists so far, and the place behind the entries
 abbrev pub ListsLie : Lent → List ℕ → List ℕ → ℕ → Words → Type 0
-ListsLie h ends entries place words = (place ≡ length entries) × (words ≡ wordsOfLent (withLists h (padded 64 ends) (padded 128 entries)))
+ListsLie h ends entries place words = (place ≡ length entries) × (words ≡ wordsOfLent (withLists h (padded 64 ends) (packed entries)))
 
 -- every word but those of the lists, over the n rows of the table
 abbrev pub StoresAll : List ℕ → ℕ → Words → Type 0
@@ -121,4 +137,4 @@ Enters first entry more place exit =
 abbrev pub Enlists : ℕ → Words → Words → Type 0
 Enlists n entry exit =
     (h : Lent) → Shaped h → ListsLie h [] [] 0 entry
-    → exit ≡ wordsOfLent (withLists h (endsTo (h .monitor) n 64) (padded 128 (listedTo (h .monitor) n 64)))
+    → exit ≡ wordsOfLent (withLists h (endsTo (h .monitor) n 64) (packed (listedTo (h .monitor) n 64)))

@@ -16,7 +16,7 @@ ghost use lib.ListN.{length, set, replicate};
 ghost use Rattle.in_place.specs.Layout.{Lent, wordsOfLent, Shaped};
 ghost use Rattle.in_place.specs.Steps.{Updates};
 ghost use Rattle.in_place.specs.Contract.{numbers, isOf};
-ghost use Rattle.fresh.specs.Fresh.{withLists, oneIf, BeginsUpTo, Validates, noWords, StoresRows, StoresAll, Enters, Enlists};
+ghost use Rattle.fresh.specs.Fresh.{withLists, entered, oneIf, BeginsUpTo, Validates, noWords, StoresRows, StoresAll, Enters, Enlists};
 
 // The result of validating a table's bytes: the answer, 0 or 256 times the place plus the number of the refusal; and the number of rows.
 pub struct Validated {
@@ -81,10 +81,17 @@ fn begin(m: &mut Words, table: &[u8], n: usize)
 
 // Stores an entry.
 fn put_entry(m: &mut Words, place: usize, i: usize)
-    ensures { λ _. ⌜ Updates (now (m .entry)) (λ h. withLists h (h .ends) (set (h .entries) place i)) (now (m .exit)) ⌝ }
+    requires { ⌜ i < 32 ⌝ }
+    ensures { λ _. ⌜ Updates (now (m .entry)) (λ h. withLists h (h .ends) (entered (h .entries) place i)) (now (m .exit)) ⌝ }
 {
     if place < 128 {
         m[ENTRIES][place / 64][place % 64] = i as u64;
+        return;
+    }
+    let below = place - 128;
+    if below < 128 {
+        let word = m[ENTRIES][below / 64][below % 64];
+        m[ENTRIES][below / 64][below % 64] = word % 32 + 32 * i as u64;
     }
 }
 

@@ -11,6 +11,7 @@ pub use Rattle.constraint.specs.{Run.Request, Run.asks, Run.withdraws, Streams.
 pub use Rattle.in_place.specs.Contract.{Indexes, HintSound, SoundNumbers, Takes, isOf, namedRows, numbers, rowsOfKind, steppedFrom, slotsTaken}
 pub use Rattle.in_place.specs.Layout.{Lent, Shaped, Words, dueAt, endOf, halves, heldRows, keptAt, lastBlocks, numberArray, numberBlock, rowAt}
 pub use Rattle.in_place.specs.Layout.{rowNamed, startOf}
+unfoldable pub use Rattle.in_place.specs.Layout.{entryIn}
 pub use Rattle.in_place.specs.Steps.{OnStream, Stores, answerTo, appliedOn, allRowsUndone, rowsUndone, deadlinesChecked, recordedMonitor}
 pub use Rattle.in_place.specs.Steps.{recordedOn, recordedTo, crowded}
 pub use Rattle.in_place.specs.Steps.{crowdedAt, crowdedOn, clockAppliedAt, clockApplied, maxSlotsUsed, leaves, leftAfter, leftOn, nextNumber}

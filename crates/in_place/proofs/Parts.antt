@@ -254,10 +254,10 @@ ended-ends h (suc n) o number = ended-ends h n o number
 
 -- where the rows of a kind begin, and how many there are, depends only on the ends
 pub same-rows : (x h : Lent) → x .ends ≡ h .ends → (kind : ℕ) → (startOf x kind ≡ startOf h kind) × (rowCount x kind ≡ rowCount h kind)
-same-rows x h e zero = (refl, ap (λ (l : List ℕ). min (getD l 0 0) 128 - 0) e)
+same-rows x h e zero = (refl, ap (λ (l : List ℕ). min (getD l 0 0) 160 - 0) e)
 same-rows x h e (suc kind) = (
-  ap (λ (l : List ℕ). min (getD l kind 0) 128) e,
-  ap (λ (l : List ℕ). min (getD l (suc kind) 0) 128 - min (getD l kind 0) 128) e,
+  ap (λ (l : List ℕ). min (getD l kind 0) 160) e,
+  ap (λ (l : List ℕ). min (getD l (suc kind) 0) 160 - min (getD l kind 0) 160) e,
 )
 
 module _ (h : Lent) (o : StepInput) where

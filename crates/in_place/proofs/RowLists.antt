@@ -3,7 +3,7 @@
 use Rattle.in_place.proofs.Names.{RowUndo, Bool, Indexes, Lent, List, Monitor, StepInput, HintSound, Row, Parameters, Shaped, SoundNumbers, []}
 use Rattle.in_place.proofs.Names.{_%_, _++_, _+_, _-_}
 use Rattle.in_place.proofs.Names.{_<_, _∙_, _∷_, _≡_, _≤_, ap, ap₂, arith, deadlinesChecked, concerns, cond, crowds, dueAt, clockApplied}
-use Rattle.in_place.proofs.Names.{endedRow, endedSaves}
+use Rattle.in_place.proofs.Names.{endedRow, endedSaves, entryIn}
 use Rattle.in_place.proofs.Names.{eventRow, eventSaves, false, getD, heldRows, isOf, keptAt, le-ltb, length, ltb, ltb-false, ltb-true}
 use Rattle.in_place.proofs.Names.{mapFirst}
 use Rattle.in_place.proofs.Names.{min, movesBy, namedRows, noRowUndo, noEvent, noRow, numbers, rowsExpired, refl, hintAfterEvent, hintAfterRow}
@@ -25,17 +25,17 @@ use Rattle.in_place.proofs.RowByRow as Following
 
 pub same-named : (h x : Lent) → x .entries ≡ h .entries → (first n : ℕ) → namedRows x first n ≡ namedRows h first n
 same-named h x e first zero = refl
-same-named h x e first (suc n) = ap₂ (λ (l entries : List ℕ). l ++ (getD entries (first + n) 0 % 32 ∷ [])) (same-named h x e first n) e
+same-named h x e first (suc n) = ap₂ (λ (l entries : List ℕ). l ++ (entryIn entries (first + n) % 32 ∷ [])) (same-named h x e first n) e
 
 same-start : (h x : Lent) → x .ends ≡ h .ends → (kind : ℕ) → startOf x kind ≡ startOf h kind
 same-start h x e zero = refl
-same-start h x e (suc kind) = ap (λ (ends : List ℕ). min (getD ends kind 0) 128) e
+same-start h x e (suc kind) = ap (λ (ends : List ℕ). min (getD ends kind 0) 160) e
 
 pub same-rows : (h x : Lent) → x .ends ≡ h .ends → x .entries ≡ h .entries → (kind : ℕ) → rowsOfKind x kind ≡ rowsOfKind h kind
 same-rows h x ends entries kind =
     same-named h x entries (startOf x kind) (rowCount x kind)
     ∙ ap₂ (namedRows h) (same-start h x ends kind)
-    (ap₂ (λ (a b : ℕ). a - b) (ap (λ (l : List ℕ). min (getD l kind 0) 128) ends) (same-start h x ends kind))
+    (ap₂ (λ (a b : ℕ). a - b) (ap (λ (l : List ℕ). min (getD l kind 0) 160) ends) (same-start h x ends kind))
 
 pub same-numbers : (p r : ℕ → Bool) (n : ℕ) → ((i : ℕ) → i < n → p i ≡ r i) → numbers p n ≡ numbers r n
 same-numbers p r zero same = refl

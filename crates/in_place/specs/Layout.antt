@@ -1,9 +1,11 @@
 -- The words of a lent monitor: 35 blocks of two arrays of 64. Block i below 32 is row i; the last three have the numbers beside the rows, the list of
 -- rows for each kind, and the first free times of the coloured streams.
-use Prim.Native.Nat.{ℕ, zero, suc, _-_, _%_, _<_, min}
+use Prim.Native.Nat.{ℕ, zero, suc, _-_, _/_, _%_, _<_, min}
 use mathlib.Core.Path.{_≡_}
+use mathlib.Core.Bool.{cond}
 use mathlib.Core.List.{List, [], _∷_, _++_}
 use lib.ListN.{length, getD, take, drop}
+use lib.Dec.{ltb}
 use Rattle.constraint.specs.Limits.{rowLimit, streamCount}
 use Rattle.row.specs.Undo.{noRowUndo}
 use Rattle.row.specs.Stored as Stored
@@ -70,15 +72,19 @@ pub record Shaped (h : Lent) : Type 0 where
 
 -- where the rows of a kind begin and end among the entries, whatever the words say
 abbrev pub endOf : Lent → ℕ → ℕ
-endOf h kind = min (getD (h .ends) kind 0) 128
+endOf h kind = min (getD (h .ends) kind 0) 160
 
 abbrev pub startOf : Lent → ℕ → ℕ
 startOf h zero = 0
 startOf h (suc kind) = endOf h kind
 
+-- the entry at a place in its 128 words: each of the first 128 has a word, and those behind them stand above them, times 32
+unfoldable pub entryIn : List ℕ → ℕ → ℕ
+entryIn words place = cond (ltb place 128) (getD words place 0) (getD words (place - 128) 0 / 32)
+
 -- the row that an entry names
 abbrev pub rowNamed : Lent → ℕ → ℕ
-rowNamed h place = getD (h .entries) place 0 % 32
+rowNamed h place = entryIn (h .entries) place % 32
 
 -- how many rows a monitor has, whatever its record says
 abbrev pub heldRows : Monitor → ℕ

@@ -19,28 +19,31 @@ ghost use Rattle.in_place.specs.Steps.{Updates, appliedOn, kindApplied, 
 
 // Returns the row that an entry names, clamped to a row number.
 fn entry_row(m: &Words, place: usize) -> usize
-    requires { ⌜ place < 128 ⌝ }
+    requires { ⌜ place < 160 ⌝ }
     ensures { λ r. ⌜ ((r < 32) × ((h : Lent) → now (m .entry) ≡ wordsOfLent h → Shaped h → r ≡ rowNamed h place)) ⌝ }
 {
     if place < 64 {
         return m[ENTRIES][0][place] as usize % 32;
     }
-    m[ENTRIES][1][place - 64] as usize % 32
+    if place < 128 {
+        return m[ENTRIES][1][place - 64] as usize % 32;
+    }
+    m[ENTRIES][0][place - 128] as usize / 32 % 32
 }
 
 // Returns the end of a kind's rows among the entries.
 fn end_of(m: &Words, kind: usize) -> usize
     requires { ⌜ kind < 64 ⌝ }
-    ensures { λ r. ⌜ ((r ≤ 128) × ((h : Lent) → now (m .entry) ≡ wordsOfLent h → Shaped h → r ≡ endOf h kind)) ⌝ }
+    ensures { λ r. ⌜ ((r ≤ 160) × ((h : Lent) → now (m .entry) ≡ wordsOfLent h → Shaped h → r ≡ endOf h kind)) ⌝ }
 {
     let end = m[NUMBERS][1][kind];
-    if end < 128 { end as usize } else { 128 }
+    if end < 160 { end as usize } else { 160 }
 }
 
 // Returns the start of a kind's rows among the entries.
 fn start_of(m: &Words, kind: usize) -> usize
     requires { ⌜ kind < 64 ⌝ }
-    ensures { λ r. ⌜ ((r ≤ 128) × ((h : Lent) → now (m .entry) ≡ wordsOfLent h → Shaped h → r ≡ startOf h kind)) ⌝ }
+    ensures { λ r. ⌜ ((r ≤ 160) × ((h : Lent) → now (m .entry) ≡ wordsOfLent h → Shaped h → r ≡ startOf h kind)) ⌝ }
 {
     if kind == 0 {
         return 0;
@@ -50,7 +53,7 @@ fn start_of(m: &Words, kind: usize) -> usize
 
 // Applies an event, which is the step of that number, to the rows that the entries from `first` to `end` name.
 fn dispatch_entries(m: &mut Words, first: usize, end: usize, stream: u64, t: u64, number: u64)
-    requires { ⌜ end ≤ 128 ⌝ }
+    requires { ⌜ end ≤ 160 ⌝ }
     ensures { λ _. ⌜ Updates (now (m .entry)) (λ h. appliedOn h first (end - first) (eventAt stream t) number) (now (m .exit)) ⌝ }
 {
     let mut soonest = m[NUMBERS][0][SOONEST];
@@ -80,7 +83,7 @@ pub(crate) fn dispatch_event(m: &mut Words, kind: usize, stream: u64, t: u64)
 
 // Returns whether an event would leave too many waiting in one of the rows that the entries from `first` to `end` name.
 fn entries_overflow(m: &Words, first: usize, end: usize, stream: u64, t: u64) -> bool
-    requires { ⌜ end ≤ 128 ⌝ }
+    requires { ⌜ end ≤ 160 ⌝ }
     ensures { λ r. ⌜ ((h : Lent) → now (m .entry) ≡ wordsOfLent h → Shaped h → r ≡ crowded h first (end - first) stream t) ⌝ }
 {
     let mut place = first;

@@ -29,7 +29,7 @@ shaped =
 -- no entry is of a kind
 none-of : (kind : ℕ) → kind < 64 → rowsOfKind zeroLent kind ≡ []
 none-of kind l =
-    let none : endOf zeroLent kind - startOf zeroLent kind ≡ 0 = omega (arith, ap (λ (n : ℕ). min n 128) (getD-replicate 64 kind 0 0 l)) in
+    let none : endOf zeroLent kind - startOf zeroLent kind ≡ 0 = omega (arith, ap (λ (n : ℕ). min n 160) (getD-replicate 64 kind 0 0 l)) in
     ap (namedRows zeroLent (startOf zeroLent kind)) none
 
 indexes : Indexes zeroLent

@@ -1,5 +1,6 @@
 -- Kind after kind: before the turn of a kind the rows of those before it are entered, and their ends are stored.
-use Rattle.fresh.proofs.Names.{Lent, List, ListsLie, Shaped, [], _*_, _-_, _∙_, _≡_, _≤_, add-one, ap, arith, endsTo, listedTo, padded, subst}
+use Rattle.fresh.proofs.Names.{Lent, List, ListsLie, Shaped, [], _*_, _-_, _∙_, _≡_, _≤_, add-one, ap, arith, endsTo, listedTo, packed, padded}
+use Rattle.fresh.proofs.Names.{subst}
 use Rattle.fresh.proofs.Names.{suc, sym, withLists, wordsOfLent, ℕ}
 use Rattle.fresh.proofs.{Freshness.ends-next, Freshness.ends-whole, Lists.shaped-lists, enlist.Statement.statement}
 use Rattle.fresh.proofs.enlist.Tie as tie
@@ -27,11 +28,11 @@ loop-again c =
             let m = h .monitor in
             let rows = listedTo m n (suc kind) in
             let so-far = d .enlist-kind .ensures .1 h (endsTo m n kind) (listedTo m n kind) s (l .loop .inv .1 .1 h s lies) in
-            let h′ = withLists h (padded 64 (endsTo m n kind)) (padded 128 rows) in
+            let h′ = withLists h (padded 64 (endsTo m n kind)) (packed rows) in
             subst (λ (k : ℕ). ListsLie h (endsTo m n k) (listedTo m n k) (d .enlist-kind .result) (c .put-end .last .0)) (sym (add-one kind)) (
               so-far .0,
               c .put-end .ensures h′ (so-far .1) (shaped-lists h s (endsTo m n kind) rows)
-                  ∙ ap (λ (ends : List ℕ). wordsOfLent (withLists h ends (padded 128 rows)))
+                  ∙ ap (λ (ends : List ℕ). wordsOfLent (withLists h ends (packed rows)))
                   (ends-next m n kind (d .enlist-kind .result) (so-far .0)),
             ),
       ),
@@ -42,7 +43,7 @@ returns c h s lies =
     let l = c .before .loop in let n = c .before .before .args .n in
     let at-end : l .kind ≡ 64 = omega arith in
     subst (λ (k : ℕ). ListsLie h (endsTo (h .monitor) n k) (listedTo (h .monitor) n k) (l .place) (l .m)) at-end (l .inv .1 .1 h s lies) .1
-    ∙ ap (λ (ends : List ℕ). wordsOfLent (withLists h ends (padded 128 (listedTo (h .monitor) n 64)))) (ends-whole (h .monitor) n)
+    ∙ ap (λ (ends : List ℕ). wordsOfLent (withLists h ends (packed (listedTo (h .monitor) n 64)))) (ends-whole (h .monitor) n)
 
 pub enlist-spec : {M : Type 1} → statement M
 enlist-spec =

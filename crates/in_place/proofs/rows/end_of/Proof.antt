@@ -1,4 +1,4 @@
--- The end stands at its place, and is cut at 128.
+-- The end stands at its place, and is cut at 160.
 use Rattle.in_place.proofs.Names.{List, [], _∙_, ap, arith, getD, needs, ℕ}
 use Rattle.in_place.proofs.{Parts.numbers-read, rows.end_of.Statement.statement}
 use Rattle.in_place.proofs.rows.end_of.Tie as tie

@@ -1,2 +1,6 @@
--- The machine of rows of coloured kinds.
+-- The machines of rows of coloured kinds.
 pub mod Reaction
+pub mod Age
+pub mod Coloured
+pub mod OutputSynchronization
+pub mod InputSynchronization

@@ -1,2 +1,6 @@
-// Reaction: rows of two coloured kinds, a stimulus and its response.
+// Rows of coloured kinds: chains from stimuli to responses.
+pub mod age;
+mod coloured;
+pub mod input_synchronization;
+pub mod output_synchronization;
 pub mod reaction;

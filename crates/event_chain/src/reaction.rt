@@ -14,7 +14,7 @@ ghost use Rattle.row_type.specs.Words.{noneSaved, Makes, Applies};
 ghost use Rattle.event_chain.specs.Reaction.{latest, highBut, dueBut, afterStimulus, afterResponse, paired, decideReaction};
 
 // How many colours there are.
-const COLOURS: usize = 8;
+pub(crate) const COLOURS: usize = 8;
 
 // What an event makes of the words of its colour: it breaks the row, or the words are new.
 pub struct Pair {
@@ -24,7 +24,7 @@ pub struct Pair {
 }
 
 // The pair of words of a colour that goes on.
-fn goes_on(low: u64, high: u64) -> Pair
+pub(crate) fn goes_on(low: u64, high: u64) -> Pair
     ensures { λ r. ⌜ r ≡ record { breaks = false; low = low; high = high } ⌝ }
 {
     Pair {
@@ -35,7 +35,7 @@ fn goes_on(low: u64, high: u64) -> Pair
 }
 
 // The pair of words of a colour that breaks the row.
-fn breaks() -> Pair
+pub(crate) fn breaks() -> Pair
     ensures { λ r. ⌜ r ≡ record { breaks = true; low = 0; high = 0 } ⌝ }
 {
     Pair {
@@ -82,7 +82,7 @@ fn after_response(low: u64, high: u64, t: u64) -> Pair
 }
 
 // A word of the row; 0 where it has none there.
-fn word(times: &[u64; SIZE], head: usize, len: usize, i: usize) -> u64
+pub(crate) fn word(times: &[u64; SIZE], head: usize, len: usize, i: usize) -> u64
     ensures { λ r. ⌜ r ≡ getD (ring (now (times .entry)) head len) i 0 ⌝ }
 {
     if i < len {
@@ -92,7 +92,7 @@ fn word(times: &[u64; SIZE], head: usize, len: usize, i: usize) -> u64
 }
 
 // The last moment for a colour's first response, by its second word.
-fn latest(high: u64) -> u64
+pub(crate) fn latest(high: u64) -> u64
     ensures { λ r. ⌜ r ≡ latest high ⌝ }
 {
     if high == 0 { NO_LIMIT } else { high - 1 }

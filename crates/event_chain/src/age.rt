@@ -1,0 +1,144 @@
+// Age: two words for each colour. The first is one more than the latest stimulus, the second one more than the first response; 0 for none. A
+// response that no stimulus suits so far makes the first word 0 again: it is owed a stimulus at its own time.
+use crate::reaction::COLOURS;
+use crate::reaction::Pair;
+use crate::reaction::breaks;
+use crate::reaction::goes_on;
+use crate::reaction::latest;
+use crate::reaction::word;
+use constraint::NO_LIMIT;
+use ring::SIZE;
+use row_type::parts;
+use row_type::row_words;
+ghost use mathlib.Core.Path.{_≡_};
+ghost use Prim.Native.Nat.{_<_};
+ghost use Rattle.ring.specs.Ring.{ring};
+ghost use Rattle.row_type.specs.Words.{noneSaved, Makes, Applies};
+ghost use Rattle.event_chain.specs.Age.{suits, afterStimulusAge, afterResponseAge, owed, owedBut, dueAge, aged, decideAge};
+
+// Whether the latest stimulus, where there is one, is minimum to maximum before a response at t.
+fn suits(minimum: u64, maximum: u64, low: u64, t: u64) -> bool
+    ensures { λ r. ⌜ r ≡ suits minimum maximum low t ⌝ }
+{
+    let next = parts::plus(t, 1);
+    0 < low && (parts::plus(low, minimum) <= next && next <= parts::plus(low, maximum))
+}
+
+// What a stimulus at t makes of the words of its colour.
+fn after_stimulus(minimum: u64, high: u64, t: u64) -> Pair
+    ensures { λ r. ⌜ r ≡ afterStimulusAge minimum high t ⌝ }
+{
+    let next = parts::plus(t, 1);
+    if high == 0 {
+        return goes_on(next, 0);
+    }
+    if minimum == 0 {
+        if high == next {
+            return goes_on(next, high);
+        }
+        return breaks();
+    }
+    breaks()
+}
+
+// What a response at t makes of the words of its colour.
+fn after_response(minimum: u64, maximum: u64, low: u64, high: u64, t: u64) -> Pair
+    ensures { λ r. ⌜ r ≡ afterResponseAge minimum maximum low high t ⌝ }
+{
+    let next = parts::plus(t, 1);
+    if high == 0 {
+        if suits(minimum, maximum, low, t) {
+            return goes_on(low, next);
+        }
+        if minimum == 0 {
+            return goes_on(0, next);
+        }
+        return breaks();
+    }
+    if next <= parts::plus(low, maximum) {
+        return goes_on(low, high);
+    }
+    breaks()
+}
+
+// The last moment of a colour: that of a response which is owed a stimulus.
+fn owed(low: u64, high: u64) -> u64
+    ensures { λ r. ⌜ r ≡ owed low high ⌝ }
+{
+    if low == 0 { latest(high) } else { NO_LIMIT }
+}
+
+// The last moment of the n-th colour, the words of one colour being new.
+fn owed_of(
+    times: &[u64; SIZE],
+    head: usize,
+    len: usize,
+    n: usize,
+    colour: usize,
+    low: u64,
+    high: u64,
+) -> u64
+    requires { ⌜ n < 8 ⌝ }
+    ensures { λ r. ⌜ r ≡ owedBut colour low high (ring (now (times .entry)) head len) n ⌝ }
+{
+    if n == colour {
+        return owed(low, high);
+    }
+    let first = word(times, head, len, 2 * n);
+    let second = word(times, head, len, 2 * n + 1);
+    owed(first, second)
+}
+
+// The due time: the first last moment of all colours, the words of one colour being new.
+fn due_but(times: &[u64; SIZE], head: usize, len: usize, colour: usize, low: u64, high: u64) -> u64
+    ensures { λ r. ⌜ r ≡ dueAge 8 colour low high (ring (now (times .entry)) head len) ⌝ }
+{
+    let mut due = NO_LIMIT;
+    let mut n = 0;
+    while n < COLOURS {
+        due = parts::smaller(due, owed_of(times, head, len, n, colour, low, high));
+        n += 1;
+    }
+    due
+}
+
+// §5.12
+// What an event of one of the row's streams makes of it, where it lies.
+pub fn apply(row: &mut [[u64; SIZE]; 2], stream: u64, t: u64, number: u64)
+    ensures { λ _. ⌜ Applies noneSaved decideAge (now (row .entry)) stream t number (now (row .exit)) ⌝ }
+{
+    let colour = (stream % 8) as usize;
+    let head = row[1][row_words::HEAD] as usize;
+    let len = row[1][row_words::LEN] as usize;
+    let low = word(&row[0], head, len, 2 * colour);
+    let high = word(&row[0], head, len, 2 * colour + 1);
+    if parts::kind_of(stream) == row[1][row_words::FIRST] {
+        let pair = after_stimulus(row[1][row_words::LOWER], high, t);
+        store(row, colour, pair, number);
+        return;
+    }
+    let pair = after_response(
+        row[1][row_words::LOWER],
+        row[1][row_words::UPPER],
+        low,
+        high,
+        t,
+    );
+    store(row, colour, pair, number);
+}
+
+// The words of a colour are new.
+fn store(row: &mut [[u64; SIZE]; 2], colour: usize, pair: Pair, number: u64)
+    requires { ⌜ colour < 8 ⌝ }
+    ensures { λ _. ⌜ Makes noneSaved (now (row .entry)) (λ parameters registers words. aged registers words colour pair) number (now (row .exit)) ⌝ }
+{
+    if pair.breaks {
+        row_words::break_at(row, number);
+        return;
+    }
+    let head = row[1][row_words::HEAD] as usize;
+    let len = row[1][row_words::LEN] as usize;
+    let due = due_but(&row[0], head, len, colour, pair.low, pair.high);
+    row_words::put_two(row, 2 * colour, pair.low, pair.high, number);
+    row_words::settle(&mut row[1], due, row_words::one_if(due == NO_LIMIT));
+}

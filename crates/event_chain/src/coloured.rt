@@ -1,9 +1,9 @@
 // Rows of coloured kinds with five words for each colour, one for each of the row's kinds: OutputSynchronization and InputSynchronization.
 use crate::reaction::COLOURS;
 use crate::reaction::latest;
-use crate::reaction::word;
 use constraint::NO_LIMIT;
 use ring::SIZE;
+use row_type::parts::word;
 use row_type::parts;
 use row_type::row_words;
 ghost use mathlib.Core.Path.{_≡_};

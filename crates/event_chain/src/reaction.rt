@@ -2,13 +2,11 @@
 // before the second; else it came at one less than the first word.
 use constraint::NO_LIMIT;
 use ring::SIZE;
-use ring::time_at;
 use row_type::parts;
 use row_type::row_words;
 ghost use mathlib.Core.Path.{_≡_};
 ghost use mathlib.Core.Bool.{true, false};
 ghost use Prim.Native.Nat.{_<_};
-ghost use lib.ListN.{getD};
 ghost use Rattle.ring.specs.Ring.{ring};
 ghost use Rattle.row_type.specs.Words.{noneSaved, Makes, Applies};
 ghost use Rattle.event_chain.specs.Reaction.{latest, highBut, dueBut, afterStimulus, afterResponse, paired, decideReaction};
@@ -81,16 +79,6 @@ fn after_response(low: u64, high: u64, t: u64) -> Pair
     goes_on(parts::plus(t, 1), 0)
 }
 
-// A word of the row; 0 where it has none there.
-pub(crate) fn word(times: &[u64; SIZE], head: usize, len: usize, i: usize) -> u64
-    ensures { λ r. ⌜ r ≡ getD (ring (now (times .entry)) head len) i 0 ⌝ }
-{
-    if i < len {
-        return time_at(times, head, i);
-    }
-    0
-}
-
 // The last moment for a colour's first response, by its second word.
 pub(crate) fn latest(high: u64) -> u64
     ensures { λ r. ⌜ r ≡ latest high ⌝ }
@@ -106,7 +94,7 @@ fn high_of(times: &[u64; SIZE], head: usize, len: usize, n: usize, colour: usize
     if n == colour {
         return high;
     }
-    word(times, head, len, 2 * n + 1)
+    parts::word(times, head, len, 2 * n + 1)
 }
 
 // The due time: the first last moment of all colours, the second word of one colour being new.
@@ -130,8 +118,8 @@ pub fn apply(row: &mut [[u64; SIZE]; 2], stream: u64, t: u64, number: u64)
     let colour = (stream % 8) as usize;
     let head = row[1][row_words::HEAD] as usize;
     let len = row[1][row_words::LEN] as usize;
-    let low = word(&row[0], head, len, 2 * colour);
-    let high = word(&row[0], head, len, 2 * colour + 1);
+    let low = parts::word(&row[0], head, len, 2 * colour);
+    let high = parts::word(&row[0], head, len, 2 * colour + 1);
     if parts::kind_of(stream) == row[1][row_words::FIRST] {
         let pair = after_stimulus(
             row[1][row_words::LOWER],

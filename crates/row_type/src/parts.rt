@@ -7,7 +7,7 @@ use ring::time_at;
 ghost use mathlib.Core.Path.{_≡_};
 ghost use Prim.Native.Nat.{_+_, _-_, min, max};
 ghost use lib.Dec.{leb};
-ghost use lib.ListN.{drop};
+ghost use lib.ListN.{drop, getD};
 ghost use Rattle.constraint.specs.Streams.{kindOf};
 ghost use Rattle.ring.specs.Ring.{ring};
 ghost use Rattle.row_type.specs.Parts.{plus, farEnough, front, dueOr, noRegisters};
@@ -57,6 +57,16 @@ pub fn larger(a: u64, b: u64) -> u64
     ensures { λ r. ⌜ r ≡ max a b ⌝ }
 {
     if a < b { b } else { a }
+}
+
+// The i-th word; 0 where there is none.
+pub fn word(times: &[u64; SIZE], head: usize, len: usize, i: usize) -> u64
+    ensures { λ r. ⌜ r ≡ getD (ring (now (times .entry)) head len) i 0 ⌝ }
+{
+    if i < len {
+        return time_at(times, head, i);
+    }
+    0
 }
 
 // The oldest time, or 0 where there is none.

@@ -300,19 +300,22 @@ exactSporadic kind lower upper jitter minimum sound =
     (record {
       kind = kind;
       Says = MeetsSporadic lower upper jitter minimum;
-      Keeps = KeepsSporadic parameters;
-      due = dueSporadic parameters;
+      words = [];
       one-kind = refl;
-      no-words = refl;
+      start-words = refl;
       meets = λ steps. (λ m. m, λ m. m);
       none-waits = refl;
       waits-none = λ steps. refl;
-      says-first = sporadic-first lower upper jitter minimum;
-      keeps-none = sporadic-none parameters;
-      due-none = refl;
-      keeps-says = λ now rises small keeps. sporadic-says parameters _ _ _ keeps now small;
-      keeps-few = λ keeps. omega (arith, ap length (keeps .no-times));
-      keeps-event = λ t rises small keeps soon. sporadic-event parameters _ _ _ keeps t small (sound .in-range .1 .0) kind;
+      follows = record {
+        Keeps = KeepsSporadic parameters;
+        due = dueSporadic parameters;
+        says-first = sporadic-first lower upper jitter minimum;
+        keeps-none = sporadic-none parameters;
+        due-none = refl;
+        keeps-says = λ now rises small keeps. sporadic-says parameters _ _ _ keeps now small;
+        keeps-few = λ keeps. omega (arith, ap length (keeps .no-times));
+        keeps-event = λ t rises small keeps soon. sporadic-event parameters _ _ _ keeps t small (sound .in-range .1 .0) kind;
+      };
     })
   where
     parameters : Parameters

@@ -1,5 +1,5 @@
 -- Burst: the machine is that of a Repeat with no upper, and so are the laws; without an upper no clock is past its due time.
-use Rattle.constraint.proofs.Library.{List, _↔_, _≡_, _≤_, arith, refl, ℕ}
+use Rattle.constraint.proofs.Library.{List, [], _↔_, _≡_, _≤_, arith, refl, ℕ}
 use Rattle.constraint.specs.{Accepted.InRange, Limits.lastTime, Limits.noLimit, Meets.Meets, Meets.MeetsBurst, Waiting.waiting}
 use Rattle.constraint.specs.{Constraint.Burst}
 use Rattle.row_type.proofs.{Exact.Exact, Exact.Sound, Oldest.due-reached, OneKind.exactOneKind, Spans.apart-first}
@@ -30,21 +30,24 @@ exactBurst kind maximum len minimum sound =
     (record {
       kind = kind;
       Says = λ events now. MeetsBurst maximum len minimum events;
-      Keeps = KeepsRepeat parameters;
-      due = dueRepeat parameters;
+      words = [];
       one-kind = refl;
-      no-words = refl;
+      start-words = refl;
       meets = λ steps. (λ m. m, λ m. m);
       none-waits = refl;
       waits-none = λ steps. refl;
-      says-first = λ xs ys now later h after m. (apart-first maximum len noLimit xs ys (m .0), apart-first 1 minimum noLimit xs ys (m .1));
-      keeps-none = repeat-none parameters;
-      due-none = refl;
-      keeps-says = λ now rises small keeps. burst-says parameters refl _ _ _ now small keeps;
-      keeps-few = repeat-few parameters (sound .in-range .1 .0 .1);
-      keeps-event = λ t rises small keeps soon.
-          repeat-event parameters _ _ _ keeps t (sound .in-range .1 .0 .0) small rises soon kind (λ events now. MeetsBurst maximum len minimum events)
-          (λ m. m);
+      follows = record {
+        Keeps = KeepsRepeat parameters;
+        due = dueRepeat parameters;
+        says-first = λ xs ys now later h after m. (apart-first maximum len noLimit xs ys (m .0), apart-first 1 minimum noLimit xs ys (m .1));
+        keeps-none = repeat-none parameters;
+        due-none = refl;
+        keeps-says = λ now rises small keeps. burst-says parameters refl _ _ _ now small keeps;
+        keeps-few = repeat-few parameters (sound .in-range .1 .0 .1);
+        keeps-event = λ t rises small keeps soon.
+            repeat-event parameters _ _ _ keeps t (sound .in-range .1 .0 .0) small rises soon kind (λ events now. MeetsBurst maximum len minimum events)
+            (λ m. m);
+      };
     })
   where
     parameters : Parameters

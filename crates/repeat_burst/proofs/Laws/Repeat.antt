@@ -134,7 +134,7 @@ module _ (parameters : Parameters) (events : List ℕ) (registers : Registers) (
 -- ---- Open
 
 -- an event that is the last but fewer than span has one span places after it among further events, or the clock that they close at is early
-repeat-first : (span lower upper : ℕ) (xs ys : List ℕ) (now later : ℕ) → now ≤ later → Each (λ y. now ≤ y) ys
+pub repeat-first : (span lower upper : ℕ) (xs ys : List ℕ) (now later : ℕ) → now ≤ later → Each (λ y. now ≤ y) ys
     → MeetsRepeat span lower upper (xs ++ ys) later → MeetsRepeat span lower upper xs now
 unfolding SpansApart MeetsRepeat
 repeat-first span lower upper xs ys now later h after m = (
@@ -209,21 +209,24 @@ exactRepeat kind span lower upper sound =
     (record {
       kind = kind;
       Says = MeetsRepeat span lower upper;
-      Keeps = KeepsRepeat parameters;
-      due = dueRepeat parameters;
+      words = [];
       one-kind = refl;
-      no-words = refl;
+      start-words = refl;
       meets = λ steps. (λ m. m, λ m. m);
       none-waits = refl;
       waits-none = λ steps. refl;
-      says-first = repeat-first span lower upper;
-      keeps-none = repeat-none parameters;
-      due-none = refl;
-      keeps-says = λ now rises small keeps. repeat-says parameters _ _ _ now rises small keeps;
-      keeps-few = repeat-few parameters (sound .in-range .1 .0 .1);
-      keeps-event = λ t rises small keeps soon.
-          repeat-event parameters _ _ _ keeps t (sound .in-range .1 .0 .0) small rises soon kind (MeetsRepeat span lower upper)
-          (λ m. (m .0, rising-apart _ rises));
+      follows = record {
+        Keeps = KeepsRepeat parameters;
+        due = dueRepeat parameters;
+        says-first = repeat-first span lower upper;
+        keeps-none = repeat-none parameters;
+        due-none = refl;
+        keeps-says = λ now rises small keeps. repeat-says parameters _ _ _ now rises small keeps;
+        keeps-few = repeat-few parameters (sound .in-range .1 .0 .1);
+        keeps-event = λ t rises small keeps soon.
+            repeat-event parameters _ _ _ keeps t (sound .in-range .1 .0 .0) small rises soon kind (MeetsRepeat span lower upper)
+            (λ m. (m .0, rising-apart _ rises));
+      };
     })
   where
     parameters : Parameters

@@ -131,20 +131,23 @@ exactRepetition kind span lower upper jitter sound =
     (record {
       kind = kind;
       Says = SaysRepetition parameters;
-      Keeps = KeepsRepetition parameters;
-      due = dueRepetition;
+      words = [];
       one-kind = refl;
-      no-words = refl;
+      start-words = refl;
       meets = λ steps. (λ m. m, λ m. m);
       none-waits = refl;
       waits-none = λ steps. refl;
-      says-first = λ xs ys now later h after m. repetition-first span lower upper jitter xs ys m;
-      keeps-none = last-none parameters;
-      due-none = refl;
-      keeps-says = λ now rising small row.
-          repetition-says parameters (sound .in-range .1 .0 .0) (sound .lower-first .1 .1 .1 .0) _ _ now rising small row;
-      keeps-few = λ row. omega (arith, kept-few parameters _ _ row, sound .in-range .1 .0 .1);
-      keeps-event = λ t rising small row soon. repetition-event parameters asked _ _ _ row t rising small kind;
+      follows = record {
+        Keeps = KeepsRepetition parameters;
+        due = dueRepetition;
+        says-first = λ xs ys now later h after m. repetition-first span lower upper jitter xs ys m;
+        keeps-none = last-none parameters;
+        due-none = refl;
+        keeps-says = λ now rising small row.
+            repetition-says parameters (sound .in-range .1 .0 .0) (sound .lower-first .1 .1 .1 .0) _ _ now rising small row;
+        keeps-few = λ row. omega (arith, kept-few parameters _ _ row, sound .in-range .1 .0 .1);
+        keeps-event = λ t rising small row soon. repetition-event parameters asked _ _ _ row t rising small kind;
+      };
     })
   where
     parameters : Parameters

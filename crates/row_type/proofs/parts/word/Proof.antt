@@ -1,9 +1,9 @@
 -- A place within the row is that of the ring, and past its end there is none.
-use Rattle.event_chain.proofs.reaction.word.Statement.{statement}
+use Rattle.row_type.proofs.parts.word.Statement.{statement}
 use Rattle.constraint.proofs.Library.{List, [], _∙_, _∷_, _≡_, _≤_, arith, getD, length, needs, now, refl, suc, sym, zero, ℕ}
 use Rattle.ring.proofs.Laws.{ring-length, ring-read}
 use Rattle.ring.specs.Ring.{ring}
-use Rattle.event_chain.proofs.reaction.word.Tie as tie
+use Rattle.row_type.proofs.parts.word.Tie as tie
 
 past-end : (list : List ℕ) (i : ℕ) → length list ≤ i → getD list i 0 ≡ 0
 past-end [] i h = refl

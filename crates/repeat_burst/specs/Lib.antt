@@ -1,2 +1,3 @@
 -- The machine of rows of one kind that keep the times of their last events.
 pub mod Repeat
+pub mod Arbitrary

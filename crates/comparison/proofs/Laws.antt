@@ -1,0 +1,2 @@
+-- The laws of the row type.
+pub mod Comparison

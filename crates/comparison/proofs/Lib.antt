@@ -1,0 +1,2 @@
+-- Why the machine of Comparison is exact, and fits a row.
+pub mod Laws

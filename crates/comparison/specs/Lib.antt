@@ -1,0 +1,2 @@
+-- The machine of a row that no event concerns.
+pub mod Comparison

@@ -1,41 +1,18 @@
 -- Pattern: no times are kept; `first` is the number of the next event in its group, the point of the newest event's group can be at each place from
 -- `second` to `third`, and `fourth` is one more than the last event's time. The i-th offset is `offset i`, from 0 on, wherever a row has it.
-use Prim.Native.Nat.{ℕ, zero, suc, _+_, _-_, _≤_, _<_, min, max}
-use mathlib.Core.Bool.{true, cond, _&&_, _||_}
+use Prim.Native.Nat.{_-_, max, min, ℕ}
+use mathlib.Core.Bool.{_&&_, _||_, cond, true}
 use mathlib.Core.List.{List, _++_}
 use lib.ListN.{length, replicate}
 use lib.Dec.{eqb, leb, ltb}
-use Rattle.constraint.specs.Meets.{Between, AtLeastApart}
 use Rattle.constraint.specs.Steps.{at}
 use Rattle.ring.specs.declared.Edit.the-variants.{Drop}
-use Rattle.row_type.specs.Parts.{plus, farEnough, continuesWith, breaking}
+use Rattle.row_type.specs.Parts.{breaking, continuesWith, farEnough, plus}
 use Rattle.row_type.specs.Words.{countsSaved}
 use Rattle.row_type.specs.Machine.{Machine, neverOverflows, noneTaken}
 use Rattle.row_type.specs.declared.Parameters.{Parameters}
 use Rattle.row_type.specs.declared.Registers.{Registers}
 use Rattle.row_type.specs.declared.Change.{Change}
-
--- the number of the j-th event in its group of n, and how much later its group's point is than the first: behind the last of a group the next one
--- begins, period later
-unfoldable pub numberOf : ℕ → ℕ → ℕ
-numberOf n zero = 0
-numberOf n (suc j) = cond (eqb (numberOf n j + 1) n) 0 (numberOf n j + 1)
-
-unfoldable pub pointOf : ℕ → ℕ → ℕ → ℕ
-pointOf n period zero = 0
-pointOf n period (suc j) = cond (eqb (numberOf n j + 1) n) (pointOf n period j + period) (pointOf n period j)
-
--- the place of the j-th event after the start
-abbrev pub placeOf : ℕ → List ℕ → ℕ → ℕ
-placeOf period offsets j = pointOf (length offsets) period j + at offsets (numberOf (length offsets) j)
-
--- from some start on each event is 0 to jitter after its place, and the next one is not overdue at the clock now; neighbours are at least minimum
--- apart, and a second group has another point
-unfoldable pub MeetsPattern : ℕ → ℕ → ℕ → List ℕ → List ℕ → ℕ → Type 0
-MeetsPattern period jitter minimum offsets events now =
-    ((start : ℕ) × ((j : ℕ) → j < length events → Between 0 jitter (start + placeOf period offsets j) (at events j))
-    × (0 < length events → now ≤ start + placeOf period offsets (length events) + jitter))
-    × AtLeastApart minimum events × (length offsets < length events → 0 < period)
 
 -- the number behind i in a group of n, and how much later the point of an event of number i is than that of the event before it
 abbrev pub numberAfter : ℕ → ℕ → ℕ

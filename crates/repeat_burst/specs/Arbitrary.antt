@@ -1,25 +1,21 @@
 -- Arbitrary: the words from `base` on are one more than the last eight times, each at its number's remainder by eight, and 0 while there are fewer;
 -- `first` is the remainder of the next. The i-th pair is `lower i` and `upper i`, from 0 on, wherever a row has them.
-use Prim.Native.Nat.{ℕ, zero, suc, _+_, _-_, _*_, _%_, _<_, min}
-use mathlib.Core.Bool.{Bool, true, cond, _&&_}
-use mathlib.Core.List.{List, [], _∷_, _++_}
+use Prim.Native.Nat.{_%_, _*_, _+_, _-_, min, suc, zero, ℕ}
+use mathlib.Core.Bool.{Bool, _&&_, cond, true}
+use mathlib.Core.List.{List, _++_, map}
 use lib.ListN.{length, replicate}
 use lib.Dec.{eqb}
 use Rattle.constraint.specs.Limits.{noLimit}
-use Rattle.constraint.specs.Meets.{MeetsRepeat}
 use Rattle.constraint.specs.Steps.{at}
 use Rattle.ring.specs.declared.Edit.{Edit}
 use Rattle.ring.specs.declared.Edit.the-variants.{Store}
-use Rattle.row_type.specs.Parts.{plus, farEnough, registersOf, continuesWith, breaking}
+use Rattle.row_type.specs.Parts.{breaking, continuesWith, farEnough, plus, registersOf}
+use Rattle.row_type.specs.Parameters.{flatPairs}
 use Rattle.row_type.specs.Words.{countsSaved}
 use Rattle.row_type.specs.Machine.{Machine, neverOverflows, noneTaken}
 use Rattle.row_type.specs.declared.Parameters.{Parameters}
 use Rattle.row_type.specs.declared.Registers.{Registers}
 use Rattle.row_type.specs.declared.Change.{Change}
-
--- for each i what a Repeat of span i + 1 asks, with the i-th minimum for its lower and the i-th maximum for its upper, from 0 on
-unfoldable pub MeetsArbitrary : List ℕ → List ℕ → List ℕ → ℕ → Type 0
-MeetsArbitrary minima maxima events now = (i : ℕ) → i < length minima → MeetsRepeat (i + 1) (at minima i) (at maxima i) events now
 
 -- one more than the i-th newest time, from 1 to 8; 0 where there are fewer
 abbrev pub newestAt : ℕ → ℕ → List ℕ → ℕ → ℕ
@@ -75,22 +71,16 @@ lowerIn words i = at words (2 * i)
 abbrev pub upperIn : List ℕ → ℕ → ℕ
 upperIn words i = at words (2 * i + 1)
 
--- the words of pairs, each a minimum and its maximum
-abbrev pub pairWords : List (ℕ × ℕ) → List ℕ
-pairWords [] = []
-pairWords ((lower, upper) ∷ pairs) = lower ∷ upper ∷ pairWords pairs
-
+-- the minima and the maxima of pairs
 abbrev pub minimaIn : List (ℕ × ℕ) → List ℕ
-minimaIn [] = []
-minimaIn ((lower, upper) ∷ pairs) = lower ∷ minimaIn pairs
+minimaIn pairs = map (λ p. p .0) pairs
 
 abbrev pub maximaIn : List (ℕ × ℕ) → List ℕ
-maximaIn [] = []
-maximaIn ((lower, upper) ∷ pairs) = upper ∷ maximaIn pairs
+maximaIn pairs = map (λ p. p .1) pairs
 
 -- the words from the start: sixteen for the pairs, eight for the times
 abbrev pub wordsArbitrary : List (ℕ × ℕ) → List ℕ
-wordsArbitrary pairs = pairWords pairs ++ replicate (24 - length (pairWords pairs)) 0
+wordsArbitrary pairs = flatPairs pairs ++ replicate (24 - length (flatPairs pairs)) 0
 
 -- n is the row's span
 unfoldable pub decideInWords : Parameters → Registers → List ℕ → ℕ → ℕ → Change

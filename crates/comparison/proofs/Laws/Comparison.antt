@@ -1,15 +1,12 @@
 -- Comparison: a row of a table is true, or question 7 refuses the table. So it is met whatever the steps: no event is of a stream of the row,
 -- nothing is ever due, and the empty continuation meets it.
-use Rattle.constraint.proofs.Library.{Bool, List, [], _<_, _≡_, _≤_, append-nil, arith, false, length, refl, true, true≢false, ℕ}
-use Rattle.constraint.proofs.Streams.{streams}
-use Rattle.constraint.specs.{Limits.noLimit, Limits.waitingLimit, Meets.Meets, Steps.Step, Steps.at, Waiting.waiting}
-use Rattle.constraint.specs.{Continuation.stop, declared.Constraint.Constraint}
-use Rattle.row_type.proofs.{Exact.Exact, Exact.OfStream, Exact.Starts, FitsRow.FitsRow, FitsRow.fits-none}
-use Rattle.row_type.specs.{Parameters.parametersOf, Parameters.startWords, Parameters.waitsIn, declared.Registers.Registers}
+use Rattle.constraint.proofs.Library.{Bool, List, [], _≡_, append-nil, arith, refl, true, true≢false, ℕ}
+use Rattle.constraint.specs.{Accepted.LowerFirst, Constraint.Comparison, Continuation.stop, Limits.noLimit, Meets.Meets, Steps.Step, Waiting.waiting}
+use Rattle.row_type.proofs.{Exact.Exact, Exact.OfStream, Exact.Sound, Exact.Starts, FitsRow.FitsRow, FitsRow.fits-none}
+use Rattle.row_type.specs.{Parameters.parametersOf, Parameters.startWords, declared.Registers.Registers}
 use Rattle.comparison.specs.Comparison.{machineComparison}
 
-module _ (c : Constraint) (no-kind : streams c ≡ []) (no-words : startWords (parametersOf c) ≡ []) (met : (steps : List Step) → Meets c steps)
-    (none-waits : waitsIn (parametersOf c .tag) ≡ false) (waits-none : (steps : List Step) → waiting c steps ≡ 0) where
+module _ (operator left right : ℕ) (sound : Sound (Comparison operator left right)) where
   -- the row keeps nothing
   abbrev Live : List Step → Registers → List ℕ → Type 0
   Live steps registers times = times ≡ []
@@ -20,20 +17,20 @@ module _ (c : Constraint) (no-kind : streams c ≡ []) (no-words : startWords (p
   abbrev always : Registers → List ℕ → Bool
   always registers times = true
 
-  start : Starts (Live []) never always (startWords (parametersOf c))
-  start = record { live = no-words; due-is = refl; kept-is = refl }
+  -- question 7 asks what the row says
+  met : (steps : List Step) → Meets (Comparison operator left right) steps
+  unfolding Meets LowerFirst
+  met steps = sound .lower-first .1 .1 .0
 
-  no-stream : (k : ℕ) → ¬ OfStream c k
-  no-stream k (i, inside, is) = none (rw no-kind at inside)
-    where
-      none : i < length {A = ℕ} [] → ⊥
-      none h = omega arith
+  start : Starts (Live []) never always (startWords (Comparison operator left right))
+  start = record { live = refl; due-is = refl; kept-is = refl }
 
-  few : (times : List ℕ) → times ≡ [] → length times ≤ waitingLimit
-  few times none = rw none (omega arith)
+  no-stream : (k : ℕ) → ¬ OfStream (Comparison operator left right) k
+  no-stream k (i, inside, is) = omega arith
 
   -- §5.17
-  pub exactComparison : Exact c (machineComparison .decide (parametersOf c))
+  pub exactComparison : Exact (Comparison operator left right) (machineComparison .decide (parametersOf (Comparison operator left right)))
+  unfolding waiting
   exactComparison =
       record {
         Live = Live;
@@ -44,7 +41,7 @@ module _ (c : Constraint) (no-kind : streams c ≡ []) (no-words : startWords (p
         same = λ same live. live;
         late = λ p live passed small o. omega arith;
         is-open = λ {steps} p o live soon. ([], stop, rw (append-nil steps) (met steps));
-        waits = λ {steps} {times = times} p live. rw none-waits (waits-none steps, few times live);
+        waits = λ p live. (refl, rw live (omega arith));
         is-kept = λ {steps} p live soon e. met steps;
         not-kept = λ p live e. absurd (true≢false e);
       }

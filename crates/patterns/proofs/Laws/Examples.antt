@@ -1,8 +1,7 @@
 -- Pattern can be met, and can be missed: by an event, by the clock alone, by jitter that adds up, by a second group without a period.
 use Rattle.constraint.proofs.Library.{[], _+_, _<_, _∷_, arith, suc, zero, ℕ}
-use Rattle.constraint.specs.Meets.{Between, SpansApart}
+use Rattle.constraint.specs.Meets.{Between, MeetsPattern, SpansApart, numberOf, placeOf, pointOf}
 use Rattle.constraint.specs.{Steps.at}
-use Rattle.patterns.specs.Pattern.{MeetsPattern, numberOf, placeOf, pointOf}
 
 -- §5.15: period 10, jitter 1, offsets 0 and 3: a group may be begun at the close, with 5 alone
 pub pattern-begun : MeetsPattern 10 1 0 (0 ∷ 3 ∷ []) (5 ∷ []) 9

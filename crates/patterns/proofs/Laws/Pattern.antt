@@ -1,22 +1,17 @@
 -- Pattern: all events hang on one hidden start, so the places of the start are the numbers from low to high; each event cuts this interval at both
 -- ends, and the largest place of the start allows the latest clock.
-use Rattle.constraint.proofs.Library.{Bool, List, [], _++_, _+_, _-_, _<_, _||_, _↔_, _∙_, _∷_, _≡_, _≤_, ap, arith, by-cases, cond}
-use Rattle.constraint.proofs.Library.{decLt}
-use Rattle.constraint.proofs.Library.{eq-eqb, eqb, eqb-false, length, length-append, ltb, ltb-false, ltb-true, max, min, ne-eqb, refl, subst, suc}
-use Rattle.constraint.proofs.Library.{sym}
-use Rattle.constraint.proofs.Library.{zero, ℕ}
+use Rattle.constraint.proofs.Library.{Bool, List, [], _++_, _+_, _-_, _<_, _||_, _↔_, _∙_, _∷_, _≡_, _≤_, ap, arith, by-cases, cond, decLt, eq-eqb}
+use Rattle.constraint.proofs.Library.{eqb, eqb-false, length, length-append, ltb, ltb-false, ltb-true, max, min, ne-eqb, refl, subst, suc, sym, zero}
+use Rattle.constraint.proofs.Library.{ℕ}
 use Rattle.constraint.proofs.Lists.{Each, at-left, at-next, at-right, split}
-use Rattle.constraint.specs.Meets.{AtLeastApart, Between, SpansApart}
+use Rattle.constraint.specs.Meets.{AtLeastApart, Between, MeetsPattern, SpansApart, numberOf, placeOf, pointOf}
 use Rattle.constraint.specs.{Limits.lastTime, Limits.noLimit, Limits.waitingLimit, Steps.at}
 use Rattle.row_type.proofs.Spans.{LastIs, apart-first, apart-more, far-enough, last-new, last-none, last-some, last-zero}
 use Rattle.row_type.proofs.Tests.{Tells, fails, holds, tells-and, tells-leb, tells-or, tells-same}
-use Rattle.row_type.proofs.{OneKind.Follows, OneKind.ByTurn}
+use Rattle.row_type.proofs.{OneKind.ByTurn, OneKind.Follows}
 use Rattle.row_type.specs.Parts.{breaking, noRegisters, plus}
 use Rattle.row_type.specs.{declared.Change.Change, declared.Registers.Registers}
-use Rattle.patterns.specs.Pattern.{MeetsPattern, decidePattern, dueNext, dueThen, highAfter, laterPattern, lowAfter, numberAfter, numberOf}
-use Rattle.patterns.specs.Pattern.{placeOf, placedIn, pointIn}
-use Rattle.patterns.specs.Pattern.{pointOf}
-use Rattle.patterns.specs.Pattern.{stepTo}
+use Rattle.patterns.specs.Pattern.{decidePattern, dueNext, dueThen, highAfter, laterPattern, lowAfter, numberAfter, placedIn, pointIn, stepTo}
 
 -- ---- the numbers of events in their groups, and the points of these
 

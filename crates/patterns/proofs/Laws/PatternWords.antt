@@ -1,22 +1,22 @@
 -- Pattern with its offsets in the row's words: they are written from the start, and no event writes any.
-use Rattle.constraint.proofs.Library.{Bool, List, [], _&&_, _+_, _-_, _||_, _↔_, _∙_, _∷_, _≡_, ap, arith, by-cases, cond, decLt, eqb, false}
-use Rattle.constraint.proofs.Library.{getD-replicate}
-use Rattle.constraint.proofs.Library.{leb, length, length-append, length-replicate, List·getD-eq-default, ltb, refl, replicate, sym, true}
-use Rattle.constraint.proofs.Library.{ℕ}
-use Rattle.constraint.proofs.Lists.{at-left, at-right}
-use Rattle.constraint.proofs.Streams.{streams}
-use Rattle.constraint.specs.{Meets.Meets, Steps.Step, Steps.at, Steps.clock, Steps.times, Waiting.waiting}
-use Rattle.constraint.specs.{declared.Constraint.Constraint}
+use Rattle.constraint.proofs.Library.{Bool, List, List·getD-eq-default, [], _&&_, _++_, _+_, _-_, _||_, _∙_, _∷_, _≡_, _≤_, ap, arith, by-cases}
+use Rattle.constraint.proofs.Library.{cond, decLt, eqb, false, getD-replicate, leb, length, length-append, length-replicate, ltb, refl, replicate}
+use Rattle.constraint.proofs.Library.{sym, take, take-take, true, ℕ}
+use Rattle.constraint.proofs.Lists.{Each, at-left, at-right, each-cons, each-none}
+use Rattle.constraint.proofs.Streams.{streamsIn}
+use Rattle.constraint.specs.{Accepted.EachField, Accepted.FieldInRange, Accepted.InRange, Constraint.Constraint, Constraint.Pattern, Limits.lastTime}
+use Rattle.constraint.specs.{Meets.Meets, Steps.at, Types.offsetFields, Waiting.waiting}
+use Rattle.constraint.specs.Meets.{MeetsPattern}
 use Rattle.row_type.proofs.FitsRow.{FitsRow, Steady, fits-steady, keeping-counts, steady-breaking, steady-by, steady-drop}
-use Rattle.row_type.proofs.{Exact.Exact, OneKind.Follows, OneKind.exactOneKind, OneKind.followsWhere}
+use Rattle.row_type.proofs.{Exact.Exact, Exact.Sound, FieldNumbers.first-padded, FieldNumbers.tag-is, OneKind.Follows, OneKind.exactOneKind}
+use Rattle.row_type.proofs.{OneKind.followsWhere}
 use Rattle.row_type.specs.Parts.{farEnough, plus}
-use Rattle.row_type.specs.{Parameters.parametersOf, Parameters.startWords, Parameters.waitsIn, Words.countsSaved, declared.Change.Change}
-use Rattle.row_type.specs.{declared.Registers.Registers, declared.Parameters.Parameters}
+use Rattle.row_type.specs.{Parameters.parametersOf, Parameters.startRing, Parameters.waitsIn, Parameters.wordCounts, Words.countsSaved}
+use Rattle.row_type.specs.{declared.Change.Change, declared.Parameters.Parameters, declared.Registers.Registers}
 use Rattle.ring.specs.Ring.{changed}
 use Rattle.patterns.proofs.Laws.Pattern.{Given, patternFollows}
-use Rattle.patterns.specs.Pattern.{MeetsPattern, decideInWords, decidePattern, dueThen, highAfter, laterPattern, lowAfter, machinePattern}
-use Rattle.patterns.specs.Pattern.{numberAfter, placedIn}
-use Rattle.patterns.specs.Pattern.{wordsPattern}
+use Rattle.patterns.specs.Pattern.{decideInWords, decidePattern, dueThen, highAfter, laterPattern, lowAfter, machinePattern, numberAfter}
+use Rattle.patterns.specs.Pattern.{placedIn, wordsPattern}
 
 -- behind the offsets are zeros, as behind the end of a list
 words-at : (offsets : List ℕ) (i : ℕ) → at (wordsPattern offsets) i ≡ at offsets i
@@ -101,25 +101,48 @@ rowFollows parameters offsets given is kind = rw is (wordsFollow (parameters .up
 
 -- ---- Exact
 
--- §5.15: a constraint that is a Pattern of these offsets
-pub exactPattern : (c : Constraint) (kind : ℕ) (offsets : List ℕ) → Given (parametersOf c .upper) (parametersOf c .jitter) offsets
-    → streams c ≡ kind ∷ [] → startWords (parametersOf c) ≡ wordsPattern offsets → parametersOf c .span ≡ length offsets
-    → ((steps : List Step) → Meets c steps
-    ↔ MeetsPattern (parametersOf c .upper) (parametersOf c .jitter) (parametersOf c .minimum) offsets (times kind steps) (clock steps))
-    → waitsIn (parametersOf c .tag) ≡ false → ((steps : List Step) → waiting c steps ≡ 0) → Exact c (decideInWords (parametersOf c))
-exactPattern c kind offsets given one-kind start-words span meets none-waits waits-none =
+-- the offsets are no streams, and each of them is in its range
+no-streams : (offsets : List ℕ) → streamsIn (offsetFields offsets) ≡ []
+no-streams [] = refl
+no-streams (x ∷ offsets) = no-streams offsets
+
+small-each : (offsets : List ℕ) → EachField FieldInRange (offsetFields offsets) → Each (λ o. o ≤ lastTime) offsets
+small-each [] small = each-none (λ o. o ≤ lastTime)
+small-each (x ∷ offsets) small = each-cons (λ o. o ≤ lastTime) x offsets (small .0) (small-each offsets (small .1))
+
+-- §5.15
+pub exactPattern : (kind period jitter minimum : ℕ) (offsets : List ℕ) → Sound (Pattern kind period jitter minimum offsets)
+    → Exact (Pattern kind period jitter minimum offsets) (decideInWords (parametersOf (Pattern kind period jitter minimum offsets)))
+unfolding Meets waiting InRange
+exactPattern kind period jitter minimum offsets sound =
     exactOneKind c (decideInWords (parametersOf c))
     (record {
       kind = kind;
-      Says = MeetsPattern (parametersOf c .upper) (parametersOf c .jitter) (parametersOf c .minimum) offsets;
+      Says = MeetsPattern period jitter minimum offsets;
       words = wordsPattern offsets;
-      follows = rowFollows (parametersOf c) offsets given span kind;
-      one-kind = one-kind;
-      start-words = start-words;
-      meets = meets;
-      none-waits = none-waits;
-      waits-none = waits-none;
+      follows = rowFollows (parametersOf c) offsets given refl kind;
+      one-kind = ap (λ (ks : List ℕ). kind ∷ ks) (no-streams offsets);
+      start-words = ap (λ (n : ℕ). take n (startRing c)) (ap (at wordCounts) (tag-is c))
+          ∙ take-take 8 64 (offsets ++ replicate 64 0) (omega arith) ∙ first-padded 8 64 0 offsets (omega arith) (given .few);
+      meets = λ steps. (λ m. m, λ m. m);
+      none-waits = ap waitsIn (tag-is c);
+      waits-none = λ steps. refl;
     })
+  where
+    c : Constraint
+    c = Pattern kind period jitter minimum offsets
+
+    given : Given period jitter offsets
+    given =
+        let n-known = sound .known .1 .n-known refl in
+        let in-range = sound .in-range .1 .1 in
+        record {
+          some = n-known .0;
+          few = n-known .1;
+          small-period = in-range .0;
+          small-jitter = in-range .1 .0;
+          small-offsets = small-each offsets (in-range .1 .1 .1);
+        }
 
 -- ---- In a row
 

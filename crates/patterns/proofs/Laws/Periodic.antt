@@ -1,9 +1,7 @@
 -- A Pattern of one offset 0 is a Sporadic whose points are one period apart: the points are the start and what follows it at each period.
-use Rattle.constraint.proofs.Library.{List, [], _+_, _-_, _<_, _↔_, _∙_, _∷_, _≡_, _≢_, ap, arith, inr, length, refl}
-use Rattle.constraint.proofs.Library.{suc, sym, zero, ℕ, ⊎-elim}
-use Rattle.constraint.specs.Meets.{HiddenPoints, MeetsSporadic}
+use Rattle.constraint.proofs.Library.{List, [], _+_, _-_, _<_, _↔_, _∙_, _∷_, _≡_, _≢_, ap, arith, inr, length, refl, suc, sym, zero, ℕ, ⊎-elim}
+use Rattle.constraint.specs.Meets.{HiddenPoints, MeetsPattern, MeetsSporadic, numberOf, placeOf, pointOf}
 use Rattle.constraint.specs.{Limits.noLimit, Steps.at}
-use Rattle.patterns.specs.Pattern.{MeetsPattern, numberOf, placeOf, pointOf}
 
 -- ---- a group of one
 

@@ -1,21 +1,19 @@
 -- Arbitrary: an event adds, for each span, one pair so many places apart, and the machine still has the earlier time of each among its last eight;
 -- the due time is the least of those that the Repeats have.
-use Rattle.constraint.proofs.Library.{Bool, List, [], _%_, _++_, _+_, _-_, _<_, _↔_, _∙_, _∷_, _≡_, _≤_, _⊎_, ap, ap₂, arith, by-cases}
-use Rattle.constraint.proofs.Library.{cond, decLt}
-use Rattle.constraint.proofs.Library.{eqb, eqb-false, eqb-true, false, getD-set-other, getD-set-same, inr, leb, length, length-append}
-use Rattle.constraint.proofs.Library.{length-set, min, ne-eqb, refl, set, set-getD, subst, suc, sym, true, zero, ℕ, ⊎-elim}
+use Rattle.constraint.proofs.Library.{Bool, List, [], _%_, _++_, _+_, _-_, _<_, _↔_, _∙_, _∷_, _≡_, _≤_, _⊎_, ap, ap₂, arith, by-cases, cond, decLt}
+use Rattle.constraint.proofs.Library.{eqb, eqb-false, eqb-true, false, getD-set-other, getD-set-same, inr, leb, length, length-append, length-set}
+use Rattle.constraint.proofs.Library.{min, ne-eqb, refl, set, set-getD, subst, suc, sym, true, zero, ℕ, ⊎-elim}
 use Rattle.constraint.proofs.Lists.{Each, Rising, at-left, at-next, rising-at, rising-left, split}
 use Rattle.constraint.specs.{Limits.lastTime, Limits.noLimit, Limits.waitingLimit, Meets.MeetsRepeat, Meets.SpansApart, Steps.at}
 use Rattle.row_type.proofs.Spans.{apart-more, apart-new}
 use Rattle.row_type.proofs.Tests.{Tells, fails, holds, tells-and, tells-leb, tells-or, tells-same}
-use Rattle.row_type.proofs.{OneKind.Follows, OneKind.ByTurn}
-use Rattle.row_type.specs.Parts.{breaking, continuesWith, farEnough, registersOf, noRegisters, plus}
+use Rattle.row_type.proofs.{OneKind.ByTurn, OneKind.Follows}
+use Rattle.row_type.specs.Parts.{breaking, continuesWith, farEnough, noRegisters, plus, registersOf}
 use Rattle.row_type.specs.{declared.Registers.Registers}
 use Rattle.ring.specs.Ring.{changed}
 use Rattle.repeat_burst.proofs.Laws.Repeat.{repeat-first}
-use Rattle.repeat_burst.specs.Arbitrary.{MeetsArbitrary, decideArbitrary, dueAfter, dueTimes, lateEnough, newestAt, newestOr, nextPlace}
-use Rattle.repeat_burst.specs.Arbitrary.{noteTime}
-use Rattle.repeat_burst.specs.Arbitrary.{timeAfter}
+use Rattle.constraint.specs.Meets.{MeetsArbitrary}
+use Rattle.repeat_burst.specs.Arbitrary.{decideArbitrary, dueAfter, dueTimes, lateEnough, newestAt, newestOr, nextPlace, noteTime, timeAfter}
 
 -- ---- one Repeat at a clock
 

@@ -1,7 +1,6 @@
 -- Arbitrary can be missed by an event, by the clock alone, and by a pair that is not the first.
 use Rattle.constraint.proofs.Library.{[], _∷_, arith, ⊎-elim}
-use Rattle.constraint.specs.{Limits.noLimit, Meets.MeetsRepeat, Meets.SpansApart}
-use Rattle.repeat_burst.specs.Arbitrary.{MeetsArbitrary}
+use Rattle.constraint.specs.{Limits.noLimit, Meets.MeetsArbitrary, Meets.MeetsRepeat, Meets.SpansApart}
 
 -- §5.16: five or more with one event between: not 0, 2, 4
 pub arbitrary-missed : ¬ MeetsArbitrary (2 ∷ 5 ∷ []) (noLimit ∷ noLimit ∷ []) (0 ∷ 2 ∷ 4 ∷ []) 4

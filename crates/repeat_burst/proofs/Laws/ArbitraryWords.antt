@@ -1,36 +1,39 @@
 -- Arbitrary with its pairs in the row's first words: they are written from the start and stay, as each event writes behind them.
-use Rattle.constraint.proofs.Library.{List, [], _%_, _*_, _+_, _-_, _<_, _↔_, _∙_, _∷_, _≡_, _≤_, ap, arith, cond, getD-replicate, getD-set-other}
-use Rattle.constraint.proofs.Library.{false, length, length-append, length-replicate, min, refl, replicate, set, suc, sym, true, zero, ℕ}
+use Rattle.constraint.proofs.Library.{List, [], _%_, _*_, _++_, _+_, _-_, _<_, _∙_, _∷_, _≡_, _≤_, ap, arith, cond, getD-replicate}
+use Rattle.constraint.proofs.Library.{getD-set-other, length, length-append, length-map, length-replicate, min, refl, replicate, set, suc, sym, take}
+use Rattle.constraint.proofs.Library.{take-take, true, zero, ℕ}
 use Rattle.constraint.proofs.Lists.{at-left, at-right, split}
-use Rattle.constraint.proofs.Streams.{streams}
-use Rattle.constraint.specs.{Meets.Meets, Steps.Step, Steps.at, Steps.clock, Steps.times, Waiting.waiting}
-use Rattle.constraint.specs.{declared.Constraint.Constraint}
+use Rattle.constraint.proofs.Streams.{streamsIn}
+use Rattle.row_type.specs.Parameters.{flatPairs}
+use Rattle.constraint.specs.{Constraint.Arbitrary, Constraint.Constraint, Meets.Meets, Steps.at}
+use Rattle.constraint.specs.{Types.pairFields, Waiting.waiting}
+use Rattle.constraint.specs.Meets.{MeetsArbitrary}
 use Rattle.row_type.proofs.FitsRow.{FitsRow, Steady, fits-steady, keeping-counts, steady-breaking, steady-by, steady-store}
-use Rattle.row_type.proofs.{Exact.Exact, OneKind.Follows, OneKind.exactOneKind, OneKind.followsWhere}
-use Rattle.row_type.specs.Parts.{breaking, continuesWith, registersOf, plus}
-use Rattle.row_type.specs.{Parameters.parametersOf, Parameters.startWords, Parameters.waitsIn, Words.countsSaved, declared.Change.Change}
-use Rattle.row_type.specs.{declared.Registers.Registers, declared.Parameters.Parameters}
+use Rattle.row_type.proofs.{Exact.Exact, Exact.Sound, FieldNumbers.first-padded, FieldNumbers.tag-is, OneKind.Follows, OneKind.exactOneKind}
+use Rattle.row_type.proofs.{OneKind.followsWhere}
+use Rattle.row_type.specs.Parts.{breaking, continuesWith, plus, registersOf}
+use Rattle.row_type.specs.{Parameters.parametersOf, Parameters.startRing, Parameters.waitsIn, Parameters.wordCounts, Words.countsSaved}
+use Rattle.row_type.specs.{declared.Change.Change, declared.Parameters.Parameters, declared.Registers.Registers}
 use Rattle.ring.specs.Ring.{changed}
 use Rattle.repeat_burst.proofs.Laws.Arbitrary.{Blank, arbitraryFollows, due-same, late-same}
-use Rattle.repeat_burst.specs.Arbitrary.{MeetsArbitrary, decideArbitrary, decideInWords, dueAfter, lateEnough, lowerIn, machineArbitrary}
-use Rattle.repeat_burst.specs.Arbitrary.{maximaIn}
-use Rattle.repeat_burst.specs.Arbitrary.{minimaIn, nextPlace, noteTime, pairWords, upperIn, wordsArbitrary}
+use Rattle.repeat_burst.specs.Arbitrary.{decideArbitrary, decideInWords, dueAfter, lateEnough, lowerIn, machineArbitrary, maximaIn, minimaIn}
+use Rattle.repeat_burst.specs.Arbitrary.{nextPlace, noteTime, upperIn, wordsArbitrary}
 
 -- ---- the pairs among the words
 
-pairs-length : (pairs : List (ℕ × ℕ)) → length (pairWords pairs) ≡ 2 * length (minimaIn pairs)
+pairs-length : (pairs : List (ℕ × ℕ)) → length (flatPairs pairs) ≡ 2 * length (minimaIn pairs)
 pairs-length [] = refl
-pairs-length ((lower, upper) ∷ pairs) = omega (arith, pairs-length pairs)
+pairs-length (p ∷ pairs) = omega (arith, pairs-length pairs)
 
 pair-at : (pairs : List (ℕ × ℕ)) (i : ℕ) → i < length (minimaIn pairs)
-    → (lowerIn (pairWords pairs) i ≡ at (minimaIn pairs) i) × (upperIn (pairWords pairs) i ≡ at (maximaIn pairs) i)
+    → (lowerIn (flatPairs pairs) i ≡ at (minimaIn pairs) i) × (upperIn (flatPairs pairs) i ≡ at (maximaIn pairs) i)
 pair-at [] i h = absurd (omega arith)
-pair-at ((lower, upper) ∷ pairs) zero h = (refl, refl)
-pair-at ((lower, upper) ∷ pairs) (suc i) h =
+pair-at (p ∷ pairs) zero h = (refl, refl)
+pair-at (p ∷ pairs) (suc i) h =
     let (low, high) = pair-at pairs i (omega arith) in
     let place : 2 * suc i ≡ suc (suc (2 * i)) = omega arith in
     let behind : 2 * suc i + 1 ≡ suc (suc (2 * i + 1)) = omega arith in
-    (ap (at (lower ∷ upper ∷ pairWords pairs)) place ∙ low, ap (at (lower ∷ upper ∷ pairWords pairs)) behind ∙ high)
+    (ap (at (flatPairs (p ∷ pairs))) place ∙ low, ap (at (flatPairs (p ∷ pairs))) behind ∙ high)
 
 module _ (pairs : List (ℕ × ℕ)) (few : length (minimaIn pairs) ≤ 8) where
   -- the words hold the pairs
@@ -39,22 +42,22 @@ module _ (pairs : List (ℕ × ℕ)) (few : length (minimaIn pairs) ≤ 8) where
       (i : ℕ) → i < length (minimaIn pairs) → (lowerIn words i ≡ at (minimaIn pairs) i) × (upperIn words i ≡ at (maximaIn pairs) i)
 
   abbrev zeros : ℕ
-  zeros = 24 - length (pairWords pairs)
+  zeros = 24 - length (flatPairs pairs)
 
   words-blank : Blank (minimaIn pairs) (maximaIn pairs) 16 (wordsArbitrary pairs)
   words-blank =
       record {
-        size = omega (arith, length-append (pairWords pairs) (replicate zeros 0), length-replicate {A = ℕ} zeros 0, pairs-length pairs);
-        empty = λ j l. let place : 16 + j ≡ length (pairWords pairs) + (16 + j - length (pairWords pairs)) = omega (arith, pairs-length pairs) in
-            ap (at (wordsArbitrary pairs)) place ∙ at-right (pairWords pairs) (replicate zeros 0) (16 + j - length (pairWords pairs))
-            ∙ getD-replicate zeros (16 + j - length (pairWords pairs)) 0 0 (omega (arith, pairs-length pairs));
+        size = omega (arith, length-append (flatPairs pairs) (replicate zeros 0), length-replicate {A = ℕ} zeros 0, pairs-length pairs);
+        empty = λ j l. let place : 16 + j ≡ length (flatPairs pairs) + (16 + j - length (flatPairs pairs)) = omega (arith, pairs-length pairs) in
+            ap (at (wordsArbitrary pairs)) place ∙ at-right (flatPairs pairs) (replicate zeros 0) (16 + j - length (flatPairs pairs))
+            ∙ getD-replicate zeros (16 + j - length (flatPairs pairs)) 0 0 (omega (arith, pairs-length pairs, few));
       }
 
   words-hold : HoldsPairs (wordsArbitrary pairs)
   words-hold i l =
       let (low, high) = pair-at pairs i l in (
-        at-left (pairWords pairs) (replicate zeros 0) (2 * i) (omega (arith, pairs-length pairs)) ∙ low,
-        at-left (pairWords pairs) (replicate zeros 0) (2 * i + 1) (omega (arith, pairs-length pairs)) ∙ high,
+        at-left (flatPairs pairs) (replicate zeros 0) (2 * i) (omega (arith, pairs-length pairs)) ∙ low,
+        at-left (flatPairs pairs) (replicate zeros 0) (2 * i + 1) (omega (arith, pairs-length pairs)) ∙ high,
       )
 
   -- what is read from the words is what the lists say
@@ -110,24 +113,39 @@ rowFollows pairs few parameters is kind =
 
 -- ---- Exact
 
--- §5.16: a constraint that is an Arbitrary of these pairs
-pub exactArbitrary : (c : Constraint) (kind : ℕ) (pairs : List (ℕ × ℕ)) → length (minimaIn pairs) ≤ 8 → streams c ≡ kind ∷ []
-    → startWords (parametersOf c) ≡ wordsArbitrary pairs → parametersOf c .span ≡ length (minimaIn pairs)
-    → ((steps : List Step) → Meets c steps ↔ MeetsArbitrary (minimaIn pairs) (maximaIn pairs) (times kind steps) (clock steps))
-    → waitsIn (parametersOf c .tag) ≡ false → ((steps : List Step) → waiting c steps ≡ 0) → Exact c (decideInWords (parametersOf c))
-exactArbitrary c kind pairs few one-kind start-words span meets none-waits waits-none =
+-- the pairs are no streams
+no-streams : (pairs : List (ℕ × ℕ)) → streamsIn (pairFields pairs) ≡ []
+no-streams [] = refl
+no-streams (p ∷ pairs) = no-streams pairs
+
+-- §5.16
+pub exactArbitrary : (kind : ℕ) (pairs : List (ℕ × ℕ)) → Sound (Arbitrary kind pairs)
+    → Exact (Arbitrary kind pairs) (decideInWords (parametersOf (Arbitrary kind pairs)))
+unfolding Meets waiting
+exactArbitrary kind pairs sound =
     exactOneKind c (decideInWords (parametersOf c))
     (record {
       kind = kind;
       Says = MeetsArbitrary (minimaIn pairs) (maximaIn pairs);
       words = wordsArbitrary pairs;
-      follows = rowFollows pairs few (parametersOf c) span kind;
-      one-kind = one-kind;
-      start-words = start-words;
-      meets = meets;
-      none-waits = none-waits;
-      waits-none = waits-none;
+      follows = rowFollows pairs few (parametersOf c) (sym as-many) kind;
+      one-kind = ap (λ (ks : List ℕ). kind ∷ ks) (no-streams pairs);
+      start-words = ap (λ (n : ℕ). take n (startRing c)) (ap (at wordCounts) (tag-is c))
+          ∙ take-take 24 64 (flatPairs pairs ++ replicate 64 0) (omega arith)
+          ∙ first-padded 24 64 0 (flatPairs pairs) (omega arith) (omega (arith, pairs-length pairs, few));
+      meets = λ steps. (λ m. m, λ m. m);
+      none-waits = ap waitsIn (tag-is c);
+      waits-none = λ steps. refl;
     })
+  where
+    c : Constraint
+    c = Arbitrary kind pairs
+
+    as-many : length (minimaIn pairs) ≡ length pairs
+    as-many = length-map pairs (λ p. p .0)
+
+    few : length (minimaIn pairs) ≤ 8
+    few = omega (arith, as-many, sound .known .1 .n-known refl .1)
 
 -- ---- In a row
 

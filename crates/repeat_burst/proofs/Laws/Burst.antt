@@ -1,9 +1,8 @@
 -- Burst: the machine is that of a Repeat with no upper, and so are the laws; without an upper no clock is past its due time.
 use Rattle.constraint.proofs.Library.{List, [], _↔_, _≡_, _≤_, arith, refl, ℕ}
-use Rattle.constraint.specs.{Accepted.InRange, Limits.lastTime, Limits.noLimit, Meets.Meets, Meets.MeetsBurst, Waiting.waiting}
-use Rattle.constraint.specs.{Constraint.Burst}
+use Rattle.constraint.specs.{Accepted.InRange, Constraint.Burst, Limits.lastTime, Limits.noLimit, Meets.Meets, Meets.MeetsBurst, Waiting.waiting}
 use Rattle.row_type.proofs.{Exact.Exact, Exact.Sound, Oldest.due-reached, OneKind.exactOneKind, Spans.apart-first}
-use Rattle.row_type.specs.{Parameters.parametersOf, declared.Registers.Registers, declared.Parameters.Parameters}
+use Rattle.row_type.specs.{Parameters.parametersOf, declared.Parameters.Parameters, declared.Registers.Registers}
 use Rattle.repeat_burst.proofs.Laws.Repeat.{KeepsRepeat, dueRepeat, repeat-event, repeat-few, repeat-none}
 use Rattle.repeat_burst.specs.Repeat.{decideRepeat}
 

@@ -6,20 +6,20 @@ use Rattle.constraint.proofs.Library.{drop, drop-append-le, drop-drop, drop-nil
 use Rattle.constraint.proofs.Library.{length-drop, ltb, ltb-false, ltb-true, refl, subst, sym, take, take-append-drop, true, ℕ, ⊎-elim}
 use Rattle.constraint.proofs.Lists.{Each, Rising, at-left, at-right, rising-at, rising-left, rising-right, split}
 use Rattle.constraint.proofs.{Continuations.continues-clock, Continuations.continues-late, Continuations.not-later-earlier, History.times-append}
-use Rattle.constraint.specs.{Accepted.InRange, Continuation.Open, Limits.lastTime, Limits.noLimit, Limits.spanLimit, Limits.waitingLimit}
-use Rattle.constraint.specs.{Meets.AtLeastApart, Meets.Meets, Meets.MeetsRepeat, Meets.SpansApart, Steps.Step, Steps.at, Steps.clock, Steps.times}
-use Rattle.constraint.specs.{Waiting.waiting, Constraint.Repeat}
-use Rattle.row_type.proofs.FitsRow.{FitsRow, Places, Unkept, calm-by, kind-overflows, free-first, free-second, keeping-last, neither, pushed}
+use Rattle.constraint.specs.{Accepted.InRange, Constraint.Repeat, Continuation.Open, Limits.lastTime, Limits.noLimit, Limits.spanLimit}
+use Rattle.constraint.specs.{Limits.waitingLimit, Meets.AtLeastApart, Meets.Meets, Meets.MeetsRepeat, Meets.SpansApart, Steps.Step, Steps.at}
+use Rattle.constraint.specs.{Steps.clock, Steps.times, Waiting.waiting}
+use Rattle.row_type.proofs.FitsRow.{FitsRow, Places, Unkept, calm-by, free-first, free-second, keeping-last, kind-overflows, neither, pushed}
 use Rattle.row_type.proofs.FitsRow.{unkept-by}
 use Rattle.row_type.proofs.Oldest.{due-dropped, due-or-pushed, due-pushed, due-reached, due-within, front-at}
 use Rattle.row_type.proofs.Spans.{ApartFromNew, LastIs, apart-first, apart-more, apart-new, far-enough, last-new, last-none, rising-apart}
 use Rattle.row_type.proofs.Tests.{Tells, fails, holds, tells-and, tells-leb, tells-or, tells-same}
 use Rattle.row_type.proofs.{Exact.Exact, Exact.Sound, OneKind.ByTurn, OneKind.exactOneKind}
 use Rattle.row_type.specs.Parts.{breaking, continuesWith, dueOldest, dueOr, farEnough, front, noRegisters, plus, withLast}
-use Rattle.row_type.specs.{Parameters.parametersOf, Words.lastSaved, declared.Change.Change, declared.Registers.Registers}
-use Rattle.row_type.specs.{declared.Parameters.Parameters}
+use Rattle.row_type.specs.{Parameters.parametersOf, Words.lastSaved, declared.Change.Change, declared.Parameters.Parameters}
+use Rattle.row_type.specs.{declared.Registers.Registers}
 use Rattle.ring.specs.declared.Edit.the-variants.{Push}
-use Rattle.repeat_burst.specs.Repeat.{decideRepeat, dueWith, overflowsRepeat, leaving, machineRepeat, spanReached, takenRepeat}
+use Rattle.repeat_burst.specs.Repeat.{decideRepeat, dueWith, leaving, machineRepeat, overflowsRepeat, spanReached, takenRepeat}
 
 -- each event and the one span places after it are lower to upper apart
 abbrev pub MeetsSpan : Parameters → List ℕ → Type 0

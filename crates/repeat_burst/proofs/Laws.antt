@@ -4,3 +4,4 @@ pub mod Burst
 pub mod Arbitrary
 pub mod ArbitraryWords
 pub mod ArbitraryExamples
+pub mod ArbitraryRepeats

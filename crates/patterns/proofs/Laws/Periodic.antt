@@ -1,7 +1,8 @@
 -- A Pattern of one offset 0 is a Sporadic whose points are one period apart: the points are the start and what follows it at each period.
-use Rattle.constraint.proofs.Library.{List, [], _+_, _-_, _<_, _↔_, _∙_, _∷_, _≡_, _≢_, ap, arith, inr, length, refl, suc, sym, zero, ℕ, ⊎-elim}
+use Rattle.constraint.proofs.Library.{List, [], _++_, _+_, _-_, _<_, _↔_, _∙_, _∷_, _≡_, _≢_, ap, arith, inr, length, refl, suc, sym, zero, ℕ, ⊎-elim}
 use Rattle.constraint.specs.Meets.{HiddenPoints, MeetsPattern, MeetsSporadic, numberOf, placeOf, pointOf}
-use Rattle.constraint.specs.{Limits.noLimit, Steps.at}
+use Rattle.constraint.specs.Constraint.{Pattern, Sporadic}
+use Rattle.constraint.specs.{Continuation.Open, Limits.noLimit, Meets.Meets, Steps.Step, Steps.at, Steps.clock, Steps.times}
 
 -- ---- a group of one
 
@@ -112,3 +113,16 @@ module _ (period jitter minimum : ℕ) (given : period ≢ noLimit) (events : Li
   -- §5.15: a Pattern of one offset 0 asks what a Sporadic asks whose lower is its upper
   pub pattern-periodic : MeetsPattern period jitter minimum (0 ∷ []) events now ↔ MeetsSporadic period period jitter minimum events now
   pattern-periodic = (periodic-sporadic, sporadic-periodic)
+
+-- §5.15: so the two are open after the same steps
+pub pattern-sporadic : (kind period jitter minimum : ℕ) → period ≢ noLimit → (steps : List Step)
+    → Open (Pattern kind period jitter minimum (0 ∷ [])) steps ↔ Open (Sporadic kind period period jitter minimum) steps
+unfolding Meets
+pattern-sporadic kind period jitter minimum given steps = (
+  λ (further, follows, meets). (further, follows, same (steps ++ further) .0 meets),
+  λ (further, follows, meets). (further, follows, same (steps ++ further) .1 meets),
+)
+  where
+    same : (all : List Step) → MeetsPattern period jitter minimum (0 ∷ []) (times kind all) (clock all)
+        ↔ MeetsSporadic period period jitter minimum (times kind all) (clock all)
+    same all = pattern-periodic period jitter minimum given (times kind all) (clock all)

@@ -127,7 +127,7 @@ mostCounts = 0 ∷ 0 ∷ 0 ∷ 0 ∷ 0 ∷ 0 ∷ 0 ∷ 4 ∷ 0 ∷ 0 ∷ 0 ∷ 4
 
 -- §16.2: the last type of each edition of the table, by its version byte. No other number is an edition
 abbrev pub lastTypes : List ℕ
-lastTypes = 0 ∷ 10 ∷ 11 ∷ []
+lastTypes = 0 ∷ 10 ∷ 17 ∷ []
 
 -- §16.2: the last type of an edition. If there is no such edition it is 0, which is not a type
 abbrev pub lastType : ℕ → ℕ

@@ -1,9 +1,13 @@
--- Every row type is exact: by the type, what its own laws prove. No edition has a type without a machine.
-use Rattle.constraint.proofs.{Lengths.at-most, Library.subst⁻¹}
+-- Every row type is exact: by the type, what its own laws prove.
+use Rattle.constraint.proofs.{Library.subst⁻¹}
 use Rattle.constraint.specs.Constraint.{Age, Arbitrary, Burst, Comparison, Constraint, Delay, ExecutionTime, InputSynchronization, Order}
 use Rattle.constraint.specs.Constraint.{OutputSynchronization, Pattern, Reaction, Repeat, Repetition, Sporadic, StrongDelay, StrongSynchronization}
 use Rattle.constraint.specs.Constraint.{Synchronization}
-use Rattle.constraint.specs.Types.{lastTypes, typeOf}
+use Rattle.constraint.specs.Types.{typeOf}
+use Rattle.row_type.proofs.FieldNumbers.{tag-is}
+use Rattle.row.proofs.Exact.{Exact, Sound}
+use Rattle.row.proofs.Names.{machineOf, parametersOf, ℕ}
+use Rattle.row_type.proofs.Exact as M
 use Rattle.delay_order.proofs.Laws.Delay.{exactDelay}
 use Rattle.delay_order.proofs.Laws.StrongDelay.{exactStrongDelay}
 use Rattle.repeat_burst.proofs.Laws.Repeat.{exactRepeat}
@@ -15,18 +19,12 @@ use Rattle.execution.proofs.Laws.ExecutionTime.{exactExecutionTime}
 use Rattle.event_chain.proofs.Laws.Reaction.{exactReaction}
 use Rattle.repetition.proofs.Laws.Repetition.{exactRepetition}
 use Rattle.synchronizations.proofs.Laws.Synchronization.{exactSynchronization}
-use Rattle.row_type.proofs.FieldNumbers.{tag-is}
-use Rattle.row.proofs.Exact.{Exact, Sound}
-use Rattle.row.proofs.Names.{_<_, _≤_, arith, machineOf, parametersOf, ℕ}
-use Rattle.row_type.proofs.Exact as M
-
--- the last type that an edition has
-known-type : (c : Constraint) → Sound c → typeOf c ≤ 11
-known-type c sound = let (edition, known) = sound .known in omega (arith, known .type-known .1, at-most 11 lastTypes (omega arith) edition)
-
--- so a constraint of a later one is in no table
-no-type : (c : Constraint) → 11 < typeOf c → Sound c → M.Exact c (machineOf (typeOf c) .decide (parametersOf c))
-no-type c late sound = absurd (omega (arith, late, known-type c sound))
+use Rattle.event_chain.proofs.Laws.Age.{exactAge}
+use Rattle.event_chain.proofs.Laws.OutputSynchronization.{exactOutputSynchronization}
+use Rattle.event_chain.proofs.Laws.InputSynchronization.{exactInputSynchronization}
+use Rattle.patterns.proofs.Laws.PatternWords.{exactPattern}
+use Rattle.repeat_burst.proofs.Laws.ArbitraryWords.{exactArbitrary}
+use Rattle.comparison.proofs.Laws.Comparison.{exactComparison}
 
 -- by the type
 by-type : (c : Constraint) → Sound c → M.Exact c (machineOf (typeOf c) .decide (parametersOf c))
@@ -41,12 +39,12 @@ by-type (ExecutionTime start stop preempt resume lower upper) = exactExecutionTi
 by-type (Reaction stimulus response minimum maximum) = exactReaction stimulus response minimum maximum
 by-type (Repetition event span lower upper jitter) = exactRepetition event span lower upper jitter
 by-type (Synchronization kinds tolerance) = exactSynchronization kinds tolerance
-by-type (Age stimulus response minimum maximum) = no-type (Age stimulus response minimum maximum) (omega arith)
-by-type (OutputSynchronization stimulus responses tolerance) = no-type (OutputSynchronization stimulus responses tolerance) (omega arith)
-by-type (InputSynchronization stimuli response tolerance) = no-type (InputSynchronization stimuli response tolerance) (omega arith)
-by-type (Pattern event period jitter minimum offsets) = no-type (Pattern event period jitter minimum offsets) (omega arith)
-by-type (Arbitrary event pairs) = no-type (Arbitrary event pairs) (omega arith)
-by-type (Comparison operator left right) = no-type (Comparison operator left right) (omega arith)
+by-type (Age stimulus response minimum maximum) = exactAge stimulus response minimum maximum
+by-type (OutputSynchronization stimulus responses tolerance) = exactOutputSynchronization stimulus responses tolerance
+by-type (InputSynchronization stimuli response tolerance) = exactInputSynchronization stimuli response tolerance
+by-type (Pattern event period jitter minimum offsets) = exactPattern event period jitter minimum offsets
+by-type (Arbitrary event pairs) = exactArbitrary event pairs
+by-type (Comparison operator left right) = exactComparison operator left right
 
 -- a row's numbers have its type
 pub every-type-exact : (c : Constraint) → Sound c → Exact c

@@ -11,6 +11,11 @@ use Rattle.execution.proofs.Laws.ExecutionTime.{fitsExecutionTime}
 use Rattle.event_chain.proofs.Laws.Reaction.{fitsReaction}
 use Rattle.repetition.proofs.Laws.Repetition.{fitsRepetition}
 use Rattle.synchronizations.proofs.Laws.Synchronization.{fitsSynchronization}
+use Rattle.event_chain.proofs.Laws.Age.{fitsAge}
+use Rattle.event_chain.proofs.Laws.OutputSynchronization.{fitsOutputSynchronization}
+use Rattle.event_chain.proofs.Laws.InputSynchronization.{fitsInputSynchronization}
+use Rattle.patterns.proofs.Laws.PatternWords.{fitsPattern}
+use Rattle.repeat_burst.proofs.Laws.ArbitraryWords.{fitsArbitrary}
 
 -- each of several machines fits a row, and so does the one of a number
 data EachFits : List Machine → Type 0 where
@@ -29,7 +34,7 @@ next k n above other = omega (arith, above, other)
 -- the numbers that the code does not name, which are those of no type
 abbrev pub NoneOf : ℕ → Type 0
 NoneOf n =
-    (((((((((Unit {0}
+    ((((((((((((((Unit {0}
     × (n ≡ 1 → ⊥))
     × (n ≡ 2 → ⊥))
     × ((n ≡ 3) ⊎ (n ≡ 5) → ⊥))
@@ -39,12 +44,22 @@ NoneOf n =
     × (n ≡ 8 → ⊥))
     × (n ≡ 9 → ⊥))
     × (n ≡ 10 → ⊥))
-    × (n ≡ 11 → ⊥)
+    × (n ≡ 11 → ⊥))
+    × (n ≡ 12 → ⊥))
+    × (n ≡ 13 → ⊥))
+    × (n ≡ 14 → ⊥))
+    × (n ≡ 15 → ⊥))
+    × (n ≡ 16 → ⊥)
 
 pub none-of : (n : ℕ) → NoneOf n → machineOf n ≡ noMachine
 none-of zero is = refl
 none-of (suc n) is =
     List·getD-eq-default machines noMachine {n = suc n}
+    (next 15 (suc n)
+    (next 14 (suc n)
+    (next 13 (suc n)
+    (next 12 (suc n)
+    (next 11 (suc n)
     (next 10 (suc n)
     (next 9 (suc n)
     (next 8 (suc n)
@@ -57,11 +72,16 @@ none-of (suc n) is =
     (next 1 (suc n)
     (next 0 (suc n)
     (omega arith)
+    (is .0 .0 .0 .0 .0 .0 .0 .0 .0 .0 .0 .0 .0 .0 .1))
+    (is .0 .0 .0 .0 .0 .0 .0 .0 .0 .0 .0 .0 .0 .1))
+    (λ e. is .0 .0 .0 .0 .0 .0 .0 .0 .0 .0 .0 .0 .1 (inl e)))
+    (is .0 .0 .0 .0 .0 .0 .0 .0 .0 .0 .0 .1))
+    (λ e. is .0 .0 .0 .0 .0 .0 .0 .0 .0 .0 .0 .0 .1 (inr e)))
+    (is .0 .0 .0 .0 .0 .0 .0 .0 .0 .0 .1))
     (is .0 .0 .0 .0 .0 .0 .0 .0 .0 .1))
     (is .0 .0 .0 .0 .0 .0 .0 .0 .1))
-    (λ e. is .0 .0 .0 .0 .0 .0 .0 .1 (inl e)))
+    (is .0 .0 .0 .0 .0 .0 .0 .1))
     (is .0 .0 .0 .0 .0 .0 .1))
-    (λ e. is .0 .0 .0 .0 .0 .0 .0 .1 (inr e)))
     (is .0 .0 .0 .0 .0 .1))
     (is .0 .0 .0 .0 .1))
     (is .0 .0 .0 .1))
@@ -84,4 +104,9 @@ fits =
     (one-more fitsReaction
     (one-more fitsRepetition
     (one-more fitsSynchronization
-    none-more))))))))))))
+    (one-more fitsAge
+    (one-more fitsOutputSynchronization
+    (one-more fitsInputSynchronization
+    (one-more fitsPattern
+    (one-more fitsArbitrary
+    none-more)))))))))))))))))

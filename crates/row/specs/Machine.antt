@@ -30,6 +30,11 @@ use Rattle.execution.specs.ExecutionTime.{machineExecutionTime}
 use Rattle.event_chain.specs.Reaction.{machineReaction}
 use Rattle.repetition.specs.Repetition.{machineRepetition}
 use Rattle.synchronizations.specs.Synchronization.{machineSynchronization}
+use Rattle.event_chain.specs.Age.{machineAge}
+use Rattle.event_chain.specs.OutputSynchronization.{machineOutputSynchronization}
+use Rattle.event_chain.specs.InputSynchronization.{machineInputSynchronization}
+use Rattle.patterns.specs.Pattern.{machinePattern}
+use Rattle.repeat_burst.specs.Arbitrary.{machineArbitrary}
 
 -- the machines by the numbers of their types; 0 is no type's
 abbrev pub machines : List Machine
@@ -46,6 +51,11 @@ machines =
     ∷ machineReaction
     ∷ machineRepetition
     ∷ machineSynchronization
+    ∷ machineAge
+    ∷ machineOutputSynchronization
+    ∷ machineInputSynchronization
+    ∷ machinePattern
+    ∷ machineArbitrary
     ∷ []
 
 -- a row of a number that is no type's breaks at its first event

@@ -4,24 +4,29 @@ use crate::RowUndo;
 use crate::StepInput;
 use crate::concerns;
 use constraint::WAITING_LIMIT;
+use delay_order::delay;
+use delay_order::order;
+use delay_order::strong_delay;
+use event_chain::age;
+use event_chain::input_synchronization;
+use event_chain::output_synchronization;
+use event_chain::reaction;
+use execution::execution_time;
+use hidden_points::sporadic;
+use patterns::pattern;
+use repeat_burst::arbitrary;
+use repeat_burst::repeat;
 use ring::SIZE;
 use ring::minus;
 use ring::put_back;
-use row_type::from_constraint;
 use row_type::Parameters;
 use row_type::Registers;
 use row_type::State;
+use row_type::from_constraint;
 use row_type::parts::smaller;
 use row_type::row_words;
 use row_type::row_words::parameters_at;
 use row_type::row_words::registers_at;
-use delay_order::delay;
-use delay_order::order;
-use delay_order::strong_delay;
-use event_chain::reaction;
-use execution::execution_time;
-use hidden_points::sporadic;
-use repeat_burst::repeat;
 use synchronizations::strong_synchronization;
 use synchronizations::synchronization;
 ghost use Prim.Native.Nat.{ℕ};
@@ -73,6 +78,11 @@ fn apply_by_type(row: &mut [[u64; SIZE]; 2], stream: u64, t: u64, number: u64)
         9 => reaction::apply(row, stream, t, number),
         10 => repetition::apply(row, stream, t, number),
         11 => synchronization::apply(row, stream, t, number),
+        12 => age::apply(row, stream, t, number),
+        13 => output_synchronization::apply(row, stream, t, number),
+        14 => input_synchronization::apply(row, stream, t, number),
+        15 => pattern::apply(row, stream, t, number),
+        16 => arbitrary::apply(row, stream, t, number),
         _ => row_words::break_at(row, number),
     }
 }
@@ -279,6 +289,11 @@ fn overflows(w: &[u64; SIZE], stream: u64, t: u64) -> bool
         9 => false,
         10 => repetition::overflows(w, stream, t),
         11 => false,
+        12 => false,
+        13 => false,
+        14 => false,
+        15 => false,
+        16 => false,
         _ => false,
     }
 }
@@ -367,6 +382,11 @@ fn slots_used_by_type(tag: u64, span: u64, len: u64) -> u64
         9 => 0,
         10 => repetition::slots_used(span, len),
         11 => 0,
+        12 => 0,
+        13 => 0,
+        14 => 0,
+        15 => 0,
+        16 => 0,
         _ => 0,
     }
 }

@@ -38,7 +38,7 @@ const LEAST_COUNTS: [u8; 18] = [0, 0, 0, 0, 0, 0, 0, 2, 0, 0, 0, 2, 0, 2, 2, 1, 
 const MOST_COUNTS: [u8; 18] = [0, 0, 0, 0, 0, 0, 0, 4, 0, 0, 0, 4, 0, 4, 4, 8, 8, 5];
 
 // The last type of each edition of the table, by its version byte.
-const LAST_TYPES: [u8; 3] = [0, 10, 11];
+const LAST_TYPES: [u8; 3] = [0, 10, 17];
 
 // Returns the last type of an edition, or 0 if there is no such edition.
 pub fn last_type(edition: u8) -> u8

@@ -32,7 +32,7 @@ arbitrary-repeats kind pairs steps = (
     [],
     stop,
     rw (append-nil steps)
-    (λ i inside. met-now kind (i + 1) (at (minimaIn pairs) i) (at (maximaIn pairs) i) steps (each i (omega (arith, as-many)))),
+        (λ i inside. met-now kind (i + 1) (at (minimaIn pairs) i) (at (maximaIn pairs) i) steps (each i (omega (arith, as-many)))),
   ),
 )
   where

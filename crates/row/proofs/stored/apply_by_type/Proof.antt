@@ -13,6 +13,11 @@ use Rattle.execution.specs.ExecutionTime.{machineExecutionTime}
 use Rattle.event_chain.specs.Reaction.{machineReaction}
 use Rattle.repetition.specs.Repetition.{machineRepetition}
 use Rattle.synchronizations.specs.Synchronization.{machineSynchronization}
+use Rattle.event_chain.specs.Age.{machineAge}
+use Rattle.event_chain.specs.OutputSynchronization.{machineOutputSynchronization}
+use Rattle.event_chain.specs.InputSynchronization.{machineInputSynchronization}
+use Rattle.patterns.specs.Pattern.{machinePattern}
+use Rattle.repeat_burst.specs.Arbitrary.{machineArbitrary}
 
 -- the number of the type, read off the words
 abbrev tagIn : List (List ℕ) → ℕ
@@ -89,8 +94,38 @@ returns-10 c =
     (ap machineOf (c .before .before .match .keys10))
 
 returns-11 : tie.Need-returns-11
-unfolding changedWords
 returns-11 c =
+    let a = c .before .before .before .before .args in
+    by-type machineAge (now (a .row)) (c .apply11 .last .0) (a .stream) (a .t) (a .number) (c .apply11 .ensures)
+    (ap machineOf (c .before .before .match .keys11))
+
+returns-12 : tie.Need-returns-12
+returns-12 c =
+    let a = c .before .before .before .before .args in
+    by-type machineOutputSynchronization (now (a .row)) (c .apply12 .last .0) (a .stream) (a .t) (a .number) (c .apply12 .ensures)
+    (ap machineOf (c .before .before .match .keys12))
+
+returns-13 : tie.Need-returns-13
+returns-13 c =
+    let a = c .before .before .before .before .args in
+    by-type machineInputSynchronization (now (a .row)) (c .apply13 .last .0) (a .stream) (a .t) (a .number) (c .apply13 .ensures)
+    (ap machineOf (c .before .before .match .keys13))
+
+returns-14 : tie.Need-returns-14
+returns-14 c =
+    let a = c .before .before .before .before .args in
+    by-type machinePattern (now (a .row)) (c .apply14 .last .0) (a .stream) (a .t) (a .number) (c .apply14 .ensures)
+    (ap machineOf (c .before .before .match .keys14))
+
+returns-15 : tie.Need-returns-15
+returns-15 c =
+    let a = c .before .before .before .before .args in
+    by-type machineArbitrary (now (a .row)) (c .apply15 .last .0) (a .stream) (a .t) (a .number) (c .apply15 .ensures)
+    (ap machineOf (c .before .before .match .keys15))
+
+returns-16 : tie.Need-returns-16
+unfolding changedWords
+returns-16 c =
     let a = c .before .before .before .before .args in
     by-type noMachine (now (a .row)) (c .break-at .last .0) (a .stream) (a .t) (a .number) (c .break-at .ensures)
     (none-of _ (c .before .before .match .rest))
@@ -112,6 +147,11 @@ apply-by-type-spec =
     (λ c κs. search needs)
     (λ c κs. search needs)
     (λ c κs. search needs)
+    (λ c κs. search needs)
+    (λ c κs. search needs)
+    (λ c κs. search needs)
+    (λ c κs. search needs)
+    (λ c κs. search needs)
     returns
     returns-2
     returns-3
@@ -122,4 +162,9 @@ apply-by-type-spec =
     returns-8
     returns-9
     returns-10
-    returns-11)
+    returns-11
+    returns-12
+    returns-13
+    returns-14
+    returns-15
+    returns-16)

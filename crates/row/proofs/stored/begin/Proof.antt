@@ -1,6 +1,6 @@
 -- The words are those of a row of the constraint's numbers with an empty ring, and then its constants are put into the ring.
 use Rattle.constraint.proofs.Library.{List, [], _∙_, _≡_, ap, ap₂, getD, needs, now, refl, replicate, set, ℕ}
-use Rattle.row_type.specs.Parameters.{parametersOf, startRing}
+use Rattle.row_type.specs.Parameters.{parametersOf}
 use Rattle.row_type.specs.declared.Parameters.{Parameters}
 use Rattle.table_row.specs.Records.{rowRead}
 use Rattle.row.specs.Machine.{freshState, rowFrom}

@@ -13,6 +13,11 @@ use Rattle.execution.specs.ExecutionTime.{machineExecutionTime}
 use Rattle.event_chain.specs.Reaction.{machineReaction}
 use Rattle.repetition.specs.Repetition.{machineRepetition}
 use Rattle.synchronizations.specs.Synchronization.{machineSynchronization}
+use Rattle.event_chain.specs.Age.{machineAge}
+use Rattle.event_chain.specs.OutputSynchronization.{machineOutputSynchronization}
+use Rattle.event_chain.specs.InputSynchronization.{machineInputSynchronization}
+use Rattle.patterns.specs.Pattern.{machinePattern}
+use Rattle.repeat_burst.specs.Arbitrary.{machineArbitrary}
 
 -- what one type answers, where it is the one that is chosen
 by-type : (m : Machine) (w : List ℕ) (s t : ℕ) {r : Bool} → r ≡ askedOf (m .overflows) w s t → machineOf (getD w 0 0) ≡ m
@@ -69,6 +74,26 @@ overflows-spec =
     let a = c .before .before .args in
     by-type machineSynchronization (a .w .now) (a .stream) (a .t) refl
     (ap machineOf (c .match .keys10)))
+    (λ c.
+    let a = c .before .before .args in
+    by-type machineAge (a .w .now) (a .stream) (a .t) refl
+    (ap machineOf (c .match .keys11)))
+    (λ c.
+    let a = c .before .before .args in
+    by-type machineOutputSynchronization (a .w .now) (a .stream) (a .t) refl
+    (ap machineOf (c .match .keys12)))
+    (λ c.
+    let a = c .before .before .args in
+    by-type machineInputSynchronization (a .w .now) (a .stream) (a .t) refl
+    (ap machineOf (c .match .keys13)))
+    (λ c.
+    let a = c .before .before .args in
+    by-type machinePattern (a .w .now) (a .stream) (a .t) refl
+    (ap machineOf (c .match .keys14)))
+    (λ c.
+    let a = c .before .before .args in
+    by-type machineArbitrary (a .w .now) (a .stream) (a .t) refl
+    (ap machineOf (c .match .keys15)))
     (λ c.
     let a = c .before .before .args in
     by-type noMachine (a .w .now) (a .stream) (a .t) refl

@@ -12,6 +12,11 @@ use Rattle.execution.specs.ExecutionTime.{machineExecutionTime}
 use Rattle.event_chain.specs.Reaction.{machineReaction}
 use Rattle.repetition.specs.Repetition.{machineRepetition}
 use Rattle.synchronizations.specs.Synchronization.{machineSynchronization}
+use Rattle.event_chain.specs.Age.{machineAge}
+use Rattle.event_chain.specs.OutputSynchronization.{machineOutputSynchronization}
+use Rattle.event_chain.specs.InputSynchronization.{machineInputSynchronization}
+use Rattle.patterns.specs.Pattern.{machinePattern}
+use Rattle.repeat_burst.specs.Arbitrary.{machineArbitrary}
 
 -- how many places one type takes, where it is the one that is chosen
 by-type : (m : Machine) (tag span len : ℕ) {r : ℕ} → r ≡ m .taken span len → machineOf tag ≡ m → r ≡ slotsUsedBy tag span len
@@ -63,6 +68,26 @@ slots-used-by-type-spec =
     let a = c .before .args in
     by-type machineSynchronization (a .tag) (a .span) (a .len) refl
     (ap machineOf (c .match .keys10)))
+    (λ c.
+    let a = c .before .args in
+    by-type machineAge (a .tag) (a .span) (a .len) refl
+    (ap machineOf (c .match .keys11)))
+    (λ c.
+    let a = c .before .args in
+    by-type machineOutputSynchronization (a .tag) (a .span) (a .len) refl
+    (ap machineOf (c .match .keys12)))
+    (λ c.
+    let a = c .before .args in
+    by-type machineInputSynchronization (a .tag) (a .span) (a .len) refl
+    (ap machineOf (c .match .keys13)))
+    (λ c.
+    let a = c .before .args in
+    by-type machinePattern (a .tag) (a .span) (a .len) refl
+    (ap machineOf (c .match .keys14)))
+    (λ c.
+    let a = c .before .args in
+    by-type machineArbitrary (a .tag) (a .span) (a .len) refl
+    (ap machineOf (c .match .keys15)))
     (λ c.
     let a = c .before .args in
     by-type noMachine (a .tag) (a .span) (a .len) refl

@@ -76,7 +76,7 @@ unfolding fieldsWith
 first-field [] values first = absurd (omega arith)
 first-field (r ∷ roles) values first =
     by-role (λ fs. width r ≡ 1 → firstOf (fs ++ fieldsWith roles values 1) ≡ at values 0) r (at values 0) (λ less one. absurd (small less one))
-        (λ less one. refl) (λ more one. refl) first
+    (λ less one. refl) (λ more one. refl) first
   where
     small : r < 65 → width r ≡ 1 → ⊥
     small less one = let none : width r ≡ 0 = rw (lt-ltb r 65 less) in omega (arith, one, none)

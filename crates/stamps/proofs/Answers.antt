@@ -12,7 +12,7 @@ within (d ∷ rows) (suc i) c e = omega (arith, within rows i c e)
 
 lower-small : (k lower upper : ℕ) → Sound (Repeat k 1 lower upper) → lower ≤ lastTime
 unfolding InRange
-lower-small k lower upper sound = sound .in-range .2 .0
+lower-small k lower upper sound = sound .in-range .1 .1 .0
 
 event-plain : (k lower upper : ℕ) → Sound (Repeat k 1 lower upper) → k < firstColoured
 unfolding KindsSuit

@@ -8,19 +8,19 @@ pub use Rattle.constraint.proofs.Library.{Bool, List, [], _&&_, _++_, _+_, _-_,
 pub use Rattle.constraint.proofs.Library.{eqb, eqb-false, eqb-true, ext-getD, false, getD-take, getElem?, inl, inr, leb, length, length-append}
 pub use Rattle.constraint.proofs.Library.{length-take, max, min, ne-eqb, needs, now, refl, some, subst, suc, sym, take, true, zero, ℕ, ⊎-elim}
 pub use Rattle.constraint.proofs.Lists.{Each, at-left, at-next, both, rising-at, split}
-pub use Rattle.constraint.proofs.{Runs.accepts-taken, Runs.kept-exactly, Types.numbers-read}
+pub use Rattle.constraint.proofs.{Runs.accepts-taken, Runs.kept-exactly}
 pub use Rattle.constraint.specs.Recording.{ReadsInOrder, ReadsRecording, ReadsRecords, RecordAt, RecordingRead, VersionKnown, callAt, no-more}
 pub use Rattle.constraint.specs.Recording.{record-refused, record-taken, recording-of, recording-refused, version-refused, version-taken}
 pub use Rattle.constraint.specs.Stamps.{AnswersStampsUpTo, ReadsStamps, RepeatRow, TrueTimes, both-occur, each-meets, no-recording, no-table}
 pub use Rattle.constraint.specs.Stamps.{none-meets, not-asked, reads, stampsQuestions}
 pub use Rattle.constraint.specs.Steps.{Step, at, clock, close, event, tick}
 pub use Rattle.constraint.specs.{Continuation.Reads, Continuation.reads-open, Limits.firstColoured, Limits.lastTime, Limits.noLimit, Meets.Apart}
-pub use Rattle.constraint.specs.{Meets.NotLater, Questions.Judged, Records.HoldsRow, Run.eventQuestions, Run.stepFor}
+pub use Rattle.constraint.specs.{Meets.NotLater, Questions.Judged, Run.eventQuestions, Run.stepFor, Types.lengths, Types.typeOf}
 pub use Rattle.constraint.specs.{Streams.stream, Table.ReadsTableUpTo, Table.table-of, Table.table-refused, declared.Answer.the-variants.Refused}
-pub use Rattle.constraint.specs.{declared.Answer.the-variants.Taken, declared.Call.Call, declared.Constraint.Constraint}
-pub use Rattle.constraint.specs.{declared.Constraint.the-variants.Repeat, declared.Constraint.the-variants.Sporadic}
+pub use Rattle.constraint.specs.{declared.Answer.the-variants.Taken, declared.Call.Call, Constraint.Constraint}
+pub use Rattle.constraint.specs.{Constraint.Repeat, Constraint.Sporadic}
 pub use Rattle.constraint.specs.{declared.StampedAnswer.StampedAnswer, declared.StampedVerdict.StampedVerdict}
-pub use Rattle.constraint.specs.{declared.Verdict.Verdict, declared.fields.Fields.Fields}
+pub use Rattle.constraint.specs.{declared.Verdict.Verdict}
 pub use Rattle.row_type.proofs.{Spans.apart-first, Tests.Tells, Tests.fails, Tests.holds, Tests.tells-and, Tests.tells-leb}
 pub use Rattle.row_type.specs.{Parts.registersOf, Parts.noRegisters, Parts.plus, Parameters.parametersOf, declared.Registers.Registers}
 pub use Rattle.row_type.specs.{declared.Parameters.Parameters}
@@ -32,8 +32,11 @@ pub use Rattle.ring.proofs.Shared.{free}
 pub use Rattle.row.proofs.Exact.{Sound}
 pub use Rattle.stamps.specs.Machine.{Finds, PassesStamps, callAfter, firstStamp, nextHigh, nextLow, noStamps}
 pub use Rattle.stamps.specs.{declared.LateRow.LateRow, declared.Passed.Passed, declared.FoundRow.FoundRow, declared.Stamps.Stamps}
+pub use Rattle.table_row.proofs.ByType.{no-type, says}
+pub use Rattle.table_row.specs.Records.{rowIn}
 pub use Rattle.table.proofs.{AcceptedRows.read-accepted, ReadUnique.reads-once}
 pub use Rattle.table.specs.{Scan.Counted, Scan.RowIs}
 unfoldable pub use Rattle.constraint.specs.{Accepted.InRange, Accepted.KindsSuit, Meets.Meets, Meets.MeetsRepeat, Meets.SpansApart}
-unfoldable pub use Rattle.constraint.specs.{Recording.recordQuestions, Run.Room, Run.questions, Steps.times, Types.rowRead}
+unfoldable pub use Rattle.constraint.specs.{Recording.recordQuestions, Run.Room, Run.questions, Steps.times}
+unfoldable pub use Rattle.table_row.specs.Records.{rowRead}
 unfoldable pub use Rattle.stamps.specs.Machine.{closeVerdict, laterStamp, stampAfter, stampsVerdict}

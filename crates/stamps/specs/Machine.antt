@@ -11,7 +11,7 @@ use Rattle.constraint.specs.Recording.{ReadsInOrder, recording-of, recording-re
 use Rattle.constraint.specs.Stamps.{ReadsStamps, RepeatRow, stampsQuestions}
 use Rattle.constraint.specs.declared.Answer.the-variants.{Refused}
 use Rattle.constraint.specs.declared.Call.{Call}
-use Rattle.constraint.specs.declared.Constraint.{Constraint}
+use Rattle.constraint.specs.Constraint.{Constraint}
 use Rattle.constraint.specs.declared.StampedVerdict.{StampedVerdict}
 use Rattle.row_type.specs.Parts.{plus}
 use Rattle.hidden_points.specs.Sporadic.{stride}

@@ -17,6 +17,7 @@ ghost use mathlib.Core.Bool.{_&&_};
 ghost use lib.Dec.{leb};
 ghost use Rattle.row_type.specs.Parts.{plus};
 ghost use Rattle.constraint.specs.Stamps.{AnswersStampsUpTo};
+ghost use Rattle.table_row.specs.Records.{rowIn};
 ghost use Rattle.stamps.specs.Words.{spelling};
 ghost use Rattle.stamps.specs.Machine.{nextLow, nextHigh, noStamps, firstStamp, pairFits, laterStamp, stampAfter, callAfter, closeVerdict};
 ghost use Rattle.stamps.specs.Machine.{stampsVerdict, PassesStamps, Finds};

@@ -7,7 +7,7 @@ use Rattle.constraint.proofs.Accepted.{alone-accepted}
 use Rattle.constraint.specs.Stretches.{AnswersRow, Breaking, FirstAt, Some, Stretch, found, no-stretch, stretchOf, stretchQuestions, stretches}
 use Rattle.constraint.specs.{Accepted.Accepted, Questions.Judged, Recording.ReadsInOrder, Recording.recording-of, Records.Decides}
 use Rattle.constraint.specs.{Steps.Step, Steps.at, declared.Answer.Answer, declared.Answer.the-variants.Refused, declared.Answer.the-variants.Taken}
-use Rattle.constraint.specs.{declared.Constraint.Constraint, declared.StretchAnswer.StretchAnswer}
+use Rattle.constraint.specs.{Constraint.Constraint, declared.StretchAnswer.StretchAnswer}
 use Rattle.table.specs.Scan.{RowIs}
 use Rattle.stretch.proofs.{Places.Inside, Places.first-as, Places.some-as, Places.some-right, Places.stretches-inside, Taking.recording-taken}
 use Rattle.stretch.specs.Machine.{AsksRow, Enough, Kept, NeedsFrom, RunOf, Searches, Tries, TriesAll}

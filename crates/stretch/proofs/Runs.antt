@@ -1,13 +1,13 @@
--- What the loop over the records from a start on keeps: its row is that of a run, whichever constraint has the row's rule.
+-- What the loop over the records from a start on keeps: its row is that of a run, whichever constraint has the words that it began with.
 use Rattle.constraint.proofs.Library.{Bool, List, [], _&&_, _+_, _<_, _∙_, _∷_, _≡_, _≤_, ap, arith, by-cases, cond, eqb, false, getD, getD-set-other}
 use Rattle.constraint.proofs.Library.{getD-set-same, length, length-set, ltb, refl, replicate, set, subst, suc, sym, true, ℕ, ℕ-discrete, ⊎-elim}
-use Rattle.constraint.specs.{Accepted.Accepted, Steps.Step, Steps.at, declared.Constraint.Constraint}
-use Rattle.row_type.specs.{Parameters.parametersOf, Words.numberWords, Words.rowWords, Words.parametersAt, declared.Parameters.Parameters}
+use Rattle.constraint.specs.{Accepted.Accepted, Steps.Step, Steps.at, Constraint.Constraint}
+use Rattle.row_type.specs.Words.{numberWords, parametersAt, rowWords}
 use Rattle.monitor.proofs.Demand.{accepted-sound}
 use Rattle.row.proofs.{Overflow.crowded-known, Overflow.step-by, Overflow.step-crowds, EveryType.every-type-exact, Exact.Sound, Steps.Fits}
 use Rattle.row.proofs.{Steps.Going}
-use Rattle.row.specs.Machine.{applied, brokenRow, concerns, freshState, rowFrom, rowOf, rowStep}
-use Rattle.row.specs.{StepParts.changeBy, StepParts.crowdedBy, StepParts.steppedRow, StepParts.withChange, Stored.wordsOfRow, Undo.noRowUndo}
+use Rattle.row.specs.Machine.{rowFrom, rowOf, rowStep}
+use Rattle.row.specs.{StepParts.crowdedBy, StepParts.steppedRow, Stored.stateAt, Stored.wordsOfRow, Undo.noRowUndo}
 use Rattle.row.specs.{declared.RowUndo.RowUndo}
 use Rattle.row.specs.{declared.StepInput.StepInput, declared.Row.Row, declared.RowStep.RowStep}
 use Rattle.stretch.proofs.Starts.{Running, run-broken, run-crowded, run-end, run-on, run-start}
@@ -19,35 +19,15 @@ sound-of c accepted = accepted-sound (c ∷ []) accepted .0
 pub few-of : (steps : List Step) (streams times : List ℕ) (count : ℕ) → RunOf steps streams times count → count ≤ 256 → length steps ≤ 256
 few-of steps streams times count run small = omega (arith, run .counted, small)
 
-same-row : (c d : Constraint) → parametersOf c ≡ parametersOf d → rowOf c ≡ rowOf d
-unfolding rowOf
-same-row c d e = ap (λ (parameters : Parameters). rowFrom parameters (replicate 64 0) (freshState parameters)) e
+-- the words are those of a constraint's row before any step
+abbrev pub BeginAs : List (List ℕ) → Constraint → Type 0
+BeginAs words c = words ≡ wordsOfRow (rowOf c) noRowUndo
 
-parameters-of : (c : Constraint) → rowOf c .parameters ≡ parametersOf c
-unfolding rowOf
-parameters-of c = refl
-
--- the rule of the row that lies in words
-abbrev pub parametersIn : List (List ℕ) → Parameters
-parametersIn words = parametersAt (getD words 1 [])
-
-pub parameters-lies : (c : Constraint) (words : List (List ℕ)) → words ≡ wordsOfRow (rowOf c) noRowUndo → parametersIn words ≡ parametersOf c
+-- words are those of one row
+same-row : (words : List (List ℕ)) (c d : Constraint) → BeginAs words c → BeginAs words d → rowOf c ≡ rowOf d
 unfolding wordsOfRow rowWords numberWords rowOf
-parameters-lies c words is = ap parametersIn is
-
--- a step keeps it
-same-parameters : (parameters : Parameters) (b : Bool) (x y : Row) → x .parameters ≡ parameters → y .parameters ≡ parameters
-    → cond b x y .parameters ≡ parameters
-same-parameters parameters true x y p q = p
-same-parameters parameters false x y p q = q
-
-stepped-parameters : (r : Row) (o : StepInput) (number : ℕ) → steppedRow o number r .parameters ≡ r .parameters
-unfolding steppedRow withChange brokenRow applied
-stepped-parameters r o number =
-    same-parameters (r .parameters) (ltb 0 (r .now .broken)) _ _ refl
-    (same-parameters (r .parameters) (ltb (r .now .due) (o .time)) _ _ refl
-    (same-parameters (r .parameters) (concerns (r .parameters) (o .kind)) _ _ (same-parameters (r .parameters) (changeBy r o .breaks) _ _ refl refl)
-    (same-parameters (r .parameters) (o .closes && eqb (r .now .kept) 0) _ _ refl refl)))
+same-row words c d one two =
+    ap (λ (w : List (List ℕ)). rowFrom (parametersAt (getD w 1 [])) (getD w 0 []) (stateAt (getD w 1 []))) (sym one ∙ two)
 
 module _ (streams times : List ℕ) (count start : ℕ) (small : count ≤ 256) where
   -- the row is that of a run over the constraint
@@ -56,20 +36,19 @@ module _ (streams times : List ℕ) (count start : ℕ) (small : count ≤ 256) 
       (steps : List Step) (run : RunOf steps streams times count) (accepted : Accepted (c ∷ [])) → start < count
       → Running c (sound-of c accepted) steps (run .taken) streams times (run .kept) (few-of steps streams times count run small) start size r
 
-  -- so for each constraint of the rule with which the run began
-  pub record RunningTo (parameters : Parameters) (r : Row) (size place : ℕ) : Type 0 where
+  -- so for each constraint of the words with which the run began
+  pub record RunningTo (entry : List (List ℕ)) (r : Row) (size place : ℕ) : Type 0 where
     pub placed : place ≡ start + size
-    pub same : r .parameters ≡ parameters
-    pub running : (c : Constraint) → parameters ≡ parametersOf c → RunningOver c r size
+    pub running : (c : Constraint) → BeginAs entry c → RunningOver c r size
 
-  -- such a row lies in the words, which began with those of the rule
+  -- such a row lies in the words
   pub record Lies (entry words : List (List ℕ)) (size place : ℕ) : Type 0 where
     pub row : Row
     pub before : RowUndo
     pub lies : words ≡ wordsOfRow row before
-    pub to : RunningTo (parametersIn entry) row size place
+    pub to : RunningTo entry row size place
 
-  pub to-start : (c : Constraint) (words : List (List ℕ)) → words ≡ wordsOfRow (rowOf c) noRowUndo → Lies words words 0 start
+  pub to-start : (c : Constraint) (words : List (List ℕ)) → BeginAs words c → Lies words words 0 start
   to-start c words is =
       record {
         row = rowOf c;
@@ -77,18 +56,17 @@ module _ (streams times : List ℕ) (count start : ℕ) (small : count ≤ 256) 
         lies = is;
         to = record {
           placed = omega arith;
-          same = parameters-of c ∙ sym (parameters-lies c words is);
           running = λ d e steps run accepted h.
               subst (λ (r : Row). Running d (sound-of d accepted) steps (run .taken) streams times (run .kept)
               (few-of steps streams times count run small) start 0 r)
-              (sym (same-row c d (sym (parameters-lies c words is) ∙ e)))
+              (sym (same-row words c d is e))
               (run-start d (sound-of d accepted) steps (run .taken) streams times (run .kept) (few-of steps streams times count run small) start
               (omega (arith, run .counted, h)));
         };
       }
 
-  module _ (parameters : Parameters) (r : Row) (size place : ℕ) (to : RunningTo parameters r size place) where
-    pub to-end : count ≤ place → (c : Constraint) → parameters ≡ parametersOf c → NeedsFrom c streams times count start 257
+  module _ (entry : List (List ℕ)) (r : Row) (size place : ℕ) (to : RunningTo entry r size place) where
+    pub to-end : count ≤ place → (c : Constraint) → BeginAs entry c → NeedsFrom c streams times count start 257
     to-end end c e steps run accepted h =
         run-end c (sound-of c accepted) steps (run .taken) streams times (run .kept) (few-of steps streams times count run small) start size r
         (to .running c e steps run accepted h) (omega (arith, end, to .placed, run .counted))
@@ -112,7 +90,7 @@ module _ (streams times : List ℕ) (count start : ℕ) (small : count ≤ 256) 
           ∙ sym (crowded-known r o (⊎-elim (λ (g : Going c (every-type-exact c sound) steps (r .times) (r .now)). g .room)
           (λ b. absurd (omega (arith, b .counted, unbroken))) (f .state)))
 
-      pub to-crowded : crowdedBy (r .parameters) (r .now) o ≡ true → (c : Constraint) → parameters ≡ parametersOf c
+      pub to-crowded : crowdedBy (r .parameters) (r .now) o ≡ true → (c : Constraint) → BeginAs entry c
           → NeedsFrom c streams times count start 257
       to-crowded crowded c e steps run accepted h =
           let running = to .running c e steps run accepted h in
@@ -124,7 +102,7 @@ module _ (streams times : List ℕ) (count start : ℕ) (small : count ≤ 256) 
             → rowStep r (seenAs (at streams (start + size)) (at times (start + size))) (size + 1) .row ≡ steppedRow o (size + 1) r
         stepped-is e = ap (λ (s : RowStep). s .row) (here ∙ step-by r o (size + 1) false (ap (λ (s : RowStep). s .crowded) (sym here) ∙ e))
 
-        pub to-broken : 0 < steppedRow o (size + 1) r .now .broken → (c : Constraint) → parameters ≡ parametersOf c
+        pub to-broken : 0 < steppedRow o (size + 1) r .now .broken → (c : Constraint) → BeginAs entry c
             → NeedsFrom c streams times count start (size + 1)
         to-broken broken c e steps run accepted h =
             let running = to .running c e steps run accepted h in
@@ -132,11 +110,10 @@ module _ (streams times : List ℕ) (count start : ℕ) (small : count ≤ 256) 
             run-broken c (sound-of c accepted) steps (run .taken) streams times (run .kept) (few-of steps streams times count run small) start size r
             running (there steps run) quiet (subst (λ (x : Row). 0 < x .now .broken) (sym (stepped-is quiet)) broken)
 
-        pub to-next : steppedRow o (size + 1) r .now .broken ≤ 0 → RunningTo parameters (steppedRow o (size + 1) r) (size + 1) (place + 1)
+        pub to-next : steppedRow o (size + 1) r .now .broken ≤ 0 → RunningTo entry (steppedRow o (size + 1) r) (size + 1) (place + 1)
         to-next unbroken =
             record {
               placed = omega (arith, to .placed);
-              same = stepped-parameters r o (size + 1) ∙ to .same;
               running = λ c e steps run accepted h.
                   let running = to .running c e steps run accepted h in
                   let quiet = crowd-is c (sound-of c accepted) _ (running .fits) (running .unbroken) ∙ calm in

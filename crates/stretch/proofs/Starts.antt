@@ -9,7 +9,7 @@ use Rattle.constraint.specs.Continuation.{Open, Reads, reads-broken, reads-kept
 use Rattle.constraint.specs.Steps.{Step, at, close, closed, event, tick}
 use Rattle.constraint.specs.{Limits.streamCount, Limits.waitingLimit, Questions.Judged, Records.Decides, Run.Room, Run.questions, Run.stepFor}
 use Rattle.constraint.specs.{Stretches.Breaks, Stretches.TakesEach, Stretches.takes-none, Waiting.waiting, declared.Answer.the-variants.Taken}
-use Rattle.constraint.specs.{declared.Call.Call, declared.Constraint.Constraint, declared.Verdict.Verdict}
+use Rattle.constraint.specs.{declared.Call.Call, Constraint.Constraint, declared.Verdict.Verdict}
 use Rattle.row.proofs.Steps.{After, Fits, Going, fits-reads, fits-room, fits-start, fits-step, seen}
 use Rattle.row.proofs.{EveryType.every-type-exact, Exact.Sound}
 use Rattle.row.specs.Machine.{eventAt, rowOf, rowStep, rowVerdict, tickAt}

@@ -9,7 +9,7 @@ use Rattle.constraint.specs.Recording.{ReadsInOrder, ReadsRecords, callAt, no-m
 use Rattle.constraint.specs.Run.{Room, eventQuestions, questions, stepFor}
 use Rattle.constraint.specs.Steps.{Step, clock, clockFrom, close, closed, event, tick, times}
 use Rattle.constraint.specs.{Continuation.EventInOrder, Limits.lastCount, Questions.Judged, Stretches.TakesEach, Stretches.takes-more}
-use Rattle.constraint.specs.{Stretches.takes-none, declared.Answer.the-variants.Taken, declared.Call.Call, declared.Constraint.Constraint}
+use Rattle.constraint.specs.{Stretches.takes-none, declared.Answer.the-variants.Taken, declared.Call.Call, Constraint.Constraint}
 
 -- ---- records that are taken
 

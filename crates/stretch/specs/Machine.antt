@@ -10,7 +10,7 @@ use Rattle.constraint.specs.Steps.{Step, event, tick, close, at}
 use Rattle.constraint.specs.Records.{Decides}
 use Rattle.constraint.specs.Accepted.{Accepted}
 use Rattle.constraint.specs.Recording.{ReadsInOrder, recording-of, recording-refused}
-use Rattle.constraint.specs.declared.Constraint.{Constraint}
+use Rattle.constraint.specs.Constraint.{Constraint}
 use Rattle.row.specs.Machine.{eventAt, tickAt}
 use Rattle.row.specs.declared.StepInput.{StepInput}
 use Rattle.constraint.specs.Stretches.{TakesEach, Breaks, stretchOf, stretches, Some, FirstAt, Breaking, Stretch, recordLimit, AnswersRow}

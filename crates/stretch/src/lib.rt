@@ -16,6 +16,8 @@ ghost use mathlib.Core.Path.{_≡_};
 ghost use Prim.Native.Nat.{ℕ, _≤_, _<_};
 ghost use lib.ListN.{length, getD};
 ghost use Rattle.constraint.specs.Stretches.{AnswersStretchUpTo};
+ghost use Rattle.constraint.specs.Types.{Known};
+ghost use Rattle.table_row.specs.Records.{rowIn};
 ghost use Rattle.stretch.specs.Machine.{seenAs, KeepsRecord, GathersRecords, NeedsFrom, Searches, TriesAll, AsksRow};
 
 // How many records a recording may have.
@@ -122,11 +124,11 @@ fn need_from(
     count: usize,
     start: usize,
 ) -> usize
-    requires { ⌜ count ≤ 256 ⌝ }
-    ensures { λ r. ⌜ NeedsFrom constraint (now (streams .entry)) (now (times .entry)) count start r ⌝ }
+    requires { ⌜ (count ≤ 256) × Known (rowIn wanted) ⌝ }
+    ensures { λ r. ⌜ NeedsFrom (rowIn wanted) (now (streams .entry)) (now (times .entry)) count start r ⌝ }
 {
     let mut words = [[0u64; SIZE]; 2];
-    stored::begin(&mut words, wanted);
+    stored::begin(&mut words, wanted.tag, &wanted.values);
     let mut size: usize = 0;
     let mut at = start;
     while at < count {
@@ -146,8 +148,8 @@ fn need_from(
 
 // The same for each start.
 fn needs(wanted: TableRow, streams: &[u64; 256], times: &[u64; 256], count: usize) -> [usize; 256]
-    requires { ⌜ count ≤ 256 ⌝ }
-    ensures { λ r. ⌜ ((start : ℕ) → start < count → NeedsFrom constraint (now (streams .entry)) (now (times .entry)) count start (getD r start 0)) ⌝ }
+    requires { ⌜ (count ≤ 256) × Known (rowIn wanted) ⌝ }
+    ensures { λ r. ⌜ ((start : ℕ) → start < count → NeedsFrom (rowIn wanted) (now (streams .entry)) (now (times .entry)) count start (getD r start 0)) ⌝ }
 {
     let mut need = [0usize; 256];
     let mut start: usize = 0;
@@ -194,8 +196,8 @@ fn try_row(
     times: &[u64; 256],
     count: usize,
 ) -> StretchAnswer
-    requires { ⌜ count ≤ 256 ⌝ }
-    ensures { λ r. ⌜ TriesAll constraint (now (streams .entry)) (now (times .entry)) count r ⌝ }
+    requires { ⌜ (count ≤ 256) × Known (rowIn wanted) ⌝ }
+    ensures { λ r. ⌜ TriesAll (rowIn wanted) (now (streams .entry)) (now (times .entry)) count r ⌝ }
 {
     let need = needs(wanted, streams, times, count);
     let found = search(&need, count);
@@ -221,8 +223,8 @@ fn ask_row(
     times: &[u64; 256],
     count: usize,
 ) -> StretchAnswer
-    requires { ⌜ count ≤ 256 ⌝ }
-    ensures { λ r. ⌜ AsksRow rows row constraint (now (streams .entry)) (now (times .entry)) count r ⌝ }
+    requires { ⌜ (count ≤ 256) × (row < rows → Known (rowIn wanted)) ⌝ }
+    ensures { λ r. ⌜ AsksRow rows row (rowIn wanted) (now (streams .entry)) (now (times .entry)) count r ⌝ }
 {
     if rows as u64 <= row {
         return StretchAnswer::Refused {

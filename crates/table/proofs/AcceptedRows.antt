@@ -2,6 +2,7 @@
 use Rattle.table.proofs.Names.{AcceptedIn, Constraint, Judged, List, ReadsRows, ReadsTableUpTo, ShapeFits, StandsFor, TableRead, Taken, []}
 use Rattle.table.proofs.Names.{_+_, _<_, _≡_, _≤_, ap, at, bodyAt, judged-none, judged-yes, lastType, no-more, row-refused, row-taken, rowBody}
 use Rattle.table.proofs.Names.{rowLimit, rowQuestionsIn, rowThen, rows-taken, rowsQuestions, table-of, table-refused, typeOf, version-taken, ℕ}
+use Rattle.table.proofs.Names.{stands-known}
 use Rattle.table.proofs.Places.{place-taken}
 
 -- the rows that were read, with i rows before them, are accepted
@@ -15,11 +16,6 @@ accepted-more : (edition i : ℕ) (c : Constraint) (later : TableRead) → i < r
 accepted-more edition i c (table-of rows) room own accepted = rows-taken edition i c rows [] Taken room own accepted
 accepted-more edition i c (table-refused n place) room own accepted = tt
 
--- the row that stands in a body of fitting shape has a type of the edition
-row-typed : (edition : ℕ) (body : List ℕ) (c : Constraint) → ShapeFits edition body → StandsFor body c → typeOf c ≤ lastType edition
-unfolding rowBody
-row-typed edition body c fits stands = let same : typeOf c ≡ at body 0 = ap (λ (l : List ℕ). at l 0) (stands .bytes) in rw same (fits .type-known .1)
-
 pub rows-accepted : {edition : ℕ} (bytes : List ℕ) {i place : ℕ} {read : TableRead} → ReadsRows edition bytes i place read
     → AcceptedBehind edition i read
 unfolding rowsQuestions
@@ -27,8 +23,8 @@ rows-accepted bytes (no-more end) = judged-none
 rows-accepted bytes (row-refused n c there at-c refused) = tt
 rows-accepted {edition} bytes (row-taken {i} {place} {later} c there at-c judged reads) =
     let taken = place-taken edition bytes i place c judged in
-    let typed = row-typed edition (bodyAt bytes place) c (taken .shape) (at-c (taken .shape)) in
-    accepted-more edition i c later (taken .room) (judged-yes 4 _ _ Taken typed (taken .own)) (rows-accepted bytes reads)
+    let known = stands-known (bodyAt bytes place) c (taken .shape) (at-c (taken .shape)) in
+    accepted-more edition i c later (taken .room) (judged-yes 4 _ _ Taken known (taken .own)) (rows-accepted bytes reads)
 
 pub read-accepted : {newest : ℕ} (bytes : List ℕ) (rows : List Constraint) → ReadsTableUpTo newest bytes (table-of rows)
     → AcceptedIn (at bytes 0) rows

@@ -1,7 +1,5 @@
 -- The laws of the table's bytes.
 mod Names
-pub mod Bodies
-pub mod BodyUnique
 pub mod Shapes
 pub mod Same
 pub mod Places

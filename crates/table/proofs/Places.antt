@@ -1,9 +1,10 @@
 -- The questions of the row at a place are put in their order, so each "no" needs the earlier ones answered "yes".
 use Rattle.table.proofs.Names.{Answer, Bytes, Constraint, Decides, Judged, List, Refused, RowAt, ShapeFits, Taken, VersionUpTo, WholeAt, []}
-use Rattle.table.proofs.Names.{_+_, _-_, _<_, _∷_, _≡_, _≤_, add-sub-cancel-left, ap, arith, at, bodyAt, constraintOf, drop, edition-above}
+use Rattle.table.proofs.Names.{_+_, _-_, _<_, _∷_, _≡_, _≤_, add-sub-cancel-left, ap, arith, at, bodyAt, drop, edition-above}
 use Rattle.table.proofs.Names.{judged-all, judged-no, judged-once-on, judged-yes, lastType, leb, length, lengthAt, placeQuestions, rowLimit}
 use Rattle.table.proofs.Names.{rowQuestions, same-test, take, test-le, ℕ}
-use Rattle.table.proofs.{Bodies.bytes-part, Shapes.there, BodyUnique.row-stands, BodyUnique.stands-once}
+use Rattle.table.proofs.Names.{bytes-part, row-stands, rowReadAt, stands-once}
+use Rattle.table.proofs.Shapes.{there}
 
 -- a row is whole where its length is no more than what is left behind the length field
 pub whole-asked : (bytes : List ℕ) (place size : ℕ) → size ≡ lengthAt bytes place → place + 2 ≤ length bytes
@@ -48,8 +49,8 @@ place-taken edition bytes i place c judged =
     record { whole = whole .0; room = room .0; shape = shape .0; own = shape .1 }
 
 -- the row that the body at a place is read as is the row at that place
-pub row-at : (edition : ℕ) (bytes : List ℕ) (place : ℕ) → Bytes bytes → RowAt edition bytes place (constraintOf (bodyAt bytes place))
-row-at edition bytes place all = row-stands (bodyAt bytes place) (bytes-part bytes (lengthAt bytes place) (place + 2) all)
+pub row-at : (edition : ℕ) (bytes : List ℕ) (place : ℕ) → Bytes bytes → RowAt edition bytes place (rowReadAt bytes place)
+row-at edition bytes place all = row-stands {edition = edition} (bodyAt bytes place) (bytes-part bytes (lengthAt bytes place) (place + 2) all)
 
 -- the row at a place is one, where it has a row's shape, so its questions have one answer
 pub place-once : (edition : ℕ) (bytes : List ℕ) (i place : ℕ) (c d : Constraint) (a b : Answer) → RowAt edition bytes place c
@@ -61,7 +62,7 @@ place-once edition bytes i place c d a b at-c at-d one other =
     (rowQuestions d) a b
     (λ all. let room = judged-all 3 (i < rowLimit) _ (judged-all 2 (WholeAt bytes place) _ all .1) in
     let shape = judged-all 4 (ShapeFits edition (bodyAt bytes place)) _ (room .1) .0 in
-    ap rowQuestions (stands-once (bodyAt bytes place) c d (at-c shape) (at-d shape)))
+    ap rowQuestions (stands-once (bodyAt bytes place) shape c d (at-c shape) (at-d shape)))
     one other
 
 -- the part of the bytes from the one place to the other is the body

@@ -1,7 +1,8 @@
 -- Rows are read one after the other: what reading gives from a place on, behind the rows read before it, is what it gives from the start.
-use Rattle.table.proofs.Names.{Constraint, List, ReadsAt, ReadsRows, RowRead, Table, TableRead, [], _++_, _<_, _∷_, _≡_, _≤_, ap, arith}
+use Rattle.table.proofs.Names.{Constraint, List, ReadsAt, ReadsRows, Refused, Table, Taken, TableRead, [], _++_, _+_, _<_, _∷_, _≡_, _≤_, ap, arith}
 use Rattle.table.proofs.Names.{length, length-append, no-more, refl, row-refused, row-taken, rowThen, rows-length}
 use Rattle.table.proofs.Names.{rowsOf, subst, subst₂, sym, table-of, table-refused, ℕ}
+use Rattle.table.proofs.Names.{lengthAt, rowReadAt}
 use Rattle.table.proofs.Places.{place-taken}
 
 -- what is read behind some rows
@@ -33,25 +34,26 @@ pub rows-start : (edition : ℕ) (bytes : List ℕ) → 0 < length bytes → Row
 unfolding rowsThen
 rows-start edition bytes there = record { within = there; whole = λ later reads. reads }
 
-pub rows-more : (edition : ℕ) (bytes : List ℕ) (rows : List Constraint) (i place next : ℕ) (c : Constraint) → i ≡ length rows
-    → RowsUpTo edition bytes rows place
-    → place < length bytes → ReadsAt edition bytes i place (RowRead.Row c next) → RowsUpTo edition bytes (rows ++ (c ∷ [])) next
-rows-more edition bytes rows i place next c counted before there read =
+pub rows-more : (edition : ℕ) (bytes : List ℕ) (rows : List Constraint) (i place next : ℕ) → i ≡ length rows → RowsUpTo edition bytes rows place
+    → place < length bytes → ReadsAt edition bytes i place Taken → next ≡ place + 2 + lengthAt bytes place
+    → RowsUpTo edition bytes (rows ++ (rowReadAt bytes place ∷ [])) next
+rows-more edition bytes rows i place next counted before there read behind =
+    let c = rowReadAt bytes place in
     let taken = place-taken edition bytes i place c (read .1) in
     record {
-      within = omega arith;
+      within = omega (arith, taken .whole .1, behind);
       whole = λ later reads.
           subst (ReadsRows edition bytes 0 1) (then-more rows c later)
           (before .whole (rowThen c later)
           (row-taken c there (read .0) (rw counted at (read .1))
-          (subst₂ (λ (i p : ℕ). ReadsRows edition bytes i p later) (length-append rows (c ∷ [])) (read .2) reads)));
+          (subst₂ (λ (i p : ℕ). ReadsRows edition bytes i p later) (length-append rows (c ∷ [])) behind reads)));
     }
 
 pub rows-refused : (edition : ℕ) (bytes : List ℕ) (rows : List Constraint) (i place n : ℕ) → i ≡ length rows → RowsUpTo edition bytes rows place
-    → place < length bytes → ReadsAt edition bytes i place (RowRead.Refused n) → ReadsRows edition bytes 0 1 (table-refused n place)
+    → place < length bytes → ReadsAt edition bytes i place (Refused n) → ReadsRows edition bytes 0 1 (table-refused n place)
 rows-refused edition bytes rows i place n counted before there read =
     subst (ReadsRows edition bytes 0 1) (then-refused rows n place)
-    (before .whole (table-refused n place) (row-refused n (read .0) there (read .1) (rw counted at (read .2))))
+    (before .whole (table-refused n place) (row-refused n (rowReadAt bytes place) there (read .0) (rw counted at (read .1))))
 
 pub rows-end : (edition : ℕ) (bytes : List ℕ) (rows : List Constraint) (place : ℕ) → RowsUpTo edition bytes rows place → length bytes ≤ place
     → ReadsRows edition bytes 0 1 (table-of rows)
@@ -64,14 +66,14 @@ ReadUpTo edition bytes table place = RowsUpTo edition bytes (rowsOf table) place
 pub up-to-start : (edition : ℕ) (bytes : List ℕ) (table : Table) → 0 < length bytes → rowsOf table ≡ [] → ReadUpTo edition bytes table 1
 up-to-start edition bytes table there none = rw none (rows-start edition bytes there)
 
-pub up-to-more : (edition : ℕ) (bytes : List ℕ) (table more : Table) (place next : ℕ) (c : Constraint) → ReadUpTo edition bytes table place
-    → place < length bytes
-    → ReadsAt edition bytes (table .count) place (RowRead.Row c next) → rowsOf more ≡ rowsOf table ++ (c ∷ []) → ReadUpTo edition bytes more next
-up-to-more edition bytes table more place next c up-to there read added =
-    rw added (rows-more edition bytes (rowsOf table) (table .count) place next c (sym (rows-length table)) up-to there read)
+pub up-to-more : (edition : ℕ) (bytes : List ℕ) (table more : Table) (place next : ℕ) → ReadUpTo edition bytes table place → place < length bytes
+    → ReadsAt edition bytes (table .count) place Taken → next ≡ place + 2 + lengthAt bytes place
+    → rowsOf more ≡ rowsOf table ++ (rowReadAt bytes place ∷ []) → ReadUpTo edition bytes more next
+up-to-more edition bytes table more place next up-to there read behind added =
+    rw added (rows-more edition bytes (rowsOf table) (table .count) place next (sym (rows-length table)) up-to there read behind)
 
 pub up-to-refused : (edition : ℕ) (bytes : List ℕ) (table : Table) (place n : ℕ) → ReadUpTo edition bytes table place → place < length bytes
-    → ReadsAt edition bytes (table .count) place (RowRead.Refused n) → ReadsRows edition bytes 0 1 (table-refused n place)
+    → ReadsAt edition bytes (table .count) place (Refused n) → ReadsRows edition bytes 0 1 (table-refused n place)
 up-to-refused edition bytes table place n up-to there read =
     rows-refused edition bytes (rowsOf table) (table .count) place n (sym (rows-length table)) up-to there read
 

@@ -1,23 +1,34 @@
 -- Rows as raw bytes are the rows that their bodies stand for, and a body stands for one row: so an accepted table whose rows are given as raw
 -- bytes is written as the table that it was.
-use Rattle.table.proofs.Names.{AcceptedIn, Bytes, Constraint, Judged, KnownAt, List, Question, RawRows, ReadsTableUpTo, Refused, ShapeFits}
-use Rattle.table.proofs.Names.{StandsFor, Taken, WriteAnswer, Writes, WritesRaw, [], _*_, _++_, _+_, _<_, _∙_, _∷_, _≡_, _≤_, add-zero}
-use Rattle.table.proofs.Names.{all-read, ap, arith, at, drop, ext-getD, filler, getD, getD-drop, getD-take, judged-all, judged-later}
-use Rattle.table.proofs.Names.{judged-none, judged-once, judged-parts, judged-yes, lastType, length, length-take, length-take-le, lengthOf}
-use Rattle.table.proofs.Names.{never, rawBody, rawSize, row-accepted, row-fits, rowLimit, rowQuestionsIn, rows-room, rows-then}
-use Rattle.table.proofs.Names.{rowsQuestions, stopped-at, subst, sym, table-of, take, take-all, take-append-drop, takesCount}
-use Rattle.table.proofs.Names.{typeOf, ℕ}
-use Rattle.table.proofs.{AcceptedRows.read-accepted, RoundTripCode.rows-write, Scanning.row-there, BodyUnique.stands-once}
+use Rattle.table.proofs.Names.{AcceptedIn, Bytes, Constraint, Judged, KnownAt, List, Question, RawRows, ReadBack, ReadsTableUpTo, Refused}
+use Rattle.table.proofs.Names.{ShapeFits, StandsFor, Taken, TypeKnown, WriteAnswer, Writes, WritesRaw, [], _*_, _++_, _+_, _<_, _∙_, _∷_, _≡_}
+use Rattle.table.proofs.Names.{_≤_, add-zero, all-read, ap, arith, at, drop, ext-getD, filler, getD, getD-drop, getD-take, judged-later}
+use Rattle.table.proofs.Names.{judged-none, judged-once, judged-parts, judged-yes, length, length-take, length-take-le, lengthOf, never, rawBody}
+use Rattle.table.proofs.Names.{rawSize, row-accepted, rowLimit, rowQuestionsIn, rows-room, rows-then, rowsQuestions, stands-once, stopped-at}
+use Rattle.table.proofs.Names.{subst, subst₂, sym, table-of, take, take-all, take-append-drop, two-long, write-back, ℕ}
+use Rattle.table.proofs.{AcceptedRows.read-accepted, RoundTripCode.rows-write, Scanning.row-there}
 
 -- ---- the rows of some raw bytes
 
+-- a row of an accepted table is read back
+accepted-back : (edition : ℕ) (rows : List Constraint) → AcceptedIn edition rows → (i : ℕ) → i < length rows → ReadBack edition (getD rows i filler)
+accepted-back edition rows accepted i there = write-back edition _ (row-accepted edition 0 rows accepted i _ (row-there rows i filler there))
+
+-- so a body that stands for it has a fitting shape
+raw-fits : (edition : ℕ) (bytes : List ℕ) (i : ℕ) (c : Constraint) → ReadBack edition c → StandsFor (rawBody bytes i) c
+    → ShapeFits edition (rawBody bytes i)
+raw-fits edition bytes i c back stands = subst (ShapeFits edition) (stands .bytes) (back .shape-fits)
+
 -- two lists of rows that bytes begin with begin alike
-pub raw-once : (bytes : List ℕ) (rows others : List Constraint) → RawRows bytes rows → RawRows bytes others → length rows ≤ length others
-    → rows ≡ take (length rows) others
-raw-once bytes rows others one two short =
+pub raw-once : (edition : ℕ) (bytes : List ℕ) (rows others : List Constraint) → AcceptedIn edition others → RawRows bytes rows → RawRows bytes others
+    → length rows ≤ length others → rows ≡ take (length rows) others
+raw-once edition bytes rows others accepted one two short =
     let long : length (take (length rows) others) ≡ length rows = length-take-le (length rows) others short in
     ext-getD filler rows (take (length rows) others) (sym long)
-    (λ i h. stands-once (rawBody bytes i) _ _ (one .stand i h) (two .stand i (omega arith)) ∙ sym (getD-take (length rows) others i filler h))
+    (λ i h.
+    let less : i < length others = omega arith in
+    let fits = raw-fits edition bytes i (getD others i filler) (accepted-back edition others accepted i less) (two .stand i less) in
+    stands-once (rawBody bytes i) fits _ _ (one .stand i h) (two .stand i less) ∙ sym (getD-take (length rows) others i filler h))
 
 -- ---- rows before others
 
@@ -38,28 +49,18 @@ first-accepted edition rows n accepted =
 
 -- ---- the table of rows given as raw bytes
 
-module _ (edition : ℕ) (raw : List ℕ) (i : ℕ) (c : Constraint) (typed : typeOf c ≤ lastType edition) (stands : StandsFor (rawBody raw i) c) where
-  fits : ShapeFits edition (rawBody raw i)
-  fits = subst (ShapeFits edition) (stands .bytes) (row-fits edition c typed)
-
+module _ (edition : ℕ) (raw : List ℕ) (i : ℕ) (fits : ShapeFits edition (rawBody raw i)) where
   byte-there : (j : ℕ) → j < length (rawBody raw i) → at (rawBody raw i) j ≡ at raw (i * rawSize + j)
   byte-there j less =
       let size = lengthOf (at raw (i * rawSize)) (at raw (i * rawSize + 1)) in
       getD-take size (drop (i * rawSize) raw) j 0 (omega (arith, length-take size (drop (i * rawSize) raw))) ∙ getD-drop (i * rawSize) raw j 0
 
-  pub stands-known : KnownAt edition raw i
-  stands-known =
-      let first : at (rawBody raw i) 0 ≡ at raw (i * rawSize) = byte-there 0 (fits .type-there) ∙ ap (at raw) (add-zero (i * rawSize)) in
-      record {
-        type-known = rw first at (fits .type-known);
-        n-known = λ has.
-            let has-n = ap takesCount first ∙ has in rw (byte-there 1 (fits .n-there has-n)) at (fits .n-known has-n);
-      }
-
--- a row of an accepted table has a type of the edition
-row-typed : (edition : ℕ) (rows : List Constraint) → AcceptedIn edition rows → (i : ℕ) → i < length rows
-    → typeOf (getD rows i filler) ≤ lastType edition
-row-typed edition rows accepted i there = judged-all 4 _ _ (row-accepted edition 0 rows accepted i _ (row-there rows i filler there)) .0
+  pub shape-known : TypeKnown edition (at raw (i * rawSize)) (at raw (i * rawSize + 1))
+  shape-known =
+      let two : 2 ≤ length (rawBody raw i) =
+      omega (arith, fits .length-right, two-long edition (at (rawBody raw i) 0) (at (rawBody raw i) 1) (fits .known)) in
+      subst₂ (TypeKnown edition) (byte-there 0 (omega (arith, two)) ∙ ap (at raw) (add-zero (i * rawSize))) (byte-there 1 (omega (arith, two)))
+      (fits .known)
 
 module _ {newest : ℕ} (raw bytes before : List ℕ) (rows : List Constraint) (each : Bytes bytes)
     (reads : ReadsTableUpTo newest bytes (table-of rows)) (given : RawRows raw rows) (end : length raw < (length rows + 1) * rawSize)
@@ -70,17 +71,18 @@ module _ {newest : ℕ} (raw bytes before : List ℕ) (rows : List Constraint) (
   raw-write {w = w} {after = after} (all-read others read past writes) =
       let count : length others ≡ length rows = omega (arith, read .whole, given .whole) in
       let same : others ≡ rows =
-      raw-once raw others rows read given (omega arith) ∙ ap (λ (n : ℕ). take n rows) count ∙ take-all (length rows) rows (omega arith) in
+      raw-once (at bytes 0) raw others rows (read-accepted bytes rows reads) read given (omega arith) ∙ ap (λ (n : ℕ). take n rows) count ∙ take-all (length rows) rows (omega arith) in
       rows-write bytes before after rows w each reads long (subst (λ (l : List Constraint). Writes (at bytes 0) l before w after) same writes)
   raw-write (stopped-at others n read more judged) =
       let fewer : length others < length rows = omega arith in
       let accepted = read-accepted bytes rows reads in
       let few : 0 + length rows ≤ rowLimit = rows-room (at bytes 0) 0 rows (omega arith) accepted in
-      let same : others ≡ take (length others) rows = raw-once raw others rows read given (omega arith) in
+      let same : others ≡ take (length others) rows = raw-once (at bytes 0) raw others rows (read-accepted bytes rows reads) read given (omega arith) in
       let edition = at bytes 0 in
       let taken = subst (AcceptedIn edition) (sym same) (first-accepted edition rows (length others) accepted) in
-      let known = stands-known edition raw (length others) (getD rows (length others) filler)
-      (row-typed edition rows accepted (length others) fewer) (given .stand (length others) fewer) in
+      let back = accepted-back edition rows accepted (length others) fewer in
+      let fits = raw-fits edition raw (length others) _ back (given .stand (length others) fewer) in
+      let known : KnownAt edition raw (length others) = (shape-known edition raw (length others) fits, given .fit (length others) fewer) in
       let all : Judged (rowsQuestions edition 0 others ((3, length others < rowLimit) ∷ (4, KnownAt edition raw (length others)) ∷ [])) Taken =
       rw (rows-then edition) (judged-later (rowsQuestions edition 0 others []) _ Taken taken
       (judged-yes 3 _ _ Taken (omega arith) (judged-yes 4 _ _ Taken known judged-none))) in

@@ -1,24 +1,15 @@
 -- A row's first bytes, as many as its type has, are a body of fitting shape, so they stand for the row that is read from them; and where the
 -- next row is a 33rd or of no known type, 3 and 4 are asked after the rows before it.
-use Rattle.table.proofs.Names.{Bool, Bytes, Constraint, Decides, Judged, Known, KnownAt, List, RawRows, Refused, RowTaken, ShapeFits}
-use Rattle.table.proofs.Names.{StandsFor, Taken, TypeKnown, WriteAnswer, Writes, WritesRaw, [], _*_, _++_, _+_, _-_, _<_, _∙_, _∷_, _≡_, _≤_}
-use Rattle.table.proofs.Names.{add-zero, all-read, ap, ap₂, arith, at, bodyLength, constraintOf, drop, eq-eqb, eqb, eqb-false, eqb-true}
-use Rattle.table.proofs.Names.{filler, getD, getD-drop, getD-take, judged-first, judged-later, judged-no, judged-yes, last-listed, length}
-use Rattle.table.proofs.Names.{length-append, length-drop, length-plain, length-short, length-take-le, lengthOf, lengths, ltb, ltb-false}
-use Rattle.table.proofs.Names.{ltb-true}
-use Rattle.table.proofs.Names.{rawBody, rawRows, rawSize, read-back, refl, rowBody, rowBytes, rowLimit, rows-then, rowsBytes, rowsQuestions}
-use Rattle.table.proofs.Names.{sets, split}
-use Rattle.table.proofs.Names.{stopped-at, stores-append, suc, sym, takesCount, true, yes-of, zero, ℕ}
-use Rattle.table.proofs.{Bodies.bytes-part, Bodies.row-length, Shapes.shape-asked, BodyUnique.row-stands, Written.written-refused}
+use Rattle.table.proofs.Names.{Bytes, Constraint, Judged, KnownAt, KnownRows, List, RawRows, Refused, RowTaken, ShapeFits, StandsFor, Taken}
+use Rattle.table.proofs.Names.{TypeKnown, WriteAnswer, Writes, WritesRaw, [], _*_, _++_, _+_, _-_, _<_, _∙_, _∷_, _≡_, _≤_, add-zero, all-read}
+use Rattle.table.proofs.Names.{ap, ap₂, arith, at, bodyLength, bytes-part, drop, eqb, eqb-false, eqb-true, filler, getD, getD-drop, getD-take}
+use Rattle.table.proofs.Names.{judged-first, judged-later, judged-no, judged-yes, length, length-append, length-drop, length-take-le, lengthOf}
+use Rattle.table.proofs.Names.{ltb, ltb-false, ltb-true, rawBody, rawRow, rawRows, rawSize, refl, row-bytes-long, row-stands, rowBody, rowBytes}
+use Rattle.table.proofs.Names.{rowLimit, rows-then, rowsBytes, rowsQuestions, sets, split, stopped-at, stores-append, subst₂, suc, sym, two-long}
+use Rattle.table.proofs.Names.{countOf, stands-known, typeOf, zero, ℕ}
+use Rattle.table.proofs.Written.{written-refused}
 
--- The test of a row's type
-
-pub known-test : (edition : ℕ) (bytes : List ℕ) (i start t n : ℕ) (b : Bool) → start ≡ i * rawSize → t ≡ at bytes start
-    → n ≡ at bytes (start + 1) → Decides (TypeKnown edition t n) b → Decides (KnownAt edition bytes i) b
-known-test edition bytes i start t n b there first second d =
-    let one : t ≡ at bytes (i * rawSize) = first ∙ ap (at bytes) there in
-    let two : n ≡ at bytes (i * rawSize + 1) = second ∙ ap (λ (s : ℕ). at bytes (s + 1)) there in
-    rw (← one, ← two) d
+-- Rows of known types
 
 pub known-more : (edition : ℕ) (bytes : List ℕ) (i : ℕ) → ((j : ℕ) → j < i → KnownAt edition bytes j) → KnownAt edition bytes i
     → (j : ℕ) → j < i + 1 → KnownAt edition bytes j
@@ -33,17 +24,6 @@ taken-more edition bytes i to here j below =
 
 -- The body of a row of a known type
 
-known-length : (edition t n : ℕ) → TypeKnown edition t n → (0 < lengthOf t n) × (lengthOf t n ≤ rawSize)
-known-length edition t n known =
-    let listed : t < length lengths = omega (arith, known .type-known .1, last-listed edition) in (
-      omega (arith, read-back n 0 0 0 0 0 0 0 0 t (known .type-known .0, listed) (known .n-known) .long),
-      length-short t n listed (λ has. known .n-known has .1),
-    )
-
--- it is no longer than what a row is given
-pub body-short : (edition : ℕ) (bytes : List ℕ) (i : ℕ) → KnownAt edition bytes i → bodyLength bytes i ≤ rawSize
-body-short edition bytes i known = known-length edition (at bytes (i * rawSize)) (at bytes (i * rawSize + 1)) known .1
-
 module _ (edition : ℕ) (bytes : List ℕ) (i : ℕ) (known : KnownAt edition bytes i) (whole : (i + 1) * rawSize ≤ length bytes) where
   abbrev start : ℕ
   start = i * rawSize
@@ -52,7 +32,7 @@ module _ (edition : ℕ) (bytes : List ℕ) (i : ℕ) (known : KnownAt edition b
   size = lengthOf (at bytes start) (at bytes (start + 1))
 
   pub body-within : start + size ≤ length bytes
-  body-within = omega (arith, known-length edition (at bytes start) (at bytes (start + 1)) known)
+  body-within = omega (arith, known .1)
 
   body-length : length (rawBody bytes i) ≡ size
   body-length = length-take-le size (drop start bytes) (omega (arith, length-drop start bytes, body-within))
@@ -60,46 +40,42 @@ module _ (edition : ℕ) (bytes : List ℕ) (i : ℕ) (known : KnownAt edition b
   byte-there : (j : ℕ) → j < size → at (rawBody bytes i) j ≡ at bytes (start + j)
   byte-there j less = rw (getD-take size (drop start bytes) j 0 less, getD-drop start bytes j 0)
 
-  first : at bytes start ≡ at (rawBody bytes i) 0
-  first = sym (byte-there 0 (known-length edition (at bytes start) (at bytes (start + 1)) known .0) ∙ ap (at bytes) (add-zero start))
+  two : 2 ≤ size
+  two = two-long edition (at bytes start) (at bytes (start + 1)) (known .0)
 
-  -- the byte behind the type byte counts in the types that have an n alone
-  second : takesCount (at bytes start) ≡ true → at (rawBody bytes i) 1 ≡ at bytes (start + 1)
-  second has = byte-there 1 (rw has (omega (arith, known .n-known has)))
+  first : at (rawBody bytes i) 0 ≡ at bytes start
+  first = byte-there 0 (omega (arith, two)) ∙ ap (at bytes) (add-zero start)
 
-  right : length (rawBody bytes i) ≡ lengthOf (at (rawBody bytes i) 0) (at (rawBody bytes i) 1)
-  right =
-      body-length ∙ split (takesCount (at bytes start)) (λ b. size ≡ lengthOf (at (rawBody bytes i) 0) (at (rawBody bytes i) 1))
-      (λ has. ap₂ lengthOf first (sym (second has)))
-      (λ other.
-      length-plain (at bytes start) (at bytes (start + 1)) other ∙ sym (length-plain (at bytes start) (at (rawBody bytes i) 1) other)
-      ∙ ap (λ (t : ℕ). lengthOf t (at (rawBody bytes i) 1)) first)
-
-  typed : TypeKnown edition (at (rawBody bytes i) 0) (at (rawBody bytes i) 1)
-  typed =
-      record {
-        type-known = rw first at (known .type-known);
-        n-known = λ has. let t = ap takesCount first ∙ has in rw (second t) (known .n-known t);
-      }
+  second : at (rawBody bytes i) 1 ≡ at bytes (start + 1)
+  second = byte-there 1 (omega (arith, two))
 
   fits : ShapeFits edition (rawBody bytes i)
-  fits = yes-of _ (shape-asked edition (rawBody bytes i) _ _ _ refl refl refl typed) (eq-eqb _ _ right)
+  fits =
+      record {
+        type-there = omega (arith, body-length, two);
+        known = subst₂ (TypeKnown edition) (sym first) (sym second) (known .0);
+        length-right = body-length ∙ sym (ap₂ lengthOf first second);
+      }
 
   -- the row that is read from it is the one that it stands for
-  pub raw-stands : Bytes bytes → StandsFor (rawBody bytes i) (constraintOf (rawBody bytes i))
-  raw-stands each = row-stands (rawBody bytes i) (bytes-part bytes size start each) fits
+  pub raw-stands : Bytes bytes → StandsFor (rawBody bytes i) (rawRow bytes i)
+  raw-stands each = row-stands {edition = edition} (rawBody bytes i) (bytes-part bytes size start each) fits
+
+  -- and is of a known type
+  pub raw-known : Bytes bytes → TypeKnown edition (typeOf (rawRow bytes i)) (countOf (rawRow bytes i))
+  raw-known each = stands-known (rawBody bytes i) (rawRow bytes i) fits (raw-stands each)
 
   -- so its bytes are those of the row
-  pub raw-bytes : Bytes bytes → rowBody (constraintOf (rawBody bytes i)) ≡ rawBody bytes i
+  pub raw-bytes : Bytes bytes → rowBody (rawRow bytes i) ≡ rawBody bytes i
   raw-bytes each = raw-stands each .bytes
 
-  pub raw-length : Bytes bytes → length (rowBody (constraintOf (rawBody bytes i))) ≡ size
+  pub raw-length : Bytes bytes → length (rowBody (rawRow bytes i)) ≡ size
   raw-length each = ap length (raw-bytes each) ∙ body-length
 
 -- The rows one after the other
 
 -- the first of the rows that are left
-pub rows-left : (bytes : List ℕ) (i n : ℕ) → i < n → rawRows bytes i (n - i) ≡ constraintOf (rawBody bytes i) ∷ rawRows bytes (i + 1) (n - (i + 1))
+pub rows-left : (bytes : List ℕ) (i n : ℕ) → i < n → rawRows bytes i (n - i) ≡ rawRow bytes i ∷ rawRows bytes (i + 1) (n - (i + 1))
 unfolding rawRows
 rows-left bytes i n less = let more : n - i ≡ suc (n - (i + 1)) = omega arith in ap (rawRows bytes i) more
 
@@ -115,51 +91,52 @@ unfolding rawRows
 rows-counted bytes i zero = refl
 rows-counted bytes i (suc n) = ap suc (rows-counted bytes (i + 1) n)
 
-row-here : (bytes : List ℕ) (i n j : ℕ) → j < n → getD (rawRows bytes i n) j filler ≡ constraintOf (rawBody bytes (i + j))
+row-here : (bytes : List ℕ) (i n j : ℕ) → j < n → getD (rawRows bytes i n) j filler ≡ rawRow bytes (i + j)
 unfolding rawRows
 row-here bytes i zero j less = absurd (omega arith)
 row-here bytes i (suc n) zero less = rw add-zero
 row-here bytes i (suc n) (suc j) less =
-    row-here bytes (i + 1) n j (omega arith) ∙ ap (λ (k : ℕ). constraintOf (rawBody bytes k)) (omega arith)
+    row-here bytes (i + 1) n j (omega arith) ∙ ap (λ (k : ℕ). rawRow bytes k) (omega arith)
 
-pub raw-rows : (edition : ℕ) (bytes : List ℕ) (n : ℕ) → Bytes bytes → Known edition bytes n → RawRows bytes (rawRows bytes 0 n)
+pub raw-rows : (edition : ℕ) (bytes : List ℕ) (n : ℕ) → Bytes bytes → KnownRows edition bytes n → RawRows bytes (rawRows bytes 0 n)
 raw-rows edition bytes n each known =
     let counted = rows-counted bytes 0 n in
     record {
       whole = omega (arith, counted, known .whole);
+      fit = λ i below. known .known i (omega (arith, below, counted)) .1;
       stand = λ i below.
           let less : i < n = omega (arith, below, counted) in
-          let here : getD (rawRows bytes 0 n) i filler ≡ constraintOf (rawBody bytes i) =
-          row-here bytes 0 n i less ∙ ap (λ (k : ℕ). constraintOf (rawBody bytes k)) (omega arith) in
+          let here : getD (rawRows bytes 0 n) i filler ≡ rawRow bytes i =
+          row-here bytes 0 n i less ∙ ap (λ (k : ℕ). rawRow bytes k) (omega arith) in
           rw here (raw-stands edition bytes i (known .known i less) (omega (arith, known .whole)) each);
     }
 
 -- the bytes of the rows that are left: those of the first, and the others
-module _ (edition : ℕ) (bytes : List ℕ) (i n : ℕ) (each : Bytes bytes) (known : Known edition bytes n) (less : i < n) where
-  left-bytes : rowsBytes (rawRows bytes i (n - i)) ≡ rowBytes (constraintOf (rawBody bytes i)) ++ rowsBytes (rawRows bytes (i + 1) (n - (i + 1)))
+module _ (edition : ℕ) (bytes : List ℕ) (i n : ℕ) (each : Bytes bytes) (known : KnownRows edition bytes n) (less : i < n) where
+  left-bytes : rowsBytes (rawRows bytes i (n - i)) ≡ rowBytes (rawRow bytes i) ++ rowsBytes (rawRows bytes (i + 1) (n - (i + 1)))
   unfolding rowsBytes
   left-bytes = ap rowsBytes (rows-left bytes i n less)
 
-  long : length (rowBytes (constraintOf (rawBody bytes i))) ≡ 2 + bodyLength bytes i
-  long = row-length _ ∙ ap (λ (k : ℕ). 2 + k) (raw-length edition bytes i (known .known i less) (omega (arith, known .whole)) each)
+  long : length (rowBytes (rawRow bytes i)) ≡ 2 + bodyLength bytes i
+  long = row-bytes-long _ ∙ ap (λ (k : ℕ). 2 + k) (raw-length edition bytes i (known .known i less) (omega (arith, known .whole)) each)
 
   pub left-size : length (rowsBytes (rawRows bytes i (n - i)))
       ≡ 2 + bodyLength bytes i + length (rowsBytes (rawRows bytes (i + 1) (n - (i + 1))))
-  left-size = ap length left-bytes ∙ length-append (rowBytes (constraintOf (rawBody bytes i))) _ ∙ omega (arith, long)
+  left-size = ap length left-bytes ∙ length-append (rowBytes (rawRow bytes i)) _ ∙ omega (arith, long)
 
   pub left-stored : (buffer : List ℕ) (place : ℕ) → sets buffer place (rowsBytes (rawRows bytes i (n - i)))
-      ≡ sets (sets buffer place (rowBytes (constraintOf (rawBody bytes i)))) (place + 2 + bodyLength bytes i)
+      ≡ sets (sets buffer place (rowBytes (rawRow bytes i))) (place + 2 + bodyLength bytes i)
       (rowsBytes (rawRows bytes (i + 1) (n - (i + 1))))
   left-stored buffer place =
       ap (sets buffer place) left-bytes
-      ∙ stores-append buffer place (rowBytes (constraintOf (rawBody bytes i))) _
-      ∙ ap (λ (k : ℕ). sets (sets buffer place (rowBytes (constraintOf (rawBody bytes i)))) k
+      ∙ stores-append buffer place (rowBytes (rawRow bytes i)) _
+      ∙ ap (λ (k : ℕ). sets (sets buffer place (rowBytes (rawRow bytes i))) k
       (rowsBytes (rawRows bytes (i + 1) (n - (i + 1))))) (omega (arith, long))
 
 -- The answer
 
 -- a row is refused: the questions of the rows end there, whether more rows stand behind the known ones or not
-pub known-refused : (edition : ℕ) (bytes before : List ℕ) (n number : ℕ) → Bytes bytes → Known edition bytes n
+pub known-refused : (edition : ℕ) (bytes before : List ℕ) (n number : ℕ) → Bytes bytes → KnownRows edition bytes n
     → Judged (rowsQuestions edition 0 (rawRows bytes 0 n) []) (Refused number) → WritesRaw edition bytes before (WriteAnswer.Refused number) before
 known-refused edition bytes before n number each known judged =
     let rows = rawRows bytes 0 n in let raw = raw-rows edition bytes n each known in let counted = rows-counted bytes 0 n in
@@ -169,12 +146,12 @@ known-refused edition bytes before n number each known judged =
     (rw (rows-then edition) (judged-first (rowsQuestions edition 0 rows []) _ number judged)))
 
 -- all the rows are known
-pub all-written : (edition : ℕ) (bytes before after : List ℕ) (n : ℕ) (r : WriteAnswer) → Bytes bytes → Known edition bytes n
+pub all-written : (edition : ℕ) (bytes before after : List ℕ) (n : ℕ) (r : WriteAnswer) → Bytes bytes → KnownRows edition bytes n
     → length bytes < (n + 1) * rawSize → Writes edition (rawRows bytes 0 n) before r after → WritesRaw edition bytes before r after
 all-written edition bytes before after n r each known past writes =
     all-read (rawRows bytes 0 n) (raw-rows edition bytes n each known) (rw (rows-counted bytes 0 n) past) writes
 
-module _ (edition : ℕ) (bytes before : List ℕ) (n : ℕ) (each : Bytes bytes) (known : Known edition bytes n)
+module _ (edition : ℕ) (bytes before : List ℕ) (n : ℕ) (each : Bytes bytes) (known : KnownRows edition bytes n)
     (more : (n + 1) * rawSize ≤ length bytes) where
   abbrev rows : List Constraint
   rows = rawRows bytes 0 n

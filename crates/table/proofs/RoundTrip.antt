@@ -1,12 +1,13 @@
 -- What is read from bytes is written back to those bytes, and what is written is read back, since a row and its body say the same.
-use Rattle.table.proofs.Names.{AcceptedIn, Bytes, Constraint, InRange, Judged, KindsFit, KindsSuit, List, ReadsRows, ReadsTableUpTo, RowAt}
+use Rattle.table.proofs.Names.{AcceptedIn, Bytes, Constraint, Judged, List, ReadsRows, ReadsTableUpTo, RowAt}
 use Rattle.table.proofs.Names.{StandsFor, TableRead, Taken, WholeAt, [], _++_, _+_, _<_, _∙_, _∷_, _≡_, _≤_, ap, append-assoc, ap₂, arith, at}
 use Rattle.table.proofs.Names.{bodyAt, bytes-length, bytesAt, bytesOf, drop, drop-append-seam, drop-at, drop-cons, drop-drop}
-use Rattle.table.proofs.Names.{drop-of-length-le, edition-above, fieldsOf, judged-all, judged-parts, kinds, lastType, length, length-append}
-use Rattle.table.proofs.Names.{length-drop, length-take-le, lengthAt, no-more, number-of-bytes, placeQuestions, row-fits, row-refused}
+use Rattle.table.proofs.Names.{drop-of-length-le, edition-above, judged-all, judged-parts, lastType, length, length-append}
+use Rattle.table.proofs.Names.{length-drop, length-take-le, lengthAt, no-more, number-of-bytes, placeQuestions, row-refused}
 use Rattle.table.proofs.Names.{row-taken, rowBody, rowBytes, rowLimit, rowQuestions, rowThen, rowsBytes, rowsQuestions, subst₂, sym, table-of}
 use Rattle.table.proofs.Names.{table-refused, tableBytesIn, take-append-drop, take-append-seam, take-at, typeOf, version-taken, ℕ}
-use Rattle.table.proofs.{Bodies.number-back, Bodies.range-fits, Bodies.row-length, Places.place-row, Places.place-taken, BodyUnique.body-short}
+use Rattle.table.proofs.Names.{ReadBack, TypeKnown, countOf, known-short, number-back, row-bytes-long, rowQuestionsIn, write-back}
+use Rattle.table.proofs.{Places.place-row, Places.place-taken}
 
 -- From bytes to rows and back
 
@@ -59,11 +60,11 @@ read-then-write bytes rows all (version-taken version reads) =
 
 -- From rows to bytes and back
 
-row-ranges : (c : Constraint) → Judged (rowQuestions c) Taken → InRange c
-row-ranges c judged = judged-all 6 (InRange c) _ (judged-all 18 (KindsSuit c) _ (judged-all 5 (KindsFit (kinds c)) _ judged .1) .1) .0
-
 -- the length field and the body of a row that stands behind other bytes
-module _ (edition : ℕ) (before : List ℕ) (c : Constraint) (after : List ℕ) where
+module _ (edition : ℕ) (before : List ℕ) (c : Constraint) (after : List ℕ) (back : ReadBack edition c) where
+  body-short : length (rowBody c) ≤ 162
+  body-short = omega (arith, back .shape-fits .length-right, known-short edition (at (rowBody c) 0) (at (rowBody c) 1) (back .shape-fits .known))
+
   length-there : lengthAt (before ++ (rowBytes c ++ after)) (length before) ≡ length (rowBody c)
   unfolding rowBytes
   length-there =
@@ -72,7 +73,7 @@ module _ (edition : ℕ) (before : List ℕ) (c : Constraint) (after : List ℕ)
         append-assoc (bytesOf 2 (length (rowBody c))) (rowBody c) after,
         take-at (bytesOf 2 (length (rowBody c))) (rowBody c ++ after) 2 (bytes-length 2 (length (rowBody c))),
       )
-      (number-of-bytes 2 (length (rowBody c)) (omega (arith, body-short c)))
+      (number-of-bytes 2 (length (rowBody c)) (omega (arith, body-short)))
 
   body-there : bodyAt (before ++ (rowBytes c ++ after)) (length before) ≡ rowBody c
   unfolding rowBytes
@@ -87,16 +88,15 @@ module _ (edition : ℕ) (before : List ℕ) (c : Constraint) (after : List ℕ)
       (take-append-seam (rowBody c) after)
 
   -- it stands there, and its questions are answered "yes" where the row's own are
-  row-there : Judged (rowQuestions c) Taken → RowAt edition (before ++ (rowBytes c ++ after)) (length before) c
-  unfolding InRange
-  row-there judged shape = record { bytes = sym body-there; fits = range-fits (fieldsOf c) (row-ranges c judged) }
+  row-there : RowAt edition (before ++ (rowBytes c ++ after)) (length before) c
+  row-there shape = record { bytes = sym body-there; fits = back .stands .fits }
 
-  row-read : (i : ℕ) → i < rowLimit → typeOf c ≤ lastType edition → Judged (rowQuestions c) Taken
+  row-read : (i : ℕ) → i < rowLimit → Judged (rowQuestions c) Taken
       → Judged (placeQuestions edition (before ++ (rowBytes c ++ after)) i (length before) c) Taken
-  row-read i room typed judged =
+  row-read i room judged =
       place-row edition (before ++ (rowBytes c ++ after)) i (length before) c Taken
-      (rw length-there (omega (arith, length-append before (rowBytes c ++ after), length-append (rowBytes c) after, row-length c))) room
-      (rw body-there (row-fits edition c typed)) judged
+      (rw length-there (omega (arith, length-append before (rowBytes c ++ after), length-append (rowBytes c) after, row-bytes-long c))) room
+      (rw body-there (back .shape-fits)) judged
 
 rows-read : (edition : ℕ) (before : List ℕ) (i : ℕ) (rows : List Constraint) → Judged (rowsQuestions edition i rows []) Taken
     → ReadsRows edition (before ++ rowsBytes rows) i (length before) (table-of rows)
@@ -106,15 +106,16 @@ rows-read edition before i (c ∷ rows) judged =
     let after = rowsBytes rows in
     let bytes = before ++ (rowBytes c ++ after) in
     let room = judged-all 3 (i < rowLimit) _ judged in
-    let known = judged-all 4 (typeOf c ≤ lastType edition) _ (room .1) in
-    let parts = judged-parts (rowQuestions c) (rowsQuestions edition (i + 1) rows []) (known .1) in
+    let parts = judged-parts (rowQuestionsIn edition c) (rowsQuestions edition (i + 1) rows []) (room .1) in
+    let back = write-back edition c (parts .0) in
+    let own = judged-all 4 (TypeKnown edition (typeOf c) (countOf c)) _ (parts .0) .1 in
     let next : length (before ++ rowBytes c) ≡ length before + 2 + lengthAt bytes (length before) =
-    omega (arith, length-append before (rowBytes c), row-length c, length-there edition before c after) in
+    omega (arith, length-append before (rowBytes c), row-bytes-long c, length-there edition before c after back) in
     let later : ReadsRows edition bytes (i + 1) (length before + 2 + lengthAt bytes (length before)) (table-of rows) =
     subst₂ (λ (l : List ℕ) (place : ℕ). ReadsRows edition l (i + 1) place (table-of rows)) (append-assoc before (rowBytes c) after) next
     (rows-read edition (before ++ rowBytes c) (i + 1) rows (parts .1)) in
-    row-taken {place = length before} c (omega (arith, length-append before (rowBytes c ++ after), length-append (rowBytes c) after, row-length c))
-    (row-there edition before c after (parts .0)) (row-read edition before c after i (room .0) (known .0) (parts .0)) later
+    row-taken {place = length before} c (omega (arith, length-append before (rowBytes c ++ after), length-append (rowBytes c) after, row-bytes-long c))
+    (row-there edition before c after back) (row-read edition before c after back i (room .0) own) later
 
 -- §4.10, §16.7: what is written in an edition that the reader takes is read back
 pub write-then-read : (newest edition : ℕ) (rows : List Constraint) → 0 < lastType edition → edition ≤ newest → AcceptedIn edition rows

@@ -1,11 +1,12 @@
 -- A table is read again row by row: a body stands for one row only, so the row at each place is the one that was read there.
-use Rattle.table.proofs.Names.{Constraint, Counted, List, Placed, PlacedAt, ReadAnswer, ReadsAt, ReadsRows, ReadsTableUpTo, RowRead, Says}
+use Rattle.table.proofs.Names.{Constraint, Counted, List, Placed, PlacedAt, ReadAnswer, ReadsAt, ReadsRows, ReadsTableUpTo, Refused, Says, Taken}
 use Rattle.table.proofs.Names.{TableRead, VersionUpTo, [], _++_, _+_, _<_, _∙_, _∷_, _≡_, _≤_, add-one, ap, arith, at, bodyAt, drop, drop-cons}
 use Rattle.table.proofs.Names.{getD, getElem?, length, length-append, never, no-more, refl, row-refused, row-taken, rowLimit, subst, subst₂}
 use Rattle.table.proofs.Names.{suc, sym}
 use Rattle.table.proofs.Names.{some, table-of, table-refused, version-taken, zero, ℕ}
 use Rattle.table.proofs.Progress.{RowsUpTo, rows-end, rows-more, rows-refused, rows-start}
-use Rattle.table.proofs.{AcceptedRows.rows-accepted, ReadUnique.reads-once, Places.place-taken, BodyUnique.stands-once}
+use Rattle.table.proofs.{AcceptedRows.rows-accepted, ReadUnique.reads-once, Places.place-taken}
+use Rattle.table.proofs.Names.{lengthAt, rowIn, rowReadAt, stands-once}
 
 -- Judging
 
@@ -19,20 +20,21 @@ pub record CountedTo (edition : ℕ) (bytes : List ℕ) (count place : ℕ) : Ty
 pub counted-start : (edition : ℕ) (bytes : List ℕ) → 0 < length bytes → CountedTo edition bytes 0 1
 counted-start edition bytes there = record { rows = []; counted = refl; room = omega arith; before = rows-start edition bytes there }
 
-pub counted-more : (edition : ℕ) (bytes : List ℕ) (count place next : ℕ) (c : Constraint) → CountedTo edition bytes count place → place < length bytes
-    → ReadsAt edition bytes count place (RowRead.Row c next) → CountedTo edition bytes (count + 1) next
-counted-more edition bytes count place next c so-far there read =
+pub counted-more : (edition : ℕ) (bytes : List ℕ) (count place next : ℕ) → CountedTo edition bytes count place → place < length bytes
+    → ReadsAt edition bytes count place Taken → next ≡ place + 2 + lengthAt bytes place → CountedTo edition bytes (count + 1) next
+counted-more edition bytes count place next so-far there read behind =
+    let c = rowReadAt bytes place in
     let taken = place-taken edition bytes count place c (read .1) in
     let longer = length-append (so-far .rows) (c ∷ []) in
     record {
       rows = so-far .rows ++ (c ∷ []);
       counted = omega (arith, so-far .counted, longer);
       room = omega (arith, taken .room);
-      before = rows-more edition bytes (so-far .rows) count place next c (so-far .counted) (so-far .before) there read;
+      before = rows-more edition bytes (so-far .rows) count place next (so-far .counted) (so-far .before) there read behind;
     }
 
 pub counted-refused : (edition : ℕ) (bytes : List ℕ) (count place n : ℕ) → CountedTo edition bytes count place → place < length bytes
-    → ReadsAt edition bytes count place (RowRead.Refused n) → ReadsRows edition bytes 0 1 (table-refused n place)
+    → ReadsAt edition bytes count place (Refused n) → ReadsRows edition bytes 0 1 (table-refused n place)
 counted-refused edition bytes count place n so-far there read =
     rows-refused edition bytes (so-far .rows) count place n (so-far .counted) (so-far .before) there read
 
@@ -72,12 +74,12 @@ scan-start bytes rows (version-taken version reads) = reads
 
 -- the row at a place is the first of those that are read from there on, and the next place is where the others are read
 pub scan-row : {edition : ℕ} (bytes : List ℕ) {i place : ℕ} (c : Constraint) (later : List Constraint) (r : Placed)
-    → ReadsRows edition bytes i place (table-of (c ∷ later)) → PlacedAt bytes place r → (r .row ≡ c) × ReadsRows edition bytes (i + 1) (r .next)
+    → ReadsRows edition bytes i place (table-of (c ∷ later)) → PlacedAt bytes place r → (rowIn (r .row) ≡ c) × ReadsRows edition bytes (i + 1) (r .next)
     (table-of later)
 scan-row {edition} bytes c later r reads placed = go reads refl placed
   where
     go : {i place : ℕ} {read : TableRead} → ReadsRows edition bytes i place read → read ≡ table-of (c ∷ later) → PlacedAt bytes place r
-        → (r .row ≡ c) × ReadsRows edition bytes (i + 1) (r .next) (table-of later)
+        → (rowIn (r .row) ≡ c) × ReadsRows edition bytes (i + 1) (r .next) (table-of later)
     go (no-more end) e there = never (cc)
     go (row-refused n d within at-d refused) e there = never (cc)
     go (row-taken {i = i} {place = place} {later = table-refused n p} d within at-d judged reads) e there = never (cc)
@@ -85,7 +87,7 @@ scan-row {edition} bytes c later r reads placed = go reads refl placed
         let taken = place-taken edition bytes i place d judged in
         let first : d ≡ c = cc in
         let rest : others ≡ later = cc in (
-          stands-once (bodyAt bytes place) (r .row) d (there .stands (taken .whole) edition (taken .shape)) (at-d (taken .shape)) ∙ first,
+          stands-once (bodyAt bytes place) (taken .shape) (rowIn (r .row)) d (there .stands (taken .whole) edition (taken .shape)) (at-d (taken .shape)) ∙ first,
           subst₂ (λ (p : ℕ) (rows : List Constraint). ReadsRows edition bytes (i + 1) p (table-of rows)) (sym (there .behind (taken .whole))) rest
               reads,
         )
@@ -93,7 +95,7 @@ scan-row {edition} bytes c later r reads placed = go reads refl placed
 -- so the i-th row that is read is the row i
 pub scan-step : {edition : ℕ} (bytes : List ℕ) (rows : List Constraint) (i place : ℕ) (none : Constraint) (r : Placed) → i < length rows
     → ReadsRows edition bytes i place (table-of (drop i rows)) → PlacedAt bytes place r
-    → (r .row ≡ getD rows i none) × ReadsRows edition bytes (i + 1) (r .next) (table-of (drop (i + 1) rows))
+    → (rowIn (r .row) ≡ getD rows i none) × ReadsRows edition bytes (i + 1) (r .next) (table-of (drop (i + 1) rows))
 scan-step {edition} bytes rows i place none r there reads placed =
     scan-row bytes (getD rows i none) (drop (i + 1) rows) r
     (subst (λ (list : List Constraint). ReadsRows edition bytes i place (table-of list)) (rw add-one (drop-cons rows i none there)) reads) placed

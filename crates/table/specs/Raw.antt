@@ -30,14 +30,19 @@ bodyLength bytes i = lengthOf (at bytes (i * rawSize)) (at bytes (i * rawSize + 
 abbrev pub rawBody : List ℕ → ℕ → List ℕ
 rawBody bytes i = bytesAt (bodyLength bytes i) bytes (i * rawSize)
 
+-- the row that the body of row i is read as
+abbrev pub rawRow : List ℕ → ℕ → Constraint
+rawRow bytes i = rowIn (rowFrom (rawBody bytes i))
+
 -- the n rows from row i on, each the one that its body is read as
 unfoldable pub rawRows : List ℕ → ℕ → ℕ → List Constraint
 rawRows bytes i zero = []
-rawRows bytes i (suc n) = rowIn (rowFrom (rawBody bytes i)) ∷ rawRows bytes (i + 1) n
+rawRows bytes i (suc n) = rawRow bytes i ∷ rawRows bytes (i + 1) n
 
--- §4.10: the bytes begin with these rows, each the one that its body stands for
+-- §4.10: the bytes begin with these rows, each the one that its body stands for, within the bytes that it is given
 pub record RawRows (bytes : List ℕ) (rows : List Constraint) : Type 0 where
   pub whole : length rows * rawSize ≤ length bytes
+  pub fit : (i : ℕ) → i < length rows → bodyLength bytes i ≤ rawSize
   pub stand : (i : ℕ) → i < length rows → StandsFor (rawBody bytes i) (getD rows i filler)
 
 -- §8.4, where the type gives the length: the type is one of the edition, the n is known, and the bytes that the row is given are enough for it
@@ -61,7 +66,7 @@ pub record KnownRows (edition : ℕ) (bytes : List ℕ) (n : ℕ) : Type 0 where
 
 -- row i is taken: 4, and then 5, 18, 6 and 7 of the row that its body stands for (`raw-stands`)
 abbrev pub RowTaken : ℕ → List ℕ → ℕ → Type 0
-RowTaken edition bytes i = KnownAt edition bytes i × Judged (rowQuestions (rowIn (rowFrom (rawBody bytes i)))) Taken
+RowTaken edition bytes i = KnownAt edition bytes i × Judged (rowQuestions (rawRow bytes i)) Taken
 
 -- §11.5: the number of the first row that is refused, or of the first that is not whole or has no entry
 pub record FirstRefused (edition : ℕ) (bytes : List ℕ) (row : ℕ) : Type 0 where
@@ -71,7 +76,7 @@ pub record FirstRefused (edition : ℕ) (bytes : List ℕ) (row : ℕ) : Type 0 
 
 -- row i is stored in a buffer from a place on, and the next place is the one behind it
 pub record StoresRow (bytes : List ℕ) (i : ℕ) (before : List ℕ) (place next : ℕ) (after : List ℕ) : Type 0 where
-  pub stored : after ≡ sets before place (rowBytes (rowIn (rowFrom (rawBody bytes i))))
+  pub stored : after ≡ sets before place (rowBytes (rawRow bytes i))
   pub behind : next ≡ place + 2 + bodyLength bytes i
 
 -- §9.7, §9.8: the writer's promise for the rows of all the whole stretches of 34 bytes; or a refusal, by the questions of some first rows and

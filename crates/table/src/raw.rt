@@ -4,6 +4,7 @@ use constraint::Answer;
 use table_row::TableRow;
 use table_row::types::length_of;
 use table_row::types::type_known;
+use table_row::validate_values;
 ghost use Prim.Native.Nat.{_+_, _*_, _<_, _≤_};
 ghost use mathlib.Core.Path.{_≡_};
 ghost use mathlib.Core.List.{[]};
@@ -83,7 +84,7 @@ fn validate_rows(edition: u8, bytes: &[u8], count: usize) -> Answer
     let mut i = 0;
     while i < count {
         let row = row_at(edition, bytes, i);
-        match row.validate(edition) {
+        match validate_values(edition, row.tag, &row.values) {
             Answer::Refused(number) => {
                 return Answer::Refused(number);
             }
@@ -143,7 +144,7 @@ fn row_taken(edition: u8, bytes: &[u8], i: usize) -> bool
         return false;
     }
     let row = row_at(edition, bytes, i);
-    match row.validate(edition) {
+    match validate_values(edition, row.tag, &row.values) {
         Answer::Refused(_) => false,
         Answer::Taken => true,
     }

@@ -7,16 +7,16 @@ use table_row::Table;
 use table_row::TableRow;
 use table_row::shape_fits;
 use table_row::types;
+use table_row::validate_values;
 ghost use mathlib.Core.Path.{_≡_};
 ghost use mathlib.Core.List.{[]};
 ghost use Prim.Native.Nat.{_<_};
 ghost use lib.ListN.{length};
-ghost use Rattle.constraint.specs.Questions.{Judged};
 ghost use Rattle.constraint.specs.Records.{Decides};
-ghost use Rattle.constraint.specs.Table.{WholeAt, VersionUpTo, ReadsRows, placeQuestions, table-refused};
+ghost use Rattle.constraint.specs.Table.{WholeAt, VersionUpTo, ReadsRows, table-refused};
 ghost use Rattle.table_row.specs.Tables.{rowsOf};
 ghost use Rattle.table.specs.Reading.{readOf, rowsRead};
-ghost use Rattle.table.specs.Rows.{rowReadAt};
+ghost use Rattle.table.specs.Rows.{ReadsAt};
 
 // A refusal, beside the table with no row.
 pub(crate) fn refused(number: u8, place: usize) -> Reading
@@ -55,7 +55,7 @@ pub(crate) fn whole_at(bytes: &[u8], place: usize) -> bool
 // §4.3, §8.2, §8.3
 // The answer to questions 2 to 7 and 18, put to the row at a place in a table of an edition, with some rows before it.
 pub(crate) fn validate_row(edition: u8, bytes: &[u8], place: usize, before: usize) -> Answer
-    ensures { λ r. ⌜ Judged (placeQuestions edition (now (bytes .entry)) before place (rowReadAt (now (bytes .entry)) place)) r ⌝ }
+    ensures { λ r. ⌜ ReadsAt edition (now (bytes .entry)) before place r ⌝ }
 {
     if !whole_at(bytes, place) {
         return Answer::Refused(2);
@@ -71,7 +71,7 @@ pub(crate) fn validate_row(edition: u8, bytes: &[u8], place: usize, before: usiz
         return Answer::Refused(4);
     }
     let row = TableRow::read(body);
-    row.validate(edition)
+    validate_values(edition, row.tag, &row.values)
 }
 
 // The rows of an edition behind the version byte, row by row.

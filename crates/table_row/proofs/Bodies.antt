@@ -24,11 +24,11 @@ module _ (n : ℕ) (bytes : List ℕ) (place : ℕ) (all : Bytes bytes) (there :
   long : length (bytesAt n bytes place) ≡ n
   long = length-take-le n (drop place bytes) (omega (arith, length-drop place bytes))
 
-  number-back : bytesOf n (numberAt n bytes place) ≡ bytesAt n bytes place
+  pub number-back : bytesOf n (numberAt n bytes place) ≡ bytesAt n bytes place
   number-back =
       ap (λ (k : ℕ). bytesOf k (numberAt n bytes place)) (sym long) ∙ bytes-of-number 0 (bytesAt n bytes place) (bytes-part bytes n place all)
 
-  number-small : numberAt n bytes place < 256 ^ n
+  pub number-small : numberAt n bytes place < 256 ^ n
   number-small = subst⁻¹ (λ (k : ℕ). numberAt n bytes place < 256 ^ k) (sym long)
       (number-below (bytesAt n bytes place) (bytes-part bytes n place all))
 

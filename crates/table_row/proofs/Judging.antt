@@ -20,6 +20,7 @@ use Rattle.constraint.specs.Accepted.{EachField, FieldInRange, KindClassFits, O
 use Rattle.table_row.specs.Records.{fieldAt, fieldsAs, fieldsWith, rolesOf, rowRead, total, width, noConstraint}
 use Rattle.table_row.proofs.ByType.{no-type, says}
 use Rattle.table_row.proofs.Bodies.{place-bytes}
+use Rattle.table_row.proofs.Lines.{total-small}
 use Rattle.table_row.proofs.FieldByField.{by-role}
 use Rattle.table_row.proofs.Standing.{reads, shape, type-listed}
 
@@ -131,3 +132,8 @@ type-there edition (x ∷ body) known = omega arith
 pub row-bytes-long : (c : Constraint) → length (rowBytes c) ≡ 2 + length (rowBody c)
 unfolding rowBytes
 row-bytes-long c = length-append (bytesOf 2 (length (rowBody c))) (rowBody c) ∙ rw (bytes-length 2 (length (rowBody c)))
+
+-- a row of a known type is short
+pub row-short : (edition t : ℕ) (v : List ℕ) → TypeKnown edition (typeOf (rowRead t v)) (countOf (rowRead t v)) → length (rowBody (rowRead t v)) ≤ 145
+row-short edition t v known =
+    let here = known-row edition t v known in omega (arith, body-long edition t v here, total-small (rolesOf t (at v 0)))

@@ -2,11 +2,11 @@
 use Rattle.constraint.proofs.Library.{Bool, List, List·getD-eq-default, [], _*_, _+_, _-_, _<_, _∙_, _∷_, _≡_, _≤_, add-one, ap, arith, cond, drop}
 use Rattle.constraint.proofs.Library.{drop-cons}
 use Rattle.constraint.proofs.Library.{drop-of-length-le, false, le-leb, leb, length, mul-le-mul-left, refl, set, sets, suc, sym, true, zero, ℕ, eqb}
-use Rattle.constraint.proofs.Library.{_≢_, getD, ltb, replicate}
+use Rattle.constraint.proofs.Library.{_≢_, getD, ltb, ltb-false, replicate}
 use Rattle.constraint.proofs.Lengths.{at-most}
 use Rattle.constraint.proofs.Lists.{split}
 use Rattle.constraint.specs.Steps.{at}
-use Rattle.constraint.specs.Types.{lengths, entrySizes, leastCounts, mostCounts, lengthOf}
+use Rattle.constraint.specs.Types.{TypeKnown, lengths, entrySizes, leastCounts, mostCounts, lengthOf}
 use Rattle.table_row.specs.Records.{uses, roleAt, rolesFrom, rolesOf, total, width}
 
 pub uses-leb : (m n : ℕ) → uses m n ≡ leb m n
@@ -64,3 +64,24 @@ total-next roles i h = rw (add-one i, drop-cons roles i 0 h)
 pub total-small : (roles : List ℕ) → total roles ≤ 8 * length roles
 total-small [] = omega arith
 total-small (r ∷ roles) = omega (arith, width-small r, total-small roles)
+
+-- a type without an n has no entries
+abbrev Within : List ℕ → List ℕ → Type 0
+Within [] ys = Unit {0}
+Within (x ∷ xs) [] = (x ≡ 0) × Within xs []
+Within (x ∷ xs) (y ∷ ys) = (x ≤ 16 * y) × Within xs ys
+
+within-at : (xs ys : List ℕ) → Within xs ys → (i : ℕ) → at xs i ≤ 16 * at ys i
+within-at [] ys all i = omega arith
+within-at (x ∷ xs) [] all zero = omega (arith, all .0)
+within-at (x ∷ xs) [] all (suc i) = within-at xs [] (all .1) i
+within-at (x ∷ xs) (y ∷ ys) all zero = all .0
+within-at (x ∷ xs) (y ∷ ys) all (suc i) = within-at xs ys (all .1) i
+
+-- a row whose n is known is short
+pub known-short : (edition t n : ℕ) → TypeKnown edition t n → lengthOf t n ≤ 162
+known-short edition t n known =
+    split (ltb 0 (at mostCounts t)) (λ b. lengthOf t n ≤ 162)
+    (λ e. omega (arith, entries-small t n, lengths-small t, known .n-known e .1, most-small t))
+    (λ e. let none : at entrySizes t ≡ 0 = omega (arith, within-at entrySizes mostCounts (omega arith) t, ltb-false 0 (at mostCounts t) e) in
+    rw none (omega (arith, lengths-small t)))

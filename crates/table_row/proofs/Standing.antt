@@ -63,6 +63,10 @@ shape edition t n known =
     let all = values-read n (n ∷ []) t (type-listed edition t (known .type-known)) (λ e. (refl, known .n-known e .0, known .n-known e .1)) in
     (all .2, all .3, all .4)
 
+-- a row has a type byte and a byte behind it
+pub two-long : (edition t n : ℕ) → TypeKnown edition t n → 2 ≤ lengthOf t n
+two-long edition t n known = let about = shape edition t n known in omega (arith, about .0, about .1)
+
 -- values of which the first is the n, where the type has one
 pub reads : (edition t n : ℕ) (v : List ℕ) → TypeKnown edition t n → (takesCount t ≡ true → at v 0 ≡ n) → Reads t n v
 reads edition t n v known first =

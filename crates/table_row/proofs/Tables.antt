@@ -1,42 +1,16 @@
--- A table's rows are asked one after the other, and a record has as many as its count says.
+-- A record has as many rows as its count says, and those of an accepted table are of known types.
 use Rattle.constraint.proofs.Library.{List, List·getD-append, List·getD-map, [], _++_, _+_, _<_, _∙_, _∷_, _≡_, _≤_, add-one, ap, arith, drop}
-use Rattle.constraint.proofs.Library.{drop-cons, getD}
-use Rattle.constraint.proofs.Library.{getD-take, length, length-append, length-map, length-replicate, length-set, length-take, map, refl, replicate}
-use Rattle.constraint.proofs.Library.{set, suc, sym, take, take-append-le, take-suc-set, zero, ℕ}
-use Rattle.constraint.proofs.Judged.{judged-first, judged-later, judged-no, judged-yes}
-use Rattle.constraint.specs.Limits.{rowLimit}
-use Rattle.constraint.specs.Questions.{Judged, Question}
-use Rattle.constraint.specs.declared.Answer.{Answer}
-use Rattle.constraint.specs.declared.Answer.the-variants.{Refused, Taken}
+use Rattle.constraint.proofs.Library.{drop-cons, getD, getD-take, getElem?, length, length-append, length-drop, length-map, length-replicate, length-set}
+use Rattle.constraint.proofs.Library.{length-take, map, refl, replicate, set, some, suc, sym, take, take-append-le, take-suc-set, zero, ℕ}
+use Rattle.constraint.proofs.Accepted.{row-accepted}
+use Rattle.constraint.proofs.Judged.{judged-all}
+use Rattle.constraint.specs.Accepted.{AcceptedIn}
 use Rattle.constraint.specs.Constraint.{Constraint}
-use Rattle.constraint.specs.Accepted.{rowQuestionsIn}
+use Rattle.constraint.specs.Types.{TypeKnown, countOf, typeOf}
 use Rattle.table_row.specs.Records.{noConstraint, rowIn}
 use Rattle.table_row.specs.Tables.{rowsOf}
-use Rattle.constraint.specs.Accepted.{rowsQuestions}
-use Rattle.table_row.specs.declared.TableRow.{TableRow}
 use Rattle.table_row.specs.declared.Table.{Table}
-
-module _ (edition : ℕ) where
-  -- the row's questions, and then those of the rows after it
-  pub rows-taken : (i : ℕ) (c : Constraint) (rows : List Constraint) (after : List Question) (a : Answer) → i < rowLimit
-      → Judged (rowQuestionsIn edition c) Taken → Judged (rowsQuestions edition (i + 1) rows after) a
-      → Judged (rowsQuestions edition i (c ∷ rows) after) a
-  unfolding rowsQuestions
-  rows-taken i c rows after a room taken later =
-      judged-yes 3 _ _ a room (judged-later (rowQuestionsIn edition c) (rowsQuestions edition (i + 1) rows after) a taken later)
-
-  -- a row that is refused
-  pub rows-refused : (i : ℕ) (c : Constraint) (rows : List Constraint) (after : List Question) (n : ℕ) → i < rowLimit
-      → Judged (rowQuestionsIn edition c) (Refused n) → Judged (rowsQuestions edition i (c ∷ rows) after) (Refused n)
-  unfolding rowsQuestions
-  rows-refused i c rows after n room refused =
-      judged-yes 3 _ _ _ room (judged-first (rowQuestionsIn edition c) (rowsQuestions edition (i + 1) rows after) n refused)
-
-  -- a row past the last that there is room for
-  pub rows-full : (i : ℕ) (rows : List Constraint) (after : List Question) → i < length rows → rowLimit ≤ i
-      → Judged (rowsQuestions edition i (drop i rows) after) (Refused 3)
-  unfolding rowsQuestions
-  rows-full i rows after there full = rw (drop-cons rows i noConstraint there) (judged-no 3 _ _ (λ h. omega arith))
+use Rattle.table_row.specs.declared.TableRow.{TableRow}
 
 pub rows-length : (table : Table) → length (rowsOf table) ≡ table .count
 unfolding rowsOf
@@ -77,3 +51,17 @@ rows-more rows n x there =
     ∙ ap (take (n + 1)) (map-set rows n x)
     ∙ rw (add-one n) (take-suc-set (map rowIn rows) n (rowIn x) (omega arith))
     ∙ ap (λ (l : List Constraint). l ++ (rowIn x ∷ [])) (sym (take-append-le n (map rowIn rows) (replicate n noConstraint) (omega arith)))
+
+-- the rows of an accepted table are of known types
+first-of : (l : List Constraint) (i : ℕ) (c : Constraint) (rest : List Constraint) → drop i l ≡ c ∷ rest → getElem? l i ≡ some c
+first-of [] i c rest e = absurd (omega (arith, ap length e, length-drop {A = Constraint} i []))
+first-of (x ∷ l) zero c rest e = let same : x ≡ c = cc in ap some same
+first-of (x ∷ l) (suc i) c rest e = first-of l i c rest e
+
+pub row-known : (edition : ℕ) (table : Table) (i : ℕ) (other : TableRow) → i < table .count → i < length (table .rows)
+    → AcceptedIn edition (rowsOf table)
+    → TypeKnown edition (typeOf (rowIn (getD (table .rows) i other))) (countOf (rowIn (getD (table .rows) i other)))
+row-known edition table i other counted there accepted =
+    let c = rowIn (getD (table .rows) i other) in
+    judged-all 4 (TypeKnown edition (typeOf c) (countOf c)) _
+    (row-accepted edition 0 (rowsOf table) accepted i c (first-of (rowsOf table) i c _ (rows-from table i other counted there))) .0

@@ -1,5 +1,5 @@
 -- Each answer is that of the first "no"; where there is none the pass has read what the row reads.
-use Rattle.stamps.proofs.Names.{Counted, ReadsTableUpTo, RowIs, arith, at, free, needs, no-table, now, table-refused}
+use Rattle.stamps.proofs.Names.{Counted, ReadsTableUpTo, RowIs, arith, at, free, needs, no-table, now, rowIn, table-refused}
 use Rattle.stamps.proofs.{Answers.answer-range, Answers.answer-reads, Answers.answer-recording, Answers.answer-row, read.Statement.statement}
 use Rattle.stamps.proofs.read.Tie as tie
 
@@ -14,7 +14,7 @@ counted : (c : tie.After-enum-told) → let a = c .before .before .before .befor
 counted c = rw (c .enum-told .given .1) at (c .before .before .before .row-numbered .ensures .scans)
 
 row-is : (c : tie.After-enum-told) → let found = c .before .before .before .row-numbered in
-    RowIs (found .result .scan .rows) (c .before .before .before .before .before .before .args .row) (found .result .row) (counted c .rows)
+    RowIs (found .result .scan .rows) (c .before .before .before .before .before .before .args .row) (rowIn (found .result .row)) (counted c .rows)
 row-is c = c .before .before .before .row-numbered .ensures .found (counted c .rows) (counted c .reads)
 
 returns-2 : tie.Need-returns-2

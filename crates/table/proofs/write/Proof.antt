@@ -1,5 +1,5 @@
 -- The rows' questions are put first, then the room's; then the version byte and the rows are stored.
-use Rattle.table.proofs.Names.{Judged, Taken, [], _≤_, arith, needs, now, rowLimit, rows-length, rows-room, rowsOf, rowsQuestions}
+use Rattle.table.proofs.Names.{Accepted, Judged, Taken, [], _≤_, arith, needs, now, rowsOf, rowsQuestions}
 use Rattle.table.proofs.Names.{tableBytesIn}
 use Rattle.table.proofs.{Written.written-all, Written.written-refused, Written.written-short, write.Statement.statement}
 use Rattle.table.proofs.write.Tie as tie
@@ -8,10 +8,8 @@ taken : (c : tie.After-enum-told)
     → Judged (rowsQuestions (c .before .before .before .before .args .edition) 0 (rowsOf (c .before .before .before .before .args .table)) []) Taken
 taken c = rw (c .enum-told .given .1) at (c .before .before .validate .ensures)
 
-few : (c : tie.After-enum-told) → c .before .before .before .before .args .table .count ≤ rowLimit
-few c =
-    let table = c .before .before .before .before .args .table in
-    omega (arith, rows-length table, rows-room _ 0 (rowsOf table) (omega arith) (taken c))
+accepted : (c : tie.After-enum-told) → Accepted (rowsOf (c .before .before .before .before .args .table))
+accepted c = (c .before .before .before .before .args .edition, taken c)
 
 returns : tie.Need-returns
 returns c =
@@ -27,7 +25,7 @@ returns-2 c =
 put-rows-requires : tie.Need-put-rows-requires
 put-rows-requires c κs =
     let at-room = c .before .before .before .before .before in let at-size = at-room .before in
-    (few (at-size .before), omega (arith, at-room .if1 .left, at-size .size-of .ensures, c .before .before .before .put-byte .kept .0))
+    (accepted (at-size .before), omega (arith, at-room .if1 .left, at-size .size-of .ensures, c .before .before .before .put-byte .kept .0))
 
 returns-3 : tie.Need-returns-3
 unfolding tableBytesIn
@@ -41,5 +39,5 @@ returns-3 c =
 pub write-spec : {M : Type 1} → statement M
 write-spec =
     tie.close
-    (tie.spec (λ c κs. search needs) (λ c. search needs) returns (λ c. search needs) (λ c κs. few c) returns-2 (λ c κs. search needs)
+    (tie.spec (λ c κs. search needs) (λ c. search needs) returns (λ c. search needs) (λ c κs. accepted c) returns-2 (λ c κs. search needs)
     put-rows-requires (λ c. search needs) returns-3)

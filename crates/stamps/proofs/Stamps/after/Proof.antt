@@ -8,5 +8,5 @@ returns c = rw (c .before .before .before .before .call .given .1, eq-eqb _ _ (c
 
 pub after-spec : {M : Type 1} → statement M
 after-spec =
-    tie.close (tie.spec (λ c. search needs) free returns (λ c. search needs) (λ c. search needs) (λ c. search needs)
+    tie.close (tie.spec (λ c. search needs) (λ c. search needs) free returns (λ c. search needs) (λ c. search needs) (λ c. search needs)
     (λ c. rw (c .before .before .before .call .given .1, ne-eqb _ _ (c .if1 .left))) (λ c. search needs) (λ c. search needs) (λ c. search needs))

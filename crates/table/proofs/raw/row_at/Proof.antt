@@ -7,4 +7,4 @@ pub row-at-spec : {M : Type 1} → statement M
 row-at-spec =
     tie.close (tie.spec (λ c. omega (arith, c .before .pre .1)) (λ c κs. c .before .pre) (λ c. omega (arith, c .body-end .ensures .0))
     (λ c. omega (arith, c .body-end .ensures)) (λ c. omega (arith, c .body-end .ensures)) free
-    (λ c. c .row-of .ensures ∙ rw (c .before .before .body-end .ensures .0, add-sub-cancel-left)))
+    (λ c. c .read .ensures ∙ rw (c .before .before .body-end .ensures .0, add-sub-cancel-left)))

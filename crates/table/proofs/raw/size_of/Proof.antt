@@ -1,6 +1,6 @@
 -- The loop adds row after row: the size so far and the bytes of the rows left are the whole.
 use Rattle.table.proofs.Names.{Bytes, _*_, _+_, _-_, _≡_, _≤_, ap, arith, length, now, rawRows, rawSize, rowsBytes}
-use Rattle.table.proofs.RawRows.{body-short, left-size, rows-all, rows-end}
+use Rattle.table.proofs.RawRows.{left-size, rows-all, rows-end}
 use Rattle.table.proofs.raw.size_of.Statement.{statement}
 use Rattle.table.proofs.raw.size_of.Tie as tie
 
@@ -23,8 +23,7 @@ short c =
     omega (
       arith,
       c .body-end .ensures .0,
-      body-short (start .args .edition) (now (start .args .bytes)) (at-loop .loop .i)
-          (start .pre .known (at-loop .loop .i) (omega arith)),
+      start .pre .known (at-loop .loop .i) (omega arith) .1,
     )
 
 loop-again : tie.Need-loop-again Inv-loop μ-loop

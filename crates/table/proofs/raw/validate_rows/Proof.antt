@@ -16,17 +16,17 @@ abbrev μ-loop : tie.MeasureT-loop
 
 returns : tie.Need-returns Inv-loop μ-loop
 returns c =
-    let at-judge = c .before .before .before in let at-row = at-judge .before in let at-loop = at-row .before .before in
+    let at-judge = c .before .before .before in let at-row = at-judge .before .before .before in let at-loop = at-row .before .before in
     let a = at-loop .before .before .args in let i = at-loop .loop .i in
     at-loop .loop .inv .1 _
     (subst⁻¹ (λ rows. Judged (rowsQuestions (a .edition) i rows []) (Refused (c .before .number .given .0 .0)))
     (rows-left (now (a .bytes)) i (a .count) (omega arith))
     (rows-refused (a .edition) i _ (rawRows (now (a .bytes)) (i + 1) (a .count - (i + 1))) [] _ (omega (arith, at-loop .before .before .pre .room))
-    (rw (at-row .row-at .ensures) at (rw (c .before .number .given .1) at (at-judge .validate-in .ensures)))))
+    (rw (at-row .row-at .ensures) at (rw (c .before .number .given .1) at (at-judge .validate-values .ensures)))))
 
 loop-again : tie.Need-loop-again Inv-loop μ-loop
 loop-again c =
-    let at-judge = c .before .before in let at-row = at-judge .before in let at-loop = at-row .before .before in
+    let at-judge = c .before .before in let at-row = at-judge .before .before .before in let at-loop = at-row .before .before in
     let a = at-loop .before .before .args in let i = at-loop .loop .i in (
       omega arith,
       λ answer later.
@@ -34,7 +34,7 @@ loop-again c =
           (subst⁻¹ (λ rows. Judged (rowsQuestions (a .edition) i rows []) answer) (rows-left (now (a .bytes)) i (a .count) (omega arith))
           (rows-taken (a .edition) i _ (rawRows (now (a .bytes)) (i + 1) (a .count - (i + 1))) [] answer
           (omega (arith, at-loop .before .before .pre .room))
-          (rw (at-row .row-at .ensures) at (rw (c .enum-told .given .1) at (at-judge .validate-in .ensures))) later)),
+          (rw (at-row .row-at .ensures) at (rw (c .enum-told .given .1) at (at-judge .validate-values .ensures))) later)),
     )
 
 returns-2 : tie.Need-returns-2 Inv-loop μ-loop

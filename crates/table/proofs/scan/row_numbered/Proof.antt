@@ -5,13 +5,13 @@ use Rattle.table.proofs.scan.row_numbered.Tie as tie
 
 returns : tie.Need-returns
 returns c =
-    let scan = c .before .validate in let a = c .before .before .before .args in
+    let scan = c .before .before .validate in let a = c .before .before .before .before .args in
     record {
       scans = scan .ensures;
       found = λ rows reads.
           let counted = scan-count (now (a .bytes)) rows (scan .result .answer) (scan .result .rows) (scan .ensures) reads in
-          record { counted = counted; is = λ there. absurd (omega (arith, counted, there, c .if1 .taken)) };
-      none = λ past. refl;
+          record { counted = counted; is = λ there. absurd (omega (arith, counted, there, c .before .if1 .taken)) };
+      none = λ past. c .filler .ensures;
     }
 
 returns-2 : tie.Need-returns-2
@@ -28,4 +28,4 @@ returns-2 c =
     }
 
 pub row-numbered-spec : {M : Type 1} → statement M
-row-numbered-spec = tie.close (tie.spec (λ c κs. search needs) returns (λ c κs. search needs) returns-2)
+row-numbered-spec = tie.close (tie.spec (λ c κs. search needs) (λ c κs. search needs) returns (λ c κs. search needs) returns-2)

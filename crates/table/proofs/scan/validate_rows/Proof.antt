@@ -1,5 +1,6 @@
 -- The loop counts row after row: as many as were counted stand before the place, and what is read from there on, behind them, is the whole.
-use Rattle.table.proofs.Names.{ReadsAt, RowRead, _-_, arith, length, needs, now, refl}
+use Rattle.table.proofs.Names.{ReadsAt, Taken, _+_, _-_, _≡_, ap, arith, length, lengthAt, needs, now, refl, rowReadAt, ℕ}
+use Rattle.table.proofs.Places.{PlaceTaken, place-taken}
 use Rattle.table.proofs.Scanning.{CountedTo, counted-end, counted-more, counted-refused, counted-start}
 use Rattle.table.proofs.scan.validate_rows.Statement.{statement}
 use Rattle.table.proofs.scan.validate_rows.Tie as tie
@@ -10,25 +11,30 @@ Inv-loop edition bytes rows₀ place₀ rows place = CountedTo edition bytes row
 abbrev μ-loop : tie.MeasureT-loop
 μ-loop edition bytes rows₀ place₀ rows place = length bytes - place
 
--- what was read of the row that is counted
-row : (c : tie.After-next Inv-loop μ-loop)
-    → ReadsAt (c .before .before .before .before .before .before .args .edition)
-    (now (c .before .before .before .before .before .before .args .bytes)) (c .before .before .before .before .loop .rows)
-    (c .before .before .before .before .loop .place) (RowRead.Row (c .next .given .0 .0) (c .next .given .0 .1 .0))
-row c = rw (c .next .given .1) at (c .before .before .read-row .ensures)
+-- the row that is counted was taken
+read : (c : tie.After-enum-told Inv-loop μ-loop) → let at-loop = c .before .before .before .before in let a = at-loop .before .before .args in
+    ReadsAt (a .edition) (now (a .bytes)) (at-loop .loop .rows) (at-loop .loop .place) Taken
+read c = rw (c .enum-told .given .1) at (c .before .before .validate-row .ensures)
+
+taken : (c : tie.After-enum-told Inv-loop μ-loop) → let at-loop = c .before .before .before .before in let a = at-loop .before .before .args in
+    PlaceTaken (a .edition) (now (a .bytes)) (at-loop .loop .rows) (at-loop .loop .place)
+    (rowReadAt (now (a .bytes)) (at-loop .loop .place))
+taken c =
+    let at-loop = c .before .before .before .before in let a = at-loop .before .before .args in
+    place-taken (a .edition) (now (a .bytes)) (at-loop .loop .rows) (at-loop .loop .place) _ (read c .1)
 
 loop-again : tie.Need-loop-again Inv-loop μ-loop
 loop-again c =
-    let at-loop = c .before .before .before .before .before in
-    let bytes = now (at-loop .before .before .args .bytes) in
-    counted-more (at-loop .before .before .args .edition) bytes (at-loop .loop .rows) (at-loop .loop .place) _ _ (at-loop .loop .inv) (omega arith)
-    (row (c .before))
+    let told = c .before in let at-loop = told .before .before .before .before in let a = at-loop .before .before .args in
+    let place = at-loop .loop .place in
+    let behind : place + 2 + c .two-at .result ≡ place + 2 + lengthAt (now (a .bytes)) place = ap (λ (size : ℕ). place + 2 + size) (c .two-at .ensures) in
+    counted-more (a .edition) (now (a .bytes)) (at-loop .loop .rows) place _ (at-loop .loop .inv) (omega arith) (read told) behind
 
 returns : tie.Need-returns Inv-loop μ-loop
 returns c =
     let at-number = c .before in let at-loop = at-number .before .before .before .before in
     let bytes = now (at-loop .before .before .args .bytes) in
-    let judged = rw (at-number .number .given .1) at (at-number .before .before .read-row .ensures) in (
+    let judged = rw (at-number .number .given .1) at (at-number .before .before .validate-row .ensures) in (
       counted-refused (at-loop .before .before .args .edition) bytes (at-loop .loop .rows) (at-loop .loop .place) _ (at-loop .loop .inv) (omega arith)
           judged,
       refl,
@@ -44,6 +50,5 @@ pub validate-rows-spec : {M : Type 1} → statement M
 validate-rows-spec =
     tie.close
     (tie.spec Inv-loop μ-loop (λ c. counted-start (c .before .args .edition) (now (c .before .args .bytes)) (omega arith)) (λ c κs. tt)
-    (λ c. search needs)
-    (λ c. let at-loop = c .before .before .before .before .before in omega (arith, at-loop .loop .inv .room))
-    (λ c. let read = row (c .before) in omega (arith, read .2)) loop-again (λ c. search needs) returns returns-2)
+    (λ c. search needs) returns (λ c. search needs) (λ c. omega (arith, taken c .room)) (λ c. omega (arith, taken c .whole)) (λ c κs. tt)
+    (λ c. omega (arith, taken (c .before) .whole, c .two-at .ensures)) (λ c. omega (arith, taken (c .before) .whole)) loop-again returns-2)

@@ -6,7 +6,8 @@ use Rattle.constraint.specs.declared.Answer.{Answer}
 use Rattle.constraint.specs.declared.Answer.the-variants.{Refused, Taken}
 use Rattle.table_row.specs.Tables.{rowsOf}
 use Rattle.constraint.specs.Accepted.{rowsQuestions}
-use Rattle.table_row.proofs.Tables.{rows-from, rows-full, rows-length, rows-refused, rows-taken}
+use Rattle.constraint.proofs.Accepted.{rows-full, rows-refused, rows-taken}
+use Rattle.table_row.proofs.Tables.{rows-from, rows-length}
 use Rattle.table_row.proofs.Table.validate.Statement.{statement}
 use Rattle.table_row.proofs.Table.validate.Tie as tie
 

@@ -1,6 +1,6 @@
 -- The names of the definitions and laws below this crate that its proofs use, passed on from one place.
 pub use Rattle.clock.proofs.Laws.{ReadUpTo, up-to-end, up-to-more, up-to-refused, up-to-start}
-pub use Rattle.clock.specs.{Clock.After, Clock.ReadsNext, declared.Clock.Clock, declared.RecordRead.RecordRead}
+pub use Rattle.clock.specs.{Clock.After, Clock.Clock, Clock.ReadsNext, Clock.clockWith, declared.RecordRead.RecordRead}
 pub use Rattle.constraint.proofs.History.{Accepts, AcceptsEvent, Valid, clock-event, clock-tick, closed-event, closed-tick, past-of, times-append}
 pub use Rattle.constraint.proofs.History.{valid-more, valid-none}
 pub use Rattle.constraint.proofs.Judged.{failed, judged-all, judged-none, judged-yes, never, passed}

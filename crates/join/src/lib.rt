@@ -3,10 +3,11 @@
 use clock::Clock;
 use constraint::Call;
 use constraint::JoinAnswer;
+use constraint::STREAM_COUNT;
 ghost use mathlib.Core.Path.{_≡_};
-ghost use mathlib.Core.Bool.{true, false, not, _&&_, _||_};
+ghost use mathlib.Core.Bool.{true, false, cond, not, _&&_, _||_};
 ghost use Prim.Native.Nat.{_+_, _≤_, max};
-ghost use lib.Dec.{eqb, leb};
+ghost use lib.Dec.{eqb, leb, ltb};
 ghost use lib.ListN.{length, set};
 ghost use lib.Seq.{sets};
 ghost use Rattle.constraint.specs.Steps.{at};
@@ -220,8 +221,8 @@ fn walk(first: &[u8], second: &[u8], buffer: &mut [u8], limit: usize) -> Walked
 }
 
 // Whether a kind is marked.
-fn marked(marks: [u8; 64], kind: u8) -> bool
-    ensures { λ r. ⌜ r ≡ eqb (at marks kind) 1 ⌝ }
+fn marked(marks: &[u8; 64], kind: u8) -> bool
+    ensures { λ r. ⌜ r ≡ (ltb kind 64 && eqb (at (now (marks .entry)) kind) 1) ⌝ }
 {
     let place = kind as usize;
     if 64 <= place {
@@ -230,16 +231,15 @@ fn marked(marks: [u8; 64], kind: u8) -> bool
     marks[place] == 1
 }
 
-// The marks with that of a kind.
-fn mark(mut marks: [u8; 64], kind: u8) -> [u8; 64]
-    ensures { λ r. ⌜ r ≡ set marks kind 1 ⌝ }
+// Sets the mark of a kind.
+fn mark(marks: &mut [u8; 64], kind: u8)
+    ensures { λ _. ⌜ now (marks .exit) ≡ cond (ltb kind 64) (set (now (marks .entry)) kind 1) (now (marks .entry)) ⌝ }
 {
     let place = kind as usize;
     if 64 <= place {
-        return marks;
+        return;
     }
     marks[place] = 1;
-    marks
 }
 
 // The place of the first record to avoid (0: none), with one record more.
@@ -253,23 +253,24 @@ fn first_common(common: usize, avoided: bool, place: usize) -> usize
 }
 
 // The pass over a recording: questions 13 and 14 and those of the steps; its kinds, and the first record of a kind to avoid.
-fn pass(bytes: &[u8], avoid: [u8; 64]) -> Passed
-    ensures { λ r. ⌜ Passes (now (bytes .entry)) avoid r ⌝ }
+fn pass(bytes: &[u8], avoid: &[u8; 64]) -> Passed
+    ensures { λ r. ⌜ Passes (now (bytes .entry)) (now (avoid .entry)) r ⌝ }
 {
     if !recording::version_known(bytes) {
         return Passed {
             number: 13,
             place: 0,
-            kinds: avoid,
+            kinds: [0u8; 64],
             common: 0,
         };
     }
     let mut clock = Clock::start();
+    let mut next = [0u64; STREAM_COUNT];
     let mut kinds = [0u8; 64];
     let mut common: usize = 0;
     let mut place: usize = 1;
     while place < bytes.len() {
-        let read = clock::read(bytes, place, clock);
+        let read = clock::read(bytes, place, clock, &mut next);
         if 0 < read.number {
             return Passed {
                 number: read.number,
@@ -281,8 +282,7 @@ fn pass(bytes: &[u8], avoid: [u8; 64]) -> Passed
         let call = read.call;
         let kind = kind_of(call);
         common = first_common(common, marked(avoid, kind), place);
-        let more = mark(kinds, kind);
-        kinds = more;
+        mark(&mut kinds, kind);
         let later = read.clock;
         clock = later;
         place = read.next;
@@ -300,7 +300,8 @@ fn pass(bytes: &[u8], avoid: [u8; 64]) -> Passed
 pub fn join(first: &[u8], second: &[u8], joined: &mut [u8]) -> JoinAnswer
     ensures { λ r. ⌜ AnswersJoin (now (first .entry)) (now (second .entry)) (now (joined .entry)) r (now (joined .exit)) ⌝ }
 {
-    let one = pass(first, [0u8; 64]);
+    let none = [0u8; 64];
+    let one = pass(first, &none);
     if 0 < one.number {
         return JoinAnswer::FirstRefused {
             number: one.number,
@@ -308,7 +309,7 @@ pub fn join(first: &[u8], second: &[u8], joined: &mut [u8]) -> JoinAnswer
         };
     }
     let kinds = one.kinds;
-    let two = pass(second, kinds);
+    let two = pass(second, &kinds);
     if 0 < two.number {
         return JoinAnswer::SecondRefused {
             number: two.number,

@@ -6,28 +6,28 @@ use Rattle.join.proofs.join.Tie as tie
 
 returns : tie.Need-returns
 returns c =
-    let one = c .before .before in let args = one .before .before .before .before .args in
+    let one = c .before .before in let args = one .before .before .before .before .before .args in
     answer-first (now (args .first)) (now (args .second)) (now (args .joined)) (one .pass .result) (one .pass .ensures) (c .if1 .taken)
 
 returns-2 : tie.Need-returns-2
 returns-2 c =
-    let two = c .before .before in let kept = two .before .before in let one = kept .before .before in
-    let args = one .before .before .before .before .args in
+    let two = c .before .before in let kept = two .before .before .before in let one = kept .before .before in
+    let args = one .before .before .before .before .before .args in
     answer-second (now (args .first)) (now (args .second)) (now (args .joined)) (one .pass .result) (one .pass .ensures)
     (omega (arith, kept .if1 .left)) (two .pass2 .result) (two .pass2 .ensures) (c .if2 .taken)
 
 returns-3 : tie.Need-returns-3
 returns-3 c =
-    let taken = c .before .before in let two = taken .before .before in let kept = two .before .before in let one = kept .before .before in
-    let args = one .before .before .before .before .args in
+    let taken = c .before .before in let two = taken .before .before in let kept = two .before .before .before in let one = kept .before .before in
+    let args = one .before .before .before .before .before .args in
     answer-common (now (args .first)) (now (args .second)) (now (args .joined)) (one .pass .result) (one .pass .ensures)
     (omega (arith, kept .if1 .left)) (two .pass2 .result) (two .pass2 .ensures) (omega (arith, taken .if2 .left)) (c .if3 .taken)
 
 returns-4 : tie.Need-returns-4
 returns-4 c =
     let measured = c .before .before .before in let apart = measured .before .before in let taken = apart .before .before in
-    let two = taken .before .before in let kept = two .before .before in let one = kept .before .before in
-    let args = one .before .before .before .before .args in
+    let two = taken .before .before in let kept = two .before .before .before in let one = kept .before .before in
+    let args = one .before .before .before .before .before .args in
     answer-short (now (args .first)) (now (args .second)) (now (args .joined)) (one .pass .result) (one .pass .ensures)
     (omega (arith, kept .if1 .left))
     (two .pass2 .result) (two .pass2 .ensures) (omega (arith, taken .if2 .left)) (omega (arith, apart .if3 .left)) _ _ (measured .walk .result)
@@ -36,8 +36,8 @@ returns-4 c =
 returns-5 : tie.Need-returns-5
 returns-5 c =
     let written = c .before .before in let fits = written .before .before in let measured = fits .before .before .before in
-    let apart = measured .before .before in let taken = apart .before .before in let two = taken .before .before in let kept = two .before .before in
-    let one = kept .before .before in let args = one .before .before .before .before .args in
+    let apart = measured .before .before in let taken = apart .before .before in let two = taken .before .before in let kept = two .before .before .before in
+    let one = kept .before .before in let args = one .before .before .before .before .before .args in
     answer-written (now (args .first)) (now (args .second)) (now (args .joined)) (one .pass .result) (one .pass .ensures)
     (omega (arith, kept .if1 .left))
     (two .pass2 .result) (two .pass2 .ensures) (omega (arith, taken .if2 .left)) (omega (arith, apart .if3 .left)) _ _ (measured .walk .result)

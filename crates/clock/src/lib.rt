@@ -2,7 +2,6 @@
 // by one, and no row is stepped. The first free times stay in an array that the caller lends.
 use constraint::Call;
 use row_type::parts::plus;
-ghost use mathlib.Core.Path.{_≡_};
 ghost use Rattle.clock.specs.Clock.{Starts, TakesCall, clockWith, AsksCall, ReadsNext};
 
 pub struct Clock {

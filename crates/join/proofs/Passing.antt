@@ -168,7 +168,8 @@ module _ (bytes avoid : List ℕ) where
     module _ (there : place < length bytes) (r : RecordRead) (later : Clock) (next : ReadsNext bytes place o r later) where
       pub pass-more : r .number ≡ 0 → (kind : ℕ) (avoided : Bool) (kinds′ : List ℕ) (common′ : ℕ)
           → kind ≡ callKind (r .call) → avoided ≡ (ltb kind 64 && eqb (at avoid kind) 1)
-          → kinds′ ≡ cond (ltb kind 64) (set kinds kind 1) kinds → common′ ≡ firstCommon common avoided place → PassedTo bytes avoid later kinds′ common′ (r .next)
+          → kinds′ ≡ cond (ltb kind 64)
+              (set kinds kind 1) kinds → common′ ≡ firstCommon common avoided place → PassedTo bytes avoid later kinds′ common′ (r .next)
       unfolding recordQuestions
       pass-more e kind avoided kinds′ common′ kind-is avoided-is kinds-are common-is =
           let taken = next .taken e (before .steps) (before .read .after) in
@@ -179,7 +180,8 @@ module _ (bytes avoid : List ℕ) where
             steps = before .steps ++ (stepFor (r .call) ∷ []);
             read = up-to-more bytes place (before .steps) o (before .read) (r .call) (r .next) later
                 there (next .call-is (next .there e)) (next .next-is (next .there e) .0) (taken .0) (taken .1);
-            marks = subst (λ (l : List ℕ). Marks l (kindsOf (before .steps ++ (stepFor (r .call) ∷ [])))) (sym (kinds-are ∙ set-within kinds kind (before .marks .size)))
+            marks = subst (λ (l : List ℕ). Marks l (kindsOf (before .steps ++ (stepFor (r .call) ∷ [])))) (sym
+                (kinds-are ∙ set-within kinds kind (before .marks .size)))
                 (marks-more kinds (before .steps) (stepFor (r .call)) kind is (before .marks));
             positive = omega (arith, before .positive, next .next-is (next .there e) .0);
             search = λ ks m.

@@ -10,7 +10,8 @@ returns : tie.Need-returns
 returns c =
     let at-record = c .before .before in let args = at-record .before .before .args in
     let refused = at-record .call-at .ensures .none (c .if1 .taken) in
-    read-none (now (args .bytes)) (args .place) (clockWith (args .clock) (args .next .now)) _ (ap (λ (r : CallRead). r .number) (refused .1)) refl refl
+    read-none (now (args .bytes)) (args .place) (clockWith (args .clock) (args .next .now)) _ (ap (λ (r : CallRead). r .number)
+    (refused .1)) refl refl
     (refused .0)
 
 returns-2 : tie.Need-returns-2

@@ -36,7 +36,8 @@ returns-4 c =
 returns-5 : tie.Need-returns-5
 returns-5 c =
     let written = c .before .before in let fits = written .before .before in let measured = fits .before .before .before in
-    let apart = measured .before .before in let taken = apart .before .before in let two = taken .before .before in let kept = two .before .before .before in
+    let apart = measured .before .before in let taken = apart .before .before in let two = taken .before .before in
+    let kept = two .before .before .before in
     let one = kept .before .before in let args = one .before .before .before .before .before .args in
     answer-written (now (args .first)) (now (args .second)) (now (args .joined)) (one .pass .result) (one .pass .ensures)
     (omega (arith, kept .if1 .left))

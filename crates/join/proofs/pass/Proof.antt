@@ -27,9 +27,11 @@ loop-holds c =
 
 returns-2 : tie.Need-returns-2 Inv-loop μ-loop
 returns-2 c =
-    let at-read = c .before .before in let at-loop = at-read .before .before .before in let args = at-loop .before .before .before .before .before .args in
+    let at-read = c .before .before in let at-loop = at-read .before .before .before in
+    let args = at-loop .before .before .before .before .before .args in
     record {
-      refused = λ more. pass-refused (now (args .bytes)) (now (args .avoid)) (clockWith (at-loop .loop .clock) (at-loop .loop .next)) (at-loop .loop .kinds) (at-loop .loop .common)
+      refused = λ more. pass-refused (now (args .bytes)) (now (args .avoid)) (clockWith (at-loop .loop .clock) (at-loop .loop .next))
+          (at-loop .loop .kinds) (at-loop .loop .common)
           (at-loop .loop .place) (at-loop .loop .inv)
           (at-read .before .before .loop-test .taken) (at-read .read .result) _ (at-read .read .ensures) (c .if2 .taken);
       taken = λ e. absurd (omega (arith, e, c .if2 .taken));
@@ -43,12 +45,14 @@ loop-less c =
 
 loop-again : tie.Need-loop-again Inv-loop μ-loop
 loop-again c =
-    let marked = c .before in let common = marked .before .before in let avoided = common .before in let kind = avoided .before in let left = kind .before in
+    let marked = c .before in let common = marked .before .before in let avoided = common .before in let kind = avoided .before in
+    let left = kind .before in
     let at-read = left .before .before in let at-loop = at-read .before .before .before in
     let args = at-loop .before .before .before .before .before .args in
     pass-more (now (args .bytes)) (now (args .avoid)) (clockWith (at-loop .loop .clock) (at-loop .loop .next)) (at-loop .loop .kinds)
     (at-loop .loop .common) (at-loop .loop .place) (at-loop .loop .inv)
-    (at-read .before .before .loop-test .taken) (at-read .read .result) _ (at-read .read .ensures) (omega (arith, left .if2 .left)) (kind .kind-of .result)
+    (at-read .before .before .loop-test .taken) (at-read .read .result) _ (at-read .read .ensures) (omega (arith, left .if2 .left))
+    (kind .kind-of .result)
     (avoided .marked .result)
     _ (common .first-common .result) (kind .kind-of .ensures) (avoided .marked .ensures) (marked .mark .ensures)
     (common .first-common .ensures)
@@ -58,7 +62,8 @@ returns-3 c =
     let at-loop = c .before in let args = at-loop .before .before .before .before .before .args in
     record {
       refused = λ more. absurd (omega (arith, more));
-      taken = λ e. pass-end (now (args .bytes)) (now (args .avoid)) (clockWith (at-loop .loop .clock) (at-loop .loop .next)) (at-loop .loop .kinds) (at-loop .loop .common)
+      taken = λ e. pass-end (now (args .bytes)) (now (args .avoid)) (clockWith (at-loop .loop .clock) (at-loop .loop .next))
+          (at-loop .loop .kinds) (at-loop .loop .common)
           (at-loop .loop .place) (at-loop .loop .inv) (c .loop-test .left);
     }
 

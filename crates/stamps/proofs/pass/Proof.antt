@@ -30,7 +30,8 @@ returns-2 c =
     let at-read = c .before .before in let at-loop = at-read .before .before .before in
     let args = at-loop .before .before .before .before .before .before .args in
     record {
-      refused = λ more. pass-refused (now (args .bytes)) (args .asked) (clockWith (at-loop .loop .clock) (at-loop .loop .next)) (at-loop .loop .stamps) (at-loop .loop .place)
+      refused = λ more. pass-refused (now (args .bytes)) (args .asked) (clockWith (at-loop .loop .clock) (at-loop .loop .next))
+          (at-loop .loop .stamps) (at-loop .loop .place)
           (at-loop .loop .inv) (at-read .before .before .loop-test .taken) (at-read .read .result) _ (at-read .read .ensures) (c .if2 .taken);
       taken = λ e. absurd (omega (arith, e, c .if2 .taken));
     }
@@ -46,7 +47,8 @@ loop-again c =
     let at-read = c .before .before .before .before in let at-loop = at-read .before .before .before in
     let args = at-loop .before .before .before .before .before .before .args in
     rw (c .before .after .ensures)
-    (pass-more (now (args .bytes)) (args .asked) (clockWith (at-loop .loop .clock) (at-loop .loop .next)) (at-loop .loop .stamps) (at-loop .loop .place) (at-loop .loop .inv)
+    (pass-more (now (args .bytes)) (args .asked) (clockWith (at-loop .loop .clock) (at-loop .loop .next)) (at-loop .loop .stamps)
+    (at-loop .loop .place) (at-loop .loop .inv)
     (at-read .before .before .loop-test .taken)
     (at-read .read .result) _ (at-read .read .ensures) (omega (arith, c .before .before .if2 .left)))
 
@@ -56,7 +58,8 @@ returns-3 c =
     record {
       refused = λ more. absurd (omega (arith, more));
       taken = λ e. rw (c .verdict .ensures)
-          (pass-end (now (args .bytes)) (args .asked) (clockWith (at-loop .loop .clock) (at-loop .loop .next)) (at-loop .loop .stamps) (at-loop .loop .place) (at-loop .loop .inv)
+          (pass-end (now (args .bytes)) (args .asked) (clockWith (at-loop .loop .clock) (at-loop .loop .next)) (at-loop .loop .stamps)
+          (at-loop .loop .place) (at-loop .loop .inv)
           (c .before .loop-test .left));
     }
 

@@ -31,9 +31,11 @@ loop-holds c =
 
 returns-2 : tie.Need-returns-2 Inv-loop μ-loop
 returns-2 c =
-    let at-read = c .before .before in let at-loop = at-read .before .before .before in let args = at-loop .before .before .before .before .before .args in
+    let at-read = c .before .before in let at-loop = at-read .before .before .before in
+    let args = at-loop .before .before .before .before .before .args in
     record {
-      refused = λ more. gather-refused (now (args .bytes)) (at-loop .loop .streams) (at-loop .loop .times) (clockWith (at-loop .loop .clock) (at-loop .loop .next))
+      refused = λ more. gather-refused (now (args .bytes)) (at-loop .loop .streams) (at-loop .loop .times) (clockWith (at-loop .loop .clock)
+          (at-loop .loop .next))
           (at-loop .loop .count) (at-loop .loop .place)
           (at-loop .loop .inv) (at-read .before .before .loop-test .taken) (at-read .read .result) _ (at-read .read .ensures) (c .if2 .taken);
       taken = λ e. absurd (omega (arith, e, c .if2 .taken));
@@ -49,7 +51,8 @@ loop-again : tie.Need-loop-again Inv-loop μ-loop
 loop-again c =
     let at-read = c .before .before .before .before .before .before .before in let at-loop = at-read .before .before .before in
     let args = at-loop .before .before .before .before .before .args in
-    gather-more (now (args .bytes)) (at-loop .loop .streams) (at-loop .loop .times) (clockWith (at-loop .loop .clock) (at-loop .loop .next)) (at-loop .loop .count)
+    gather-more (now (args .bytes)) (at-loop .loop .streams) (at-loop .loop .times) (clockWith (at-loop .loop .clock) (at-loop .loop .next))
+    (at-loop .loop .count)
     (at-loop .loop .place) (at-loop .loop .inv) (at-read .before .before .loop-test .taken) (at-read .read .result) _ (at-read .read .ensures)
     (omega (arith, c .before .before .before .before .before .if2 .left))
     _ _ _ (rw (← c .before .before .before .before .step-input .ensures) (c .before .append-event .ensures))
@@ -61,7 +64,8 @@ returns-3 c =
       refused = λ more. absurd (omega (arith, more));
       taken = λ e. (
         inv .steps,
-        gather-end (now (args .bytes)) (at-loop .loop .streams) (at-loop .loop .times) (clockWith (at-loop .loop .clock) (at-loop .loop .next)) (at-loop .loop .count)
+        gather-end (now (args .bytes)) (at-loop .loop .streams) (at-loop .loop .times) (clockWith (at-loop .loop .clock)
+        (at-loop .loop .next)) (at-loop .loop .count)
             (at-loop .loop .place) inv (c .loop-test .left),
         inv .counted,
         inv .kept,

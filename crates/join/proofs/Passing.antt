@@ -169,7 +169,7 @@ module _ (bytes avoid : List ℕ) where
       pub pass-more : r .number ≡ 0 → (kind : ℕ) (avoided : Bool) (kinds′ : List ℕ) (common′ : ℕ)
           → kind ≡ callKind (r .call) → avoided ≡ (ltb kind 64 && eqb (at avoid kind) 1)
           → kinds′ ≡ cond (ltb kind 64)
-              (set kinds kind 1) kinds → common′ ≡ firstCommon common avoided place → PassedTo bytes avoid later kinds′ common′ (r .next)
+          (set kinds kind 1) kinds → common′ ≡ firstCommon common avoided place → PassedTo bytes avoid later kinds′ common′ (r .next)
       unfolding recordQuestions
       pass-more e kind avoided kinds′ common′ kind-is avoided-is kinds-are common-is =
           let taken = next .taken e (before .steps) (before .read .after) in

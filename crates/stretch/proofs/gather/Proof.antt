@@ -65,7 +65,7 @@ returns-3 c =
       taken = λ e. (
         inv .steps,
         gather-end (now (args .bytes)) (at-loop .loop .streams) (at-loop .loop .times) (clockWith (at-loop .loop .clock)
-        (at-loop .loop .next)) (at-loop .loop .count)
+            (at-loop .loop .next)) (at-loop .loop .count)
             (at-loop .loop .place) inv (c .loop-test .left),
         inv .counted,
         inv .kept,

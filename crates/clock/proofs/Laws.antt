@@ -1,7 +1,7 @@
 -- A monitor over no rows has no row to crowd, so its clock, count, first free times and mark of the close alone answer each call; and what reading
 -- gives from a place on, over the steps read before it, is what it gives from the start.
-use Rattle.clock.specs.Clock.{After, AsksCall, ReadsNext, TakesCall, clockOf, refusedRead}
-use Rattle.clock.specs.{declared.Clock.Clock, declared.RecordRead.RecordRead}
+use Rattle.clock.specs.Clock.{After, AsksCall, Clock, ReadsNext, TakesCall, clockOf}
+use Rattle.clock.specs.declared.RecordRead.{RecordRead}
 use Rattle.constraint.proofs.Library.{List, [], _++_, _+_, _<_, _∙_, _∷_, _≡_, _≤_, ap, arith, false, getD, length, lt-ltb, map, refl, replicate, set}
 use Rattle.constraint.proofs.Library.{subst, sym, ℕ}
 use Rattle.constraint.proofs.{History.Valid, History.valid-none, Judged.judged-none, Runs.run-valid, Sanity.run-once}
@@ -117,7 +117,7 @@ module _ (steps : List Step) (o : Clock) (before : After steps o) where
 -- ---- what the code promises of a call and of a record
 
 module _ (o : Clock) (s : Call) (n : ℕ) (is : n ≡ refusalOf o s) where
-  pub takes-refused : 0 < n → TakesCall o s (record { number = n; clock = o })
+  pub takes-refused : 0 < n → TakesCall o s n o
   takes-refused h =
       record {
         taken = λ e. absurd (omega (arith, e, h));
@@ -126,7 +126,7 @@ module _ (o : Clock) (s : Call) (n : ℕ) (is : n ≡ refusalOf o s) where
         as-it-was = λ more. refl;
       }
 
-  pub takes-taken : n ≤ 0 → (later : Clock) → later ≡ clockAfter o s → TakesCall o s (record { number = 0; clock = later })
+  pub takes-taken : n ≤ 0 → (later : Clock) → later ≡ clockAfter o s → TakesCall o s 0 later
   takes-taken h later e =
       record {
         taken = λ zero steps before. subst (λ (x : Clock). Judged (questions [] steps s) Taken × After (steps ++ (stepFor s ∷ [])) x) (sym e)
@@ -136,24 +136,26 @@ module _ (o : Clock) (s : Call) (n : ℕ) (is : n ≡ refusalOf o s) where
       }
 
 module _ (bytes : List ℕ) (place : ℕ) (o : Clock) where
-  pub read-none : ¬ RecordAt bytes place → ReadsNext bytes place o (refusedRead o 14)
-  read-none not-there =
+  pub read-none : (r : RecordRead) → r .number ≡ 14 → r .call ≡ Call.Close → r .next ≡ 0 → ¬ RecordAt bytes place → ReadsNext bytes place o r o
+  read-none r number-is call-is next-is not-there =
       record {
-        taken = λ e. absurd (omega (arith, e));
-        refused = λ more steps before. record-not-there [] steps bytes place not-there;
+        taken = λ e. absurd (omega (arith, e, number-is));
+        refused = λ more steps before. subst (λ (n : ℕ). Judged (recordQuestions [] steps bytes place) (Refused n)) (sym number-is)
+            (record-not-there [] steps bytes place not-there);
         as-it-was = λ more. refl;
-        there = λ e. absurd (omega (arith, e));
+        there = λ e. absurd (omega (arith, e, number-is));
         call-is = λ whole. absurd (not-there whole);
         next-is = λ whole. absurd (not-there whole);
-        none = λ _. refl;
+        none = λ _. (number-is, call-is, next-is);
       }
 
-  pub read-call : (s : Call) (next : ℕ) (r : RecordRead) → CallAt bytes place s next → AsksCall o s next r → ReadsNext bytes place o r
-  read-call s next r read answered =
+  pub read-call : (s : Call) (next : ℕ) (r : RecordRead) (later : Clock) → CallAt bytes place s next → AsksCall o s next r later
+      → ReadsNext bytes place o r later
+  read-call s next r later read answered =
       record {
         taken = λ e steps before. let given = answered .takes .taken e steps before in (
           record-judged [] steps bytes place s next Taken read (given .0),
-          subst (λ (x : Call). After (steps ++ (stepFor x ∷ [])) (r .clock)) (sym (answered .call-is)) (given .1),
+          subst (λ (x : Call). After (steps ++ (stepFor x ∷ [])) later) (sym (answered .call-is)) (given .1),
         );
         refused = λ more steps before. record-judged [] steps bytes place s next (Refused (r .number)) read
             (answered .takes .refused more steps before);

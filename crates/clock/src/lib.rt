@@ -1,16 +1,13 @@
 // The clock of a recording: its time, its count and the first free time of each stream, with all questions of a step except 12. Records are read one
-// by one, and no row is stepped.
+// by one, and no row is stepped. The first free times stay in an array that the caller lends.
 use constraint::Call;
 use row_type::parts::plus;
-ghost use mathlib.Core.Path.{_≡_};
-ghost use Rattle.clock.specs.Clock.{Starts, TakesCall, refusedRead, AsksCall, ReadsNext};
+ghost use Rattle.clock.specs.Clock.{Starts, TakesCall, clockWith, AsksCall, ReadsNext};
 
 pub struct Clock {
     pub time: u64,
     // the steps taken
     pub count: u64,
-    // for each stream the first time still free: one more than the time of its last event; 0: none
-    pub next: [u64; 176],
     // 0: not closed
     pub closed: u64,
 }
@@ -30,25 +27,25 @@ pub struct RecordRead {
 }
 
 impl Clock {
-    // The clock before any step.
+    // The clock before any step, beside first free times that are all 0.
     pub fn start() -> Self
         ensures { λ r. ⌜ Starts r ⌝ }
     {
         Clock {
             time: 0,
             count: 0,
-            next: [0u64; 176],
             closed: 0,
         }
     }
 
-    // The answer to a call: questions 8 to 11, 19 and 24; and the clock after it, on a refusal as it was.
-    pub fn take(self, call: Call) -> Answered
-        ensures { λ r. ⌜ TakesCall self call r ⌝ }
+    // The answer to a call: questions 8 to 11, 19 and 24; and the clock after it, on a refusal as it was. For each stream `next` has the first time
+    // that is still free: one more than the time of its last event, or 0.
+    pub fn take(self, next: &mut [u64; 176], call: Call) -> Answered
+        ensures { λ r. ⌜ TakesCall (clockWith self (now (next .entry))) call (r .number) (clockWith (r .clock) (now (next .exit))) ⌝ }
     {
         let at = questions::place(call);
-        let next = self.next[at];
-        let number = questions::refusal(call, self.closed, self.count, self.time, next);
+        let free = next[at];
+        let number = questions::refusal(call, self.closed, self.count, self.time, free);
         if 0 < number {
             return Answered {
                 number,
@@ -56,49 +53,43 @@ impl Clock {
             };
         }
         let o = questions::step_input(call, self.time);
-        let mut clock = self;
-        clock.next[at] = questions::free(call, next);
-        clock.time = o.time;
-        clock.count = plus(self.count, 1);
-        clock.closed = questions::closed(call, self.closed);
+        next[at] = questions::free(call, free);
+        let clock = Clock {
+            time: o.time,
+            count: plus(self.count, 1),
+            closed: questions::closed(call, self.closed),
+        };
         Answered { number: 0, clock }
     }
 }
 
-// The refusal of a record: the clock as it is.
-fn refused(clock: Clock, number: u8) -> RecordRead
-    ensures { λ r. ⌜ r ≡ refusedRead clock number ⌝ }
-{
-    RecordRead {
-        number,
-        call: Call::Close,
-        next: 0,
-        clock,
-    }
-}
-
 // The call of a record that ends before a place.
-fn asked(clock: Clock, call: Call, next: usize) -> RecordRead
-    ensures { λ r. ⌜ AsksCall clock call next r ⌝ }
+fn asked(clock: Clock, next: &mut [u64; 176], call: Call, place: usize) -> RecordRead
+    ensures { λ r. ⌜ AsksCall (clockWith clock (now (next .entry))) call place r (clockWith (r .clock) (now (next .exit))) ⌝ }
 {
-    let taken = clock.take(call);
+    let taken = clock.take(next, call);
     let after = taken.clock;
     RecordRead {
         number: taken.number,
         call,
-        next,
+        next: place,
         clock: after,
     }
 }
 
 // The record at a place: question 14, then those of its step.
-pub fn read(bytes: &[u8], place: usize, clock: Clock) -> RecordRead
-    ensures { λ r. ⌜ ReadsNext (now (bytes .entry)) place clock r ⌝ }
+pub fn read(bytes: &[u8], place: usize, clock: Clock, next: &mut [u64; 176]) -> RecordRead
+    ensures { λ r. ⌜ ReadsNext (now (bytes .entry)) place (clockWith clock (now (next .entry))) r (clockWith (r .clock) (now (next .exit))) ⌝ }
 {
     let record = recording::call_at(bytes, place);
     if 0 < record.number {
-        return refused(clock, record.number);
+        return RecordRead {
+            number: record.number,
+            call: Call::Close,
+            next: 0,
+            clock,
+        };
     }
     let call = record.call;
-    asked(clock, call, record.next)
+    asked(clock, next, call, record.next)
 }

@@ -2,6 +2,7 @@
 use Rattle.join.proofs.Names.{AnswersJoin, Found, JoinAnswer, List, NoneInCommon, Passed, Passes, ReadsInOrder, Records, Step, Walked, Walks}
 use Rattle.join.proofs.Names.{_<_, _∙_, _≡_, arith, both, false, in-common, joinedBytes, kindsOf, length, no-first, no-second, recording-of}
 use Rattle.join.proofs.Names.{replicate, split, stores-front, subst, sym, too-short, true, written, ℕ, ⊎-elim}
+use Rattle.join.proofs.Names.{Bool, Decides, OutgrowsIn}
 use Rattle.join.proofs.Records.{whole}
 
 module _ (one two before : List ℕ) (p : Passed) (first-passes : Passes one (replicate 64 0) p) where
@@ -49,18 +50,22 @@ module _ (one two before : List ℕ) (p : Passed) (first-passes : Passes one (re
         second-records : Records two 1 second
         second-records = whole two second second-read .records
 
-        module _ (nowhere after : List ℕ) (m : Walked) (measured : Walks one two nowhere (length before) m after) where
-          pub answer-short : m .fits ≡ false → AnswersJoin one two before JoinAnswer.TooShort before
-          answer-short e = too-short first second first-read second-read apart (measured .short e first second first-records second-records)
+        module _ (long : Bool) (measured : OutgrowsIn one two (length before) long) where
+          is-long : Decides (length before < length (joinedBytes one two first second)) long
+          is-long = measured first second first-records second-records
 
-          pub answer-written : m .fits ≡ true → (w : Walked) (end : List ℕ) → Walks one two before (length before) w end
+          pub answer-short : long ≡ true → AnswersJoin one two before JoinAnswer.TooShort before
+          answer-short e = too-short first second first-read second-read apart
+              (subst (Decides (length before < length (joinedBytes one two first second))) e is-long)
+
+          pub answer-written : long ≡ false → (w : Walked) (end : List ℕ) → Walks one two before (length before) w end
               → AnswersJoin one two before (JoinAnswer.Joined (w .size)) end
           answer-written e w end walks =
-              let fits = measured .fits e first second first-records second-records in
+              let fits = subst (Decides (length before < length (joinedBytes one two first second))) e is-long in
               split (w .fits) (λ x. AnswersJoin one two before (JoinAnswer.Joined (w .size)) end)
               (λ t. let (size, room, stored) = walks .fits t first second first-records second-records in
               subst (λ (n : ℕ). AnswersJoin one two before (JoinAnswer.Joined n) end) (sym size)
               (subst (AnswersJoin one two before (JoinAnswer.Joined (length (joinedBytes one two first second))))
               (sym (stored ∙ stores-front before (joinedBytes one two first second) (omega (arith, size, room))))
               (written first second first-read second-read apart (omega (arith, size, room)))))
-              (λ f. absurd (omega (arith, walks .short f first second first-records second-records, fits .0, fits .1)))
+              (λ f. absurd (fits (walks .short f first second first-records second-records)))

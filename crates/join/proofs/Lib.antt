@@ -4,6 +4,7 @@ pub mod Merging
 pub mod Bytes
 pub mod Records
 pub mod Walking
+pub mod Bounds
 pub mod Passing
 pub mod Answers
 pub mod Holding

@@ -2,6 +2,7 @@
 use Rattle.join.proofs.Names.{After, Bool, Call, Clock, FirstOf, Found, Judged, List, List·getD-eq-default, Marks, ReadUpTo, ReadsInOrder}
 use Rattle.join.proofs.Names.{ReadsNext, RecordRead, Step, Taken, VersionKnown, [], _++_, _+_, _<_, _||_, _∙_, _∷_, _≡_, _≤_, _⊎_, among, ap}
 use Rattle.join.proofs.Names.{append-nil, arith, at, both, callAt, callKind, close, cond, either-true, eq-eqb, eqb, eqb-false, eqb-true, event}
+use Rattle.join.proofs.Names.{_&&_, ltb, ltb-false}
 use Rattle.join.proofs.Names.{false, firstCommon, getD-replicate, getD-set-other, getD-set-same, here, inl, inr, judged-all, kindOf, kindsOf}
 use Rattle.join.proofs.Names.{lastKind, later, length, length-replicate, length-set, lengthAt, lt-ltb, ne-eqb, ofKinds, plain-kind, questions}
 use Rattle.join.proofs.Names.{recordQuestions, recording-of, recording-refused, refl, replicate, set, set-out, split, stepFor, stream}
@@ -84,6 +85,17 @@ marked-as marks ks s k (inl (e, h, of)) m =
     (split (among k ks) (λ x. among k ks ≡ x → eqb (cond x 1 0) 1 ≡ ofKinds ks s) (λ t f. sym (of ks ∙ f)) (λ t f. sym (of ks ∙ f)) refl)
 marked-as marks ks s k (inr (e, none, of)) m = rw (List·getD-eq-default marks 0 {n = k} (omega (arith, m .size, none))) (sym (of ks))
 
+-- a kind past the last has no mark
+set-within : (marks : List ℕ) (k : ℕ) → length marks ≡ 64 → cond (ltb k 64) (set marks k 1) marks ≡ set marks k 1
+set-within marks k size =
+    split (ltb k 64) (λ x. cond x (set marks k 1) marks ≡ set marks k 1) (λ e. refl)
+    (λ e. sym (set-out marks k 1 (omega (arith, ltb-false k 64 e, size))))
+
+marked-within : (marks : List ℕ) (k : ℕ) → length marks ≡ 64 → (ltb k 64 && eqb (at marks k) 1) ≡ eqb (at marks k) 1
+marked-within marks k size =
+    split (ltb k 64) (λ x. (x && eqb (at marks k) 1) ≡ eqb (at marks k) 1) (λ e. refl)
+    (λ e. rw (List·getD-eq-default marks 0 {n = k} (omega (arith, ltb-false k 64 e, size))))
+
 -- ---- the search
 
 -- before a place: none so far, and what is found from there on is found from the start; or found
@@ -153,10 +165,11 @@ module _ (bytes avoid : List ℕ) where
       }
 
   module _ (o : Clock) (kinds : List ℕ) (common place : ℕ) (before : PassedTo bytes avoid o kinds common place) where
-    module _ (there : place < length bytes) (r : RecordRead) (next : ReadsNext bytes place o r) where
+    module _ (there : place < length bytes) (r : RecordRead) (later : Clock) (next : ReadsNext bytes place o r later) where
       pub pass-more : r .number ≡ 0 → (kind : ℕ) (avoided : Bool) (kinds′ : List ℕ) (common′ : ℕ)
-          → kind ≡ callKind (r .call) → avoided ≡ eqb (at avoid kind) 1
-          → kinds′ ≡ set kinds kind 1 → common′ ≡ firstCommon common avoided place → PassedTo bytes avoid (r .clock) kinds′ common′ (r .next)
+          → kind ≡ callKind (r .call) → avoided ≡ (ltb kind 64 && eqb (at avoid kind) 1)
+          → kinds′ ≡ cond (ltb kind 64)
+          (set kinds kind 1) kinds → common′ ≡ firstCommon common avoided place → PassedTo bytes avoid later kinds′ common′ (r .next)
       unfolding recordQuestions
       pass-more e kind avoided kinds′ common′ kind-is avoided-is kinds-are common-is =
           let taken = next .taken e (before .steps) (before .read .after) in
@@ -165,9 +178,10 @@ module _ (bytes avoid : List ℕ) where
           let is : KindIs (stepFor (r .call)) kind = subst (KindIs (stepFor (r .call))) (sym kind-is) (call-kind (before .steps) (r .call) asked) in
           record {
             steps = before .steps ++ (stepFor (r .call) ∷ []);
-            read = up-to-more bytes place (before .steps) o (before .read) (r .call) (r .next) (r .clock)
+            read = up-to-more bytes place (before .steps) o (before .read) (r .call) (r .next) later
                 there (next .call-is (next .there e)) (next .next-is (next .there e) .0) (taken .0) (taken .1);
-            marks = subst (λ (l : List ℕ). Marks l (kindsOf (before .steps ++ (stepFor (r .call) ∷ [])))) (sym kinds-are)
+            marks = subst (λ (l : List ℕ). Marks l (kindsOf (before .steps ++ (stepFor (r .call) ∷ [])))) (sym
+                (kinds-are ∙ set-within kinds kind (before .marks .size)))
                 (marks-more kinds (before .steps) (stepFor (r .call)) kind is (before .marks));
             positive = omega (arith, before .positive, next .next-is (next .there e) .0);
             search = λ ks m.
@@ -176,7 +190,7 @@ module _ (bytes avoid : List ℕ) where
                 (sym (next .next-is (next .there e) .0))
                 (search-more ks bytes place (before .steps) (stepFor (r .call)) kind is
                 (ap stepFor (sym (next .call-is (next .there e)))) there (before .positive) common (before .search ks m)
-                avoided (avoided-is ∙ marked-as avoid ks (stepFor (r .call)) kind is m)));
+                avoided (avoided-is ∙ marked-within avoid kind (m .size) ∙ marked-as avoid ks (stepFor (r .call)) kind is m)));
           }
 
       pub pass-refused : 0 < r .number → ReadsInOrder bytes (recording-refused (r .number) place)

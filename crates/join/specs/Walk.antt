@@ -9,6 +9,7 @@ use lib.Seq.{sets}
 use lib.Dec.{ltb}
 use Rattle.constraint.specs.Steps.{Step, at, among}
 use Rattle.constraint.specs.Run.{stepFor}
+use Rattle.constraint.specs.Records.{Decides}
 use Rattle.constraint.specs.Table.{lengthAt}
 use Rattle.constraint.specs.Recording.{callAt, RecordAt, ReadsInOrder, recording-of, recording-refused}
 use Rattle.constraint.specs.declared.Call.{Call}
@@ -70,6 +71,11 @@ pub record Walks (one two before : List ℕ) (limit : ℕ) (r : Walked) (after :
       → (r .size ≡ length (joinedBytes one two first second)) × (r .size ≤ limit) × (after ≡ sets before 0 (joinedBytes one two first second))
   pub short : r .fits ≡ false → (first second : List Step) → Records one 1 first → Records two 1 second
       → limit < length (joinedBytes one two first second)
+
+-- whether the joined recording is longer than a limit
+abbrev pub OutgrowsIn : List ℕ → List ℕ → ℕ → Bool → Type 0
+OutgrowsIn one two limit r =
+    (first second : List Step) → Records one 1 first → Records two 1 second → Decides (limit < length (joinedBytes one two first second)) r
 
 -- ---- the pass
 

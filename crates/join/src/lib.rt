@@ -3,16 +3,20 @@
 use clock::Clock;
 use constraint::Call;
 use constraint::JoinAnswer;
+use constraint::STREAM_COUNT;
+use recording::CallRead;
 ghost use mathlib.Core.Path.{_≡_};
-ghost use mathlib.Core.Bool.{true, false, not, _&&_, _||_};
-ghost use Prim.Native.Nat.{_+_, _≤_, max};
-ghost use lib.Dec.{eqb, leb};
+ghost use mathlib.Core.Bool.{true, false, cond, not, _&&_, _||_};
+ghost use Prim.Native.Nat.{ℕ, _+_, _≤_, max};
+ghost use lib.Dec.{eqb, leb, ltb};
 ghost use lib.ListN.{length, set};
 ghost use lib.Seq.{sets};
 ghost use Rattle.constraint.specs.Steps.{at};
 ghost use Rattle.constraint.specs.Run.{stepFor};
 ghost use Rattle.constraint.specs.Joined.{timeOf, isDropped, AnswersJoin};
-ghost use Rattle.join.specs.Walk.{callBytes, callKind, leftBytes, leftClock, Nexts, Walks, firstCommon, Passes};
+ghost use mathlib.Core.List.{List};
+ghost use Rattle.recording.specs.Record.{ReadsCall};
+ghost use Rattle.join.specs.Walk.{callBytes, callKind, leftBytes, leftClock, Nexts, Walks, OutgrowsIn, firstCommon, Passes};
 
 // The record that comes next, if there is one: its call, and the places in both recordings behind it.
 pub struct Next {
@@ -147,12 +151,10 @@ fn first_comes(there: bool, time: u64, other: bool, against: u64) -> bool
 }
 
 // §13.1
-// The record that comes next, from a place in each recording on.
-fn following(first: &[u8], second: &[u8], place: usize, other: usize) -> Next
-    ensures { λ r. ⌜ Nexts (now (first .entry)) (now (second .entry)) place other r ⌝ }
+// Which record comes next, where `a` is the record at a place in the first recording and `b` that at a place in the second.
+fn following(a: CallRead, b: CallRead, place: usize, other: usize) -> Next
+    ensures { λ r. ⌜ ((one two : List ℕ) → ReadsCall one place a → ReadsCall two other b → Nexts one two place other r) ⌝ }
 {
-    let a = recording::call_at(first, place);
-    let b = recording::call_at(second, other);
     let one = a.call;
     let two = b.call;
     if first_comes(a.number == 0, time_of(one), b.number == 0, time_of(two)) {
@@ -169,6 +171,16 @@ fn following(first: &[u8], second: &[u8], place: usize, other: usize) -> Next
         first: place,
         second: b.next,
     }
+}
+
+// The record at the next place, where `a` is the record at a place: it is read again only if the place is another.
+fn read_again(bytes: &[u8], place: usize, next: usize, a: CallRead) -> CallRead
+    ensures { λ r. ⌜ (ReadsCall (now (bytes .entry)) place a → ReadsCall (now (bytes .entry)) next r) ⌝ }
+{
+    if next == place {
+        return a;
+    }
+    recording::call_at(bytes, next)
 }
 
 // §13.3
@@ -196,10 +208,12 @@ fn walk(first: &[u8], second: &[u8], buffer: &mut [u8], limit: usize) -> Walked
     big_endian::put_byte(buffer, 0, version(first, second));
     let mut place: usize = 1;
     let mut other: usize = 1;
+    let mut a = recording::call_at(first, place);
+    let mut b = recording::call_at(second, other);
     let mut clock: u64 = 0;
     let mut size: usize = 1;
     loop {
-        let next = following(first, second, place, other);
+        let next = following(a, b, place, other);
         if !next.there {
             return Walked { fits: true, size };
         }
@@ -214,14 +228,16 @@ fn walk(first: &[u8], second: &[u8], buffer: &mut [u8], limit: usize) -> Walked
         put_left(buffer, size, clock, call);
         size += more;
         clock = left_clock(clock, call);
+        a = read_again(first, place, next.first, a);
+        b = read_again(second, other, next.second, b);
         place = next.first;
         other = next.second;
     }
 }
 
 // Whether a kind is marked.
-fn marked(marks: [u8; 64], kind: u8) -> bool
-    ensures { λ r. ⌜ r ≡ eqb (at marks kind) 1 ⌝ }
+fn marked(marks: &[u8; 64], kind: u8) -> bool
+    ensures { λ r. ⌜ r ≡ (ltb kind 64 && eqb (at (now (marks .entry)) kind) 1) ⌝ }
 {
     let place = kind as usize;
     if 64 <= place {
@@ -230,16 +246,15 @@ fn marked(marks: [u8; 64], kind: u8) -> bool
     marks[place] == 1
 }
 
-// The marks with that of a kind.
-fn mark(mut marks: [u8; 64], kind: u8) -> [u8; 64]
-    ensures { λ r. ⌜ r ≡ set marks kind 1 ⌝ }
+// Sets the mark of a kind.
+fn mark(marks: &mut [u8; 64], kind: u8)
+    ensures { λ _. ⌜ now (marks .exit) ≡ cond (ltb kind 64) (set (now (marks .entry)) kind 1) (now (marks .entry)) ⌝ }
 {
     let place = kind as usize;
     if 64 <= place {
-        return marks;
+        return;
     }
     marks[place] = 1;
-    marks
 }
 
 // The place of the first record to avoid (0: none), with one record more.
@@ -253,23 +268,24 @@ fn first_common(common: usize, avoided: bool, place: usize) -> usize
 }
 
 // The pass over a recording: questions 13 and 14 and those of the steps; its kinds, and the first record of a kind to avoid.
-fn pass(bytes: &[u8], avoid: [u8; 64]) -> Passed
-    ensures { λ r. ⌜ Passes (now (bytes .entry)) avoid r ⌝ }
+fn pass(bytes: &[u8], avoid: &[u8; 64]) -> Passed
+    ensures { λ r. ⌜ Passes (now (bytes .entry)) (now (avoid .entry)) r ⌝ }
 {
     if !recording::version_known(bytes) {
         return Passed {
             number: 13,
             place: 0,
-            kinds: avoid,
+            kinds: [0u8; 64],
             common: 0,
         };
     }
     let mut clock = Clock::start();
+    let mut next = [0u64; STREAM_COUNT];
     let mut kinds = [0u8; 64];
     let mut common: usize = 0;
     let mut place: usize = 1;
     while place < bytes.len() {
-        let read = clock::read(bytes, place, clock);
+        let read = clock::read(bytes, place, clock, &mut next);
         if 0 < read.number {
             return Passed {
                 number: read.number,
@@ -281,8 +297,7 @@ fn pass(bytes: &[u8], avoid: [u8; 64]) -> Passed
         let call = read.call;
         let kind = kind_of(call);
         common = first_common(common, marked(avoid, kind), place);
-        let more = mark(kinds, kind);
-        kinds = more;
+        mark(&mut kinds, kind);
         let later = read.clock;
         clock = later;
         place = read.next;
@@ -295,12 +310,27 @@ fn pass(bytes: &[u8], avoid: [u8; 64]) -> Passed
     }
 }
 
+// Whether the joined recording is longer than a limit. It is never longer than both recordings together, so a limit of that size needs no walk.
+fn outgrows(first: &[u8], second: &[u8], limit: usize) -> bool
+    ensures { λ r. ⌜ OutgrowsIn (now (first .entry)) (now (second .entry)) limit r ⌝ }
+{
+    if second.len() <= limit {
+        if first.len() < limit - second.len() {
+            return false;
+        }
+    }
+    let mut nowhere = [0u8; 1];
+    let measured = walk(first, second, &mut nowhere, limit);
+    !measured.fits
+}
+
 // §8.16, §8.20, §13.5 to §13.7
 // Joins two recordings: writes the joined one to the front of a buffer and answers its length; or the refusal, with the buffer as it was.
 pub fn join(first: &[u8], second: &[u8], joined: &mut [u8]) -> JoinAnswer
     ensures { λ r. ⌜ AnswersJoin (now (first .entry)) (now (second .entry)) (now (joined .entry)) r (now (joined .exit)) ⌝ }
 {
-    let one = pass(first, [0u8; 64]);
+    let none = [0u8; 64];
+    let one = pass(first, &none);
     if 0 < one.number {
         return JoinAnswer::FirstRefused {
             number: one.number,
@@ -308,7 +338,7 @@ pub fn join(first: &[u8], second: &[u8], joined: &mut [u8]) -> JoinAnswer
         };
     }
     let kinds = one.kinds;
-    let two = pass(second, kinds);
+    let two = pass(second, &kinds);
     if 0 < two.number {
         return JoinAnswer::SecondRefused {
             number: two.number,
@@ -322,9 +352,7 @@ pub fn join(first: &[u8], second: &[u8], joined: &mut [u8]) -> JoinAnswer
         };
     }
     let limit = joined.len();
-    let mut nowhere = [0u8; 1];
-    let measured = walk(first, second, &mut nowhere, limit);
-    if !measured.fits {
+    if outgrows(first, second, limit) {
         return JoinAnswer::TooShort;
     }
     let written = walk(first, second, joined, limit);

@@ -25,15 +25,15 @@ module _ (bytes : List ℕ) (a : LateRow) where
   pass-start known o start = record { steps = []; read = up-to-start bytes known o start; keeps = λ plain small. keeps-none a }
 
   module _ (o : Clock) (s : Stamps) (place : ℕ) (before : PassedTo bytes a o s place) where
-    module _ (there : place < length bytes) (r : RecordRead) (next : ReadsNext bytes place o r) where
-      pub pass-more : r .number ≡ 0 → PassedTo bytes a (r .clock) (callAfter a s (r .call)) (r .next)
+    module _ (there : place < length bytes) (r : RecordRead) (later : Clock) (next : ReadsNext bytes place o r later) where
+      pub pass-more : r .number ≡ 0 → PassedTo bytes a later (callAfter a s (r .call)) (r .next)
       pass-more e =
           let taken = next .taken e (before .steps) (before .read .after) in
           let asked = subst (λ (x : Call). Judged (questions [] (before .steps) x) Taken) (next .call-is (next .there e))
           (record-accepts bytes [] (before .steps) place (taken .0) .1) in
           record {
             steps = before .steps ++ (stepFor (r .call) ∷ []);
-            read = up-to-more bytes place (before .steps) o (before .read) (r .call) (r .next) (r .clock)
+            read = up-to-more bytes place (before .steps) o (before .read) (r .call) (r .next) later
                 there (next .call-is (next .there e)) (next .next-is (next .there e) .0) (taken .0) (taken .1);
             keeps = λ plain small. keeps-call a plain small (before .steps) s (before .keeps plain small)
                 (r .call) (accepts-taken [] (before .steps) (r .call) asked);

@@ -2,6 +2,7 @@
 use clock::Clock;
 use constraint::Call;
 use constraint::NO_LIMIT;
+use constraint::STREAM_COUNT;
 use constraint::StampedAnswer;
 use constraint::StampedVerdict;
 use monitor::Monitor;
@@ -255,10 +256,11 @@ fn pass(bytes: &[u8], asked: LateRow) -> Passed
         };
     }
     let mut clock = Clock::start();
+    let mut next = [0u64; STREAM_COUNT];
     let mut stamps = Stamps::new();
     let mut place: usize = 1;
     while place < bytes.len() {
-        let read = clock::read(bytes, place, clock);
+        let read = clock::read(bytes, place, clock, &mut next);
         if 0 < read.number {
             return Passed {
                 number: read.number,

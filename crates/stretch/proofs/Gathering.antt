@@ -1,6 +1,6 @@
 -- A recording's records go to the arrays one by one, as long as there is room, and a record's stream and time say what it is.
 use Rattle.clock.proofs.Laws.{ReadUpTo, up-to-end, up-to-more, up-to-refused, up-to-start}
-use Rattle.clock.specs.{Clock.After, Clock.ReadsNext, declared.Clock.Clock, declared.RecordRead.RecordRead}
+use Rattle.clock.specs.{Clock.After, Clock.Clock, Clock.ReadsNext, declared.RecordRead.RecordRead}
 use Rattle.constraint.proofs.Library.{List, List·getD-append, [], _++_, _<_, _∙_, _∷_, _≡_, _≤_, ap, arith, by-cases, cond, decLt, eqb, getD-at}
 use Rattle.constraint.proofs.Library.{getD-set-other, getD-set-same, length, length-append, length-set, min, ne-eqb, refl, set, subst, sym, ℕ}
 use Rattle.constraint.proofs.Library.{ℕ-discrete}
@@ -86,13 +86,13 @@ module _ (bytes streams times : List ℕ) where
       }
 
   module _ (o : Clock) (count place : ℕ) (before : GatheredTo bytes streams times o count place) where
-    module _ (there : place < length bytes) (r : RecordRead) (next : ReadsNext bytes place o r) where
+    module _ (there : place < length bytes) (r : RecordRead) (later : Clock) (next : ReadsNext bytes place o r later) where
       pub gather-refused : 0 < r .number → ReadsInOrder bytes (recording-refused (r .number) place)
       gather-refused h =
           up-to-refused bytes place (before .steps) o (before .read) (r .number) there (next .refused h (before .steps) (before .read .after))
 
       module _ (e : r .number ≡ 0) where
-        judged : Judged (recordQuestions [] (before .steps) bytes place) Taken × After (before .steps ++ (stepFor (r .call) ∷ [])) (r .clock)
+        judged : Judged (recordQuestions [] (before .steps) bytes place) Taken × After (before .steps ++ (stepFor (r .call) ∷ [])) later
         judged = next .taken e (before .steps) (before .read .after)
 
         is : stepFor (r .call) ≡ stepAs (stepInputBy (r .call) 0 .stream) (stepInputBy (r .call) 0 .time)
@@ -104,11 +104,11 @@ module _ (bytes streams times : List ℕ) where
             (λ close. never-close (at bytes 0) (bodyAt bytes place) (next .call-is (next .there e) ∙ close))
 
         pub gather-more : (streams′ times′ : List ℕ) (count′ : ℕ) → KeepsRecord streams times count (stepInputBy (r .call) 0) streams′ times′ count′
-            → GatheredTo bytes streams′ times′ (r .clock) count′ (r .next)
+            → GatheredTo bytes streams′ times′ later count′ (r .next)
         gather-more streams′ times′ count′ keeps =
             record {
               steps = before .steps ++ (stepFor (r .call) ∷ []);
-              read = up-to-more bytes place (before .steps) o (before .read) (r .call) (r .next) (r .clock) there (next .call-is (next .there e))
+              read = up-to-more bytes place (before .steps) o (before .read) (r .call) (r .next) later there (next .call-is (next .there e))
                   (next .next-is (next .there e) .0) (judged .0) (judged .1);
               counted = by-cases (decLt count 256)
                   (λ room. omega (arith, keeps .room room .0, before .counted, length-append (before .steps) (stepFor (r .call) ∷ [])))

@@ -1,6 +1,7 @@
 // The shortest stretch of consecutive records that breaks a row. It runs each start once, over one row without a monitor, to find the least number of
 // records that break the row from there. Then it tries the stretches by length and by start.
 use clock::Clock;
+use constraint::STREAM_COUNT;
 use constraint::StretchAnswer;
 use questions::NO_EVENT;
 use questions::NO_STREAM;
@@ -90,10 +91,11 @@ fn gather(bytes: &[u8], streams: &mut [u64; 256], times: &mut [u64; 256]) -> Gat
         };
     }
     let mut clock = Clock::start();
+    let mut next = [0u64; STREAM_COUNT];
     let mut count: usize = 0;
     let mut place: usize = 1;
     while place < bytes.len() {
-        let read = clock::read(bytes, place, clock);
+        let read = clock::read(bytes, place, clock, &mut next);
         if 0 < read.number {
             return Gathered {
                 number: read.number,

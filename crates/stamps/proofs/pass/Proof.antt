@@ -1,14 +1,14 @@
 -- The loop reads record after record: what is kept of the stamps is that of the steps read so far.
-use Rattle.stamps.proofs.Names.{_-_, arith, failed, free, length, now, passed, version-refused}
+use Rattle.stamps.proofs.Names.{_-_, arith, clockWith, failed, free, length, now, passed, version-refused}
 use Rattle.stamps.proofs.Progress.{PassedTo, pass-end, pass-more, pass-refused, pass-start}
 use Rattle.stamps.proofs.pass.Statement.{statement}
 use Rattle.stamps.proofs.pass.Tie as tie
 
 abbrev Inv-loop : tie.InvT-loop
-Inv-loop bytes asked clock₀ stamps₀ place₀ clock stamps place = PassedTo bytes asked clock stamps place
+Inv-loop bytes asked clock₀ next₀ stamps₀ place₀ clock next stamps place = PassedTo bytes asked (clockWith clock next) stamps place
 
 abbrev μ-loop : tie.MeasureT-loop
-μ-loop bytes asked clock₀ stamps₀ place₀ clock stamps place = length bytes - place
+μ-loop bytes asked clock₀ next₀ stamps₀ place₀ clock next stamps place = length bytes - place
 
 returns : tie.Need-returns Inv-loop μ-loop
 returns c =
@@ -23,15 +23,16 @@ loop-holds c =
     let started = c .before in let checked = started .before in let asked = checked .before in let args = asked .before .before .args in
     rw (c .new .ensures)
     (pass-start (now (args .bytes)) (args .asked) (passed (asked .version-known .result) (asked .version-known .ensures) (checked .if1 .left))
-    (started .start .result) (started .start .ensures))
+    (clockWith (started .start .result) _) (started .start .ensures))
 
 returns-2 : tie.Need-returns-2 Inv-loop μ-loop
 returns-2 c =
-    let at-read = c .before .before in let at-loop = at-read .before .before in
+    let at-read = c .before .before in let at-loop = at-read .before .before .before in
     let args = at-loop .before .before .before .before .before .before .args in
     record {
-      refused = λ more. pass-refused (now (args .bytes)) (args .asked) (at-loop .loop .clock) (at-loop .loop .stamps) (at-loop .loop .place)
-          (at-loop .loop .inv) (at-read .before .loop-test .taken) (at-read .read .result) (at-read .read .ensures) (c .if2 .taken);
+      refused = λ more. pass-refused (now (args .bytes)) (args .asked) (clockWith (at-loop .loop .clock) (at-loop .loop .next))
+          (at-loop .loop .stamps) (at-loop .loop .place)
+          (at-loop .loop .inv) (at-read .before .before .loop-test .taken) (at-read .read .result) _ (at-read .read .ensures) (c .if2 .taken);
       taken = λ e. absurd (omega (arith, e, c .if2 .taken));
     }
 
@@ -43,12 +44,13 @@ loop-less c =
 
 loop-again : tie.Need-loop-again Inv-loop μ-loop
 loop-again c =
-    let at-read = c .before .before .before .before in let at-loop = at-read .before .before in
+    let at-read = c .before .before .before .before in let at-loop = at-read .before .before .before in
     let args = at-loop .before .before .before .before .before .before .args in
     rw (c .before .after .ensures)
-    (pass-more (now (args .bytes)) (args .asked) (at-loop .loop .clock) (at-loop .loop .stamps) (at-loop .loop .place) (at-loop .loop .inv)
-    (at-read .before .loop-test .taken)
-    (at-read .read .result) (at-read .read .ensures) (omega (arith, c .before .before .if2 .left)))
+    (pass-more (now (args .bytes)) (args .asked) (clockWith (at-loop .loop .clock) (at-loop .loop .next)) (at-loop .loop .stamps)
+    (at-loop .loop .place) (at-loop .loop .inv)
+    (at-read .before .before .loop-test .taken)
+    (at-read .read .result) _ (at-read .read .ensures) (omega (arith, c .before .before .if2 .left)))
 
 returns-3 : tie.Need-returns-3 Inv-loop μ-loop
 returns-3 c =
@@ -56,7 +58,8 @@ returns-3 c =
     record {
       refused = λ more. absurd (omega (arith, more));
       taken = λ e. rw (c .verdict .ensures)
-          (pass-end (now (args .bytes)) (args .asked) (at-loop .loop .clock) (at-loop .loop .stamps) (at-loop .loop .place) (at-loop .loop .inv)
+          (pass-end (now (args .bytes)) (args .asked) (clockWith (at-loop .loop .clock) (at-loop .loop .next)) (at-loop .loop .stamps)
+          (at-loop .loop .place) (at-loop .loop .inv)
           (c .before .loop-test .left));
     }
 

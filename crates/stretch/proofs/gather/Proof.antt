@@ -1,5 +1,6 @@
 -- The loop reads record after record and keeps what each is, as long as there is room.
 use Rattle.constraint.proofs.{Judged.failed, Judged.passed, Library._-_, Library.arith, Library.length, Library.now}
+use Rattle.clock.specs.Clock.{clockWith}
 use Rattle.constraint.specs.Recording.{version-refused}
 use Rattle.ring.proofs.Shared.{free}
 use Rattle.stretch.proofs.Gathering.{GatheredTo, gather-end, gather-more, gather-refused, gather-start}
@@ -7,10 +8,11 @@ use Rattle.stretch.proofs.gather.Statement.{statement}
 use Rattle.stretch.proofs.gather.Tie as tie
 
 abbrev Inv-loop : tie.InvT-loop
-Inv-loop bytes streams₀ times₀ clock₀ count₀ place₀ streams times clock count place = GatheredTo bytes streams times clock count place
+Inv-loop bytes streams₀ times₀ clock₀ next₀ count₀ place₀ streams times clock next count place =
+    GatheredTo bytes streams times (clockWith clock next) count place
 
 abbrev μ-loop : tie.MeasureT-loop
-μ-loop bytes streams₀ times₀ clock₀ count₀ place₀ streams times clock count place = length bytes - place
+μ-loop bytes streams₀ times₀ clock₀ next₀ count₀ place₀ streams times clock next count place = length bytes - place
 
 returns : tie.Need-returns Inv-loop μ-loop
 returns c =
@@ -24,16 +26,18 @@ loop-holds : tie.Need-loop-holds Inv-loop μ-loop
 loop-holds c =
     let checked = c .before in let asked = checked .before in let begun = asked .before .before in let args = begun .args in
     gather-start (now (args .bytes)) (args .streams .now) (args .times .now)
-    (passed (asked .version-known .result) (asked .version-known .ensures) (checked .if1 .left)) (c .start .result) (c .start .ensures)
+    (passed (asked .version-known .result) (asked .version-known .ensures) (checked .if1 .left)) (clockWith (c .start .result) _) (c .start .ensures)
     (begun .pre .0) (begun .pre .1)
 
 returns-2 : tie.Need-returns-2 Inv-loop μ-loop
 returns-2 c =
-    let at-read = c .before .before in let at-loop = at-read .before .before in let args = at-loop .before .before .before .before .before .args in
+    let at-read = c .before .before in let at-loop = at-read .before .before .before in
+    let args = at-loop .before .before .before .before .before .args in
     record {
-      refused = λ more. gather-refused (now (args .bytes)) (at-loop .loop .streams) (at-loop .loop .times) (at-loop .loop .clock)
+      refused = λ more. gather-refused (now (args .bytes)) (at-loop .loop .streams) (at-loop .loop .times) (clockWith (at-loop .loop .clock)
+          (at-loop .loop .next))
           (at-loop .loop .count) (at-loop .loop .place)
-          (at-loop .loop .inv) (at-read .before .loop-test .taken) (at-read .read .result) (at-read .read .ensures) (c .if2 .taken);
+          (at-loop .loop .inv) (at-read .before .before .loop-test .taken) (at-read .read .result) _ (at-read .read .ensures) (c .if2 .taken);
       taken = λ e. absurd (omega (arith, e, c .if2 .taken));
     }
 
@@ -45,10 +49,11 @@ loop-less c =
 
 loop-again : tie.Need-loop-again Inv-loop μ-loop
 loop-again c =
-    let at-read = c .before .before .before .before .before .before .before in let at-loop = at-read .before .before in
+    let at-read = c .before .before .before .before .before .before .before in let at-loop = at-read .before .before .before in
     let args = at-loop .before .before .before .before .before .args in
-    gather-more (now (args .bytes)) (at-loop .loop .streams) (at-loop .loop .times) (at-loop .loop .clock) (at-loop .loop .count)
-    (at-loop .loop .place) (at-loop .loop .inv) (at-read .before .loop-test .taken) (at-read .read .result) (at-read .read .ensures)
+    gather-more (now (args .bytes)) (at-loop .loop .streams) (at-loop .loop .times) (clockWith (at-loop .loop .clock) (at-loop .loop .next))
+    (at-loop .loop .count)
+    (at-loop .loop .place) (at-loop .loop .inv) (at-read .before .before .loop-test .taken) (at-read .read .result) _ (at-read .read .ensures)
     (omega (arith, c .before .before .before .before .before .if2 .left))
     _ _ _ (rw (← c .before .before .before .before .step-input .ensures) (c .before .append-event .ensures))
 
@@ -59,7 +64,8 @@ returns-3 c =
       refused = λ more. absurd (omega (arith, more));
       taken = λ e. (
         inv .steps,
-        gather-end (now (args .bytes)) (at-loop .loop .streams) (at-loop .loop .times) (at-loop .loop .clock) (at-loop .loop .count)
+        gather-end (now (args .bytes)) (at-loop .loop .streams) (at-loop .loop .times) (clockWith (at-loop .loop .clock)
+            (at-loop .loop .next)) (at-loop .loop .count)
             (at-loop .loop .place) inv (c .loop-test .left),
         inv .counted,
         inv .kept,

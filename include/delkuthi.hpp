@@ -49,6 +49,7 @@ enum class number : std::uint8_t {
     no_stretch = DELKUTHI_NO_STRETCH,
     count_full = DELKUTHI_COUNT_FULL,
     not_repeat = DELKUTHI_NOT_REPEAT,
+    other_step = DELKUTHI_OTHER_STEP,
 };
 
 // Returns a line of text for the number of a refusal.
@@ -238,10 +239,25 @@ public:
         return delkuthi::answer(delkuthi_close(&words_));
     }
 
-    // Withdraws the last step: compare steps() first.
+    // Withdraws the last step, whichever that is.
     delkuthi::answer withdraw() noexcept
     {
         return delkuthi::answer(delkuthi_withdraw(&words_));
+    }
+
+    // Withdraws the last step if it has this number: what steps() returned
+    // right after it.
+    delkuthi::answer withdraw(std::uint64_t step) noexcept
+    {
+        return delkuthi::answer(delkuthi_withdraw_step(&words_, step));
+    }
+
+    // Takes the records of a recording, without a close, up to the first one
+    // that is refused.
+    delkuthi::answer take(input recording) noexcept
+    {
+        return delkuthi::answer(
+            delkuthi_take(&words_, recording.data(), recording.size()));
     }
 
     std::uint64_t rows() const noexcept { return delkuthi_rows(&words_); }

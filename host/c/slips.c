@@ -43,6 +43,8 @@ CALL(uint8_t, delkuthi_coloured_event, (changes m, uint8_t k, uint8_t c, uint64_
 CALL(uint8_t, delkuthi_tick, (changes m, uint64_t t), (m, t))
 CALL(uint8_t, delkuthi_close, (changes m), (m))
 CALL(uint8_t, delkuthi_withdraw, (changes m), (m))
+CALL(uint8_t, delkuthi_withdraw_step, (changes m, uint64_t s), (m, s))
+CALL(uint64_t, delkuthi_take, (changes m, bytes r, size_t n), (m, r, n))
 CALL(uint8_t, delkuthi_row_verdict, (reads m, uint64_t r), (m, r))
 CALL(uint64_t, delkuthi_row_step, (reads m, uint64_t r), (m, r))
 CALL(uint64_t, delkuthi_rows, (reads m), (m))

@@ -65,6 +65,17 @@ static void withdraw(void)
     (void)delkuthi_withdraw(&monitor);
 }
 
+static void withdraw_step(void)
+{
+    (void)delkuthi_withdraw_step(&monitor, delkuthi_steps(&monitor));
+}
+
+static void take(void)
+{
+    (void)delkuthi_fresh_2(&monitor, table.bytes, table.length);
+    (void)delkuthi_take(&monitor, recording.bytes, recording.length);
+}
+
 static void printed(void)
 {
     (void)delkuthi_page(&monitor, page, sizeof page);
@@ -146,6 +157,8 @@ static struct measured calls[] = {
     {"event", event, DELKUTHI_STEP_STACK, 0},
     {"tick", tick, DELKUTHI_STEP_STACK, 0},
     {"withdraw", withdraw, DELKUTHI_STEP_STACK, 0},
+    {"withdraw_step", withdraw_step, DELKUTHI_STEP_STACK, 0},
+    {"take", take, DELKUTHI_TAKE_STACK, 0},
     {"verdict", verdict, DELKUTHI_STEP_STACK, 0},
     {"close", close_it, DELKUTHI_STEP_STACK, 0},
     {"page", printed, DELKUTHI_PAGE_STACK, 0},

@@ -4,7 +4,9 @@ mod WordsRead
 pub mod Hosts
 pub mod Taking
 pub mod Progress
+pub mod TakenRecords
 pub mod Summaries
+mod Withdrawals
 pub mod Reports
 mod Numbers
 pub mod Printing

@@ -2,10 +2,11 @@
 pub mod ffi;
 pub mod joining;
 pub mod printed;
-mod records;
+pub mod records;
 mod report;
 pub mod stamped;
 pub mod tables;
+pub mod withdrawing;
 
 use in_place::Words;
 use table::ReadAnswer;

@@ -21,8 +21,8 @@ enum At {
 impl Refusal {
     pub(crate) const NO_ROW: Refusal = Refusal { number: 15, at: None };
 
-    /// Decodes the answer of a fresh monitor's call: the place in the table, times 256, plus the number.
-    pub(crate) fn of_table(answer: u64) -> Result<(), Refusal> {
+    /// Decodes the answer of a call that reads a table or records: the place in their bytes, times 256, plus the number.
+    pub(crate) fn of_bytes(answer: u64) -> Result<(), Refusal> {
         let (number, place) = ((answer % 256) as u8, answer / 256);
         if number == 0 { Ok(()) } else { Err(Refusal { number, at: Some(At::Byte(place)) }) }
     }
@@ -50,7 +50,7 @@ impl Refusal {
         self.number
     }
 
-    /// For the refusal of a table, the place of the length field concerned, in bytes; 0 for the version byte.
+    /// For the refusal of a table or of records, the place of the length field concerned, in bytes; 0 for the version byte.
     pub fn place(&self) -> Option<u64> {
         match self.at {
             Some(At::Byte(place)) => Some(place),
@@ -101,6 +101,7 @@ pub const fn refusal_text(number: u8) -> &'static str {
         23 => "no stretch of the recording breaks the row",
         24 => "the count of steps is full",
         25 => "the row is not a Repeat of span 1",
+        26 => "the last step has another number",
         _ => "a refusal without a text",
     }
 }

@@ -32,6 +32,8 @@ enum Item {
     Stretch,
     Count,
     Zeros,
+    WithdrawStep,
+    Take,
 }
 
 /// What the runner expects of the monitor.
@@ -241,8 +243,19 @@ impl Vector {
     /// The last step withdrawn, or refused (§3.12).
     pub fn withdraw(&mut self) {
         self.item(Item::Withdraw);
+        self.withdrawn(Monitor::withdraw);
+    }
+
+    /// The last step withdrawn by its number, or refused (§3.17).
+    pub fn withdraw_step(&mut self, step: u64) {
+        self.item(Item::WithdrawStep);
+        put_number(&mut self.bytes, step);
+        self.withdrawn(|monitor| monitor.withdraw_step(step));
+    }
+
+    fn withdrawn(&mut self, withdraw: impl FnOnce(&mut Monitor) -> Result<(), u8>) {
         let monitor = self.monitor.as_mut().expect("a monitor");
-        let answer = number(monitor.withdraw());
+        let answer = number(withdraw(monitor));
         let changed = self.state.verdicts.iter().zip(monitor.verdicts()).any(|(before, after)| *before != after);
         self.bytes.push(answer);
         self.refused(answer);
@@ -252,6 +265,26 @@ impl Vector {
         if changed {
             self.shows("break withdrawn");
         }
+        self.put_state();
+    }
+
+    /// Whether a table was accepted.
+    pub fn has_monitor(&self) -> bool {
+        self.monitor.is_some()
+    }
+
+    /// The records of the recording taken without a close, up to the first that is refused (§7.24).
+    pub fn take(&mut self) {
+        self.item(Item::Take);
+        let monitor = self.monitor.as_mut().expect("a monitor");
+        let (steps, answer) = (monitor.steps().len(), monitor.take(&self.recording));
+        let taken = monitor.steps().len() > steps;
+        put_number(&mut self.bytes, answer.map_or_else(placed, |()| 0));
+        self.bytes.push(taken.into());
+        if let Err(refusal) = answer {
+            self.refused(refusal.number);
+        }
+        self.shows(if answer.is_err() { "take refused" } else { "take" });
         self.put_state();
     }
 

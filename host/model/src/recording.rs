@@ -5,19 +5,27 @@ use crate::questions::{Refusal, ask};
 use crate::steps::Step;
 use crate::table::{body_at_start, time_at, with_length};
 
-/// Gives every record of the recording to a fresh monitor: question 13 first, then record by record (§9.4).
+/// Gives every record of the recording to a fresh monitor (§7.3).
 pub fn read_recording(mut monitor: Monitor, bytes: &[u8]) -> Result<Monitor, Refusal> {
-    let version = bytes.first().copied().unwrap_or(0);
-    ask(13, version == 1 || version == 2).map_err(|number| Refusal { number, place: 0 })?;
-    let mut place = 1;
-    while place < bytes.len() {
-        let refused = |number| Refusal { number, place };
-        let (step, size) = read_record(version, &bytes[place..]).map_err(refused)?;
-        // after 14 the questions of its step
-        monitor.step(step).map_err(refused)?;
-        place += size;
-    }
+    monitor.take(bytes)?;
     Ok(monitor)
+}
+
+impl Monitor {
+    /// Takes the records of the recording up to the first that is refused: question 13 first, then record by record (§7.24, §9.4).
+    pub fn take(&mut self, bytes: &[u8]) -> Result<(), Refusal> {
+        let version = bytes.first().copied().unwrap_or(0);
+        ask(13, version == 1 || version == 2).map_err(|number| Refusal { number, place: 0 })?;
+        let mut place = 1;
+        while place < bytes.len() {
+            let refused = |number| Refusal { number, place };
+            let (step, size) = read_record(version, &bytes[place..]).map_err(refused)?;
+            // after 14 the questions of its step
+            self.step(step).map_err(refused)?;
+            place += size;
+        }
+        Ok(())
+    }
 }
 
 /// What is no colour: a recording of version 1 has none (§7.1).

@@ -538,9 +538,10 @@ enum delkuthi_refusal {
     /* A row number (delkuthi_row_verdict). The first row is row 0. */
     DELKUTHI_NO_ROW = 15, /* the table has no row of that number */
 
-    /* A buffer (delkuthi_make_table, delkuthi_join). Pass a longer one. */
-    DELKUTHI_TABLE_ROOM = 16, /* it is too short for the table, or for the
-                                 joined recording */
+    /* A buffer (delkuthi_make_table, delkuthi_join, delkuthi_put_event). Pass
+       a longer one. */
+    DELKUTHI_TABLE_ROOM = 16, /* it is too short for the table, for the joined
+                                 recording, or for one more record */
 
     /* Two recordings (delkuthi_join). Join other recordings, or renumber the
        kinds of one. */
@@ -905,6 +906,41 @@ uint8_t delkuthi_withdraw_step(delkuthi_monitor *monitor, uint64_t step);
 DELKUTHI_CHECKED DELKUTHI_NONNULL
 uint64_t delkuthi_take(delkuthi_monitor *monitor,
                        const uint8_t *recording, size_t recording_length);
+
+/*
+ * Write one record behind the first `size` bytes of a buffer: an event of a
+ * plain kind, an event of a coloured kind, or a tick. If size is 0, the call
+ * begins a recording: it writes the version byte 2 before the record. Pass the
+ * size that one call returns to the next:
+ *
+ *     answer = delkuthi_put_event(buffer, sizeof buffer, size, kind, time);
+ *     if (DELKUTHI_NUMBER(answer) == DELKUTHI_TAKEN)
+ *         size = DELKUTHI_LENGTH(answer);
+ *
+ * The first `size` bytes are then a recording for delkuthi_take,
+ * delkuthi_report and the other calls. Other bytes of the buffer stay as they
+ * were. The calls do not compare times with those of earlier records: that is
+ * asked when the recording is read.
+ *
+ * If DELKUTHI_NUMBER of the answer is DELKUTHI_TAKEN, DELKUTHI_LENGTH is the
+ * new size. Otherwise the call is refused, and the buffer stays as it was:
+ * DELKUTHI_RECORDING_VERSION if size is not 0 and the first byte is neither 1
+ * nor 2; DELKUTHI_KIND, DELKUTHI_FORM or DELKUTHI_TIME_RANGE for the record,
+ * where version 1 takes no colours; DELKUTHI_TABLE_ROOM if the buffer is too
+ * short.
+ */
+DELKUTHI_CHECKED DELKUTHI_NONNULL
+uint64_t delkuthi_put_event(uint8_t *buffer, size_t buffer_length, size_t size,
+                            uint8_t kind, uint64_t time);
+
+DELKUTHI_CHECKED DELKUTHI_NONNULL
+uint64_t delkuthi_put_coloured_event(uint8_t *buffer, size_t buffer_length,
+                                     size_t size, uint8_t kind, uint8_t colour,
+                                     uint64_t time);
+
+DELKUTHI_CHECKED DELKUTHI_NONNULL
+uint64_t delkuthi_put_tick(uint8_t *buffer, size_t buffer_length, size_t size,
+                           uint64_t time);
 
 /*
  * Says what a row reads. The first row is row 0. The call changes nothing and

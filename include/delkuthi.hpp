@@ -193,6 +193,52 @@ inline std::optional<std::size_t> written(std::size_t bytes) noexcept
     return bytes == 0 ? std::nullopt : std::optional(bytes);
 }
 
+// A recording in memory, which grows by one record with each call. A refused
+// call leaves the memory as it was.
+class recording {
+public:
+    // The first `size` bytes of the memory are a recording already.
+    explicit recording(output memory, std::size_t size = 0) noexcept
+        : memory_(memory), size_(size)
+    {
+    }
+
+    delkuthi::answer event(std::uint8_t kind, std::uint64_t time) noexcept
+    {
+        return grown(delkuthi_put_event(memory_.data(), memory_.size(), size_,
+                                        kind, time));
+    }
+
+    delkuthi::answer event(std::uint8_t kind, std::uint8_t colour,
+                           std::uint64_t time) noexcept
+    {
+        return grown(delkuthi_put_coloured_event(
+            memory_.data(), memory_.size(), size_, kind, colour, time));
+    }
+
+    delkuthi::answer tick(std::uint64_t time) noexcept
+    {
+        return grown(
+            delkuthi_put_tick(memory_.data(), memory_.size(), size_, time));
+    }
+
+    const std::uint8_t *data() const noexcept { return memory_.data(); }
+    std::size_t size() const noexcept { return size_; }
+
+private:
+    delkuthi::answer grown(std::uint64_t put) noexcept
+    {
+        const delkuthi::answer answer(put);
+
+        if (answer)
+            size_ = DELKUTHI_LENGTH(put);
+        return answer;
+    }
+
+    output memory_;
+    std::size_t size_;
+};
+
 // A monitor. It holds its memory and nothing else: a copy is an independent
 // monitor, and nothing has to be released. Before `fresh` it is closed and has
 // no rows.

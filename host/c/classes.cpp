@@ -85,6 +85,19 @@ bool takes()
         && monitor.take(bytes{}).number() == delkuthi::number::recording_version;
 }
 
+// A recording that is written in memory with room for three records and taken as it is.
+bool writes()
+{
+    bytes memory(34), none;
+    delkuthi::recording recording(memory), short_one(none);
+    delkuthi::monitor monitor;
+    const bool well = recording.event(0, 10) && recording.event(48, 1, 11) && recording.tick(20);
+
+    return well && recording.size() == 34 && recording.tick(21).number() == delkuthi::number::table_room
+        && recording.event(64, 21).number() == delkuthi::number::kind && short_one.tick(1).number() == delkuthi::number::table_room
+        && monitor.fresh(delkuthi::table{delkuthi_order(0, 1)}) && monitor.take(recording) && monitor.clock() == 20;
+}
+
 // Late stamps of a Repeat, 4 to 6, with events at 10 and 15.
 bool late_stamps()
 {
@@ -136,5 +149,5 @@ bool stretches()
 
 int main()
 {
-    return delkuthi::matches() && closed() && crowded() && reports() && takes() && late_stamps() && joins() && stretches() ? 0 : 1;
+    return delkuthi::matches() && closed() && crowded() && reports() && takes() && writes() && late_stamps() && joins() && stretches() ? 0 : 1;
 }

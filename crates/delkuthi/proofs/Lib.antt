@@ -11,6 +11,7 @@ pub mod Reports
 mod Numbers
 pub mod Printing
 pub mod RecordNumbers
+mod WrittenRecords
 pub mod Refusals
 pub mod JoinNumbers
 pub mod StampWords

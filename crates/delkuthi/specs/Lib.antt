@@ -12,3 +12,4 @@ pub mod Joining
 pub mod Program
 pub mod TakingRecords
 pub mod WithdrawingStep
+pub mod Writing

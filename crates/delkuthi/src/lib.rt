@@ -7,6 +7,7 @@ mod report;
 pub mod stamped;
 pub mod tables;
 pub mod withdrawing;
+pub mod writing;
 
 use in_place::Words;
 use table::ReadAnswer;

@@ -1,10 +1,12 @@
 //! The contract in words, `docs/CONTRACT.md`: every example in it is what library and model do.
 
-use checks::beside::{fresh, take, take_all, verdict};
-use checks::contract::{Asked, Example, blocks, clauses, examples, files, pages, takes, text};
+use checks::beside::{fresh, put, take, take_all, verdict};
+use checks::contract::{Asked, Example, WRITES_ROOM, blocks, clauses, examples, files, pages, takes, text, writes};
 use checks::pages::page_in;
 use checks::refusals::refusal;
 use checks::reports::report_in;
+use delkuthi::Recording;
+use model::recording::put_record;
 use model::types::delay;
 use model::{Constraint, page_text, report_text};
 use std::collections::HashSet;
@@ -80,6 +82,28 @@ fn the_takes_are_so() {
         }
         assert_eq!(read(model.verdicts().into_iter()), takes.reads, "{line}");
         assert_eq!(verdict(&library, 0).map(|verdict| verdict.to_string()), Ok(takes.reads), "{line}");
+    }
+}
+
+#[test]
+fn the_writes_are_so() {
+    let text = text();
+    let lines: Vec<&str> = blocks(&text, "write").into_iter().flatten().collect();
+    assert!(lines.len() >= 8);
+    for line in lines {
+        let writes = writes(line);
+        let (mut buffer, mut modelled, mut size) = ([0; WRITES_ROOM], [0; WRITES_ROOM], 0);
+        let mut recording = Recording::new(&mut buffer);
+        let mut last = Ok(());
+        for step in &writes.steps {
+            assert_eq!(last, Ok(()), "{line}");
+            last = put(&mut recording, *step);
+            let expected = put_record(&mut modelled, size, *step);
+            size = expected.unwrap_or(size);
+            assert_eq!(last, expected.map(|_| ()), "{line}");
+        }
+        assert_eq!(recording.bytes(), &modelled[..size], "{line}");
+        assert_eq!(last.map(|()| recording.bytes().to_vec()), writes.written, "{line}");
     }
 }
 

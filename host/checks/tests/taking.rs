@@ -1,15 +1,16 @@
-//! Records taken on a running monitor, and steps withdrawn by their numbers, beside the model. Clauses: §3.17, §7.24, §8.26, §9.2.
+//! Records taken on a running monitor, steps withdrawn by their numbers, and records written, beside the model. Clauses: §3.17, §7.24,
+//! §7.26, §8.26, §9.2.
 
-use checks::beside::{counting_from, fresh, take, verdict};
+use checks::beside::{counting_from, fresh, put, take, verdict};
 use checks::refusals::refusal;
 use checks::words::untouched;
-use delkuthi::{Monitor, WORDS};
+use delkuthi::{Monitor, Recording, WORDS};
 use model::random::Random;
 use model::random::calls::calls;
 use model::random::recordings::{damaged_recording, recording, refused_recording};
 use model::random::seen::Seen;
 use model::random::tables::any_table;
-use model::recording::read_record;
+use model::recording::{put_record, read_record};
 use model::{Constraint, LAST_COUNT, NO_LIMIT, Step, recording_bytes};
 
 /// A monitor of the library beside the model.
@@ -129,4 +130,39 @@ fn on_zeros() {
     assert_eq!((refused.number(), refused.place()), (8, Some(1)));
     assert_eq!(monitor.withdraw_step(0).map_err(|refusal| refusal.number()), Err(21));
     assert!(monitor.words().iter().all(|word| *word == 0));
+}
+
+/// Random records into buffers of any length that hold anything; each that is taken reads back, and no other byte changes.
+#[test]
+fn thousands_of_records_written() {
+    let mut random = Random::new(302);
+    let mut seen = Seen::default();
+    for _ in 0..4_000 {
+        let room = random.place(40);
+        let mut modelled: Vec<u8> = (0..room).map(|_| random.below(4) as u8).collect();
+        let mut buffer = modelled.clone();
+        let mut size = if random.chance(60) { 0 } else { random.place(44) };
+        for _ in 0..4 {
+            let (kind, colour) = (random.below(70) as u8, random.below(10) as u8);
+            let time = if random.chance(80) { random.below(1 << 40) } else { random.number() };
+            let step = match random.below(3) {
+                0 => Step::Event { kind, time },
+                1 => Step::Coloured { kind, colour, time },
+                _ => Step::Tick { time },
+            };
+            let expected = put_record(&mut modelled, size, step);
+            let mut recording = Recording::continued(&mut buffer, size);
+            let answer = put(&mut recording, step);
+            assert_eq!(answer, expected.map(|_| ()), "{step:?} behind {size} bytes of {room}");
+            if let Ok(end) = expected {
+                assert_eq!(recording.bytes(), &modelled[..end]);
+                let (read, length) = read_record(modelled[0], &modelled[size.max(1)..end]).expect("the record that was written");
+                assert_eq!((read, length), (step, end - size.max(1)));
+                size = end;
+            }
+            assert_eq!(buffer, modelled, "{step:?} behind {size} bytes of {room}");
+            answer.err().into_iter().for_each(|number| seen.refusal(number));
+        }
+    }
+    seen.demand_refusals([9, 10, 13, 16, 19]);
 }

@@ -51,6 +51,16 @@ safe! {
 extern "C" {
     pub fn delkuthi_fresh_2(monitor: &mut Monitor, table: *const u8, table_length: usize) -> u64;
     pub fn delkuthi_take(monitor: &mut Monitor, recording: *const u8, recording_length: usize) -> u64;
+    pub fn delkuthi_put_event(buffer: *mut u8, buffer_length: usize, size: usize, kind: u8, time: u64) -> u64;
+    pub fn delkuthi_put_coloured_event(
+        buffer: *mut u8,
+        buffer_length: usize,
+        size: usize,
+        kind: u8,
+        colour: u8,
+        time: u64,
+    ) -> u64;
+    pub fn delkuthi_put_tick(buffer: *mut u8, buffer_length: usize, size: usize, time: u64) -> u64;
     pub fn delkuthi_table(rows: *const u8, rows_size: usize, table: *mut u8, table_length: usize) -> u64;
     pub fn delkuthi_table_2(rows: *const u8, rows_size: usize, table: *mut u8, table_length: usize) -> u64;
     pub fn delkuthi_page(monitor: &Monitor, page: *mut u8, page_length: usize) -> usize;

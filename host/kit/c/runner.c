@@ -20,7 +20,7 @@
 enum item {
     TABLE = 1, RECORDING, FRESH, EVENT, COLOURED, TICK, CLOSE, WITHDRAW, PAGE,
     REPORT, REPORT_ON, REPORT_OF, WRITE, JOIN, STAMPS, STRETCH, COUNT, ZEROS,
-    WITHDRAW_STEP, TAKE
+    WITHDRAW_STEP, TAKE, PUT
 };
 
 /* What the vector says of the monitor. */
@@ -395,6 +395,24 @@ static void written(void)
     same_text("a byte of the table");
 }
 
+/* A record that is written behind the recording. */
+static void put(void)
+{
+    uint8_t sort = byte(), kind = byte(), colour = byte();
+    uint64_t time = number(), answer;
+    size_t length = room(), size = recording_length < ROOM_LIMIT ? recording_length : ROOM_LIMIT;
+
+    memcpy(buffer, recording, size);
+    if (sort == 0)
+        answer = delkuthi_put_event(buffer, length, size, kind, time);
+    else if (sort == 1)
+        answer = delkuthi_put_coloured_event(buffer, length, size, kind, colour, time);
+    else
+        answer = delkuthi_put_tick(buffer, length, size, time);
+    same("answer", answer, number());
+    same_text("a byte of the recording");
+}
+
 /* Calls that write to a buffer. Returns whether this is one. */
 static int played_writer(enum item item)
 {
@@ -416,6 +434,8 @@ static int played_writer(enum item item)
         report_on();
     else if (item == WRITE)
         written();
+    else if (item == PUT)
+        put();
     else if (item == JOIN) {
         length = room();
         same("answer", delkuthi_join(table, table_length, recording, recording_length, buffer, length), number());

@@ -82,6 +82,7 @@ pub const RULES: &[(&str, &str)] = &[
     ("7.22", "report on"),
     ("7.23", "report of, report of an open monitor"),
     ("7.24", "take refused"),
+    ("7.26", "record written"),
     ("8.1", "refused 1"),
     ("8.2", "refused 2"),
     ("8.3", "refused 3"),

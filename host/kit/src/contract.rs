@@ -2,7 +2,7 @@
 //! contract says what is read or printed, the model has to say the same.
 
 use crate::vector::Vector;
-use model::contract::{Asked, Block, every_block, example, file, page, takes};
+use model::contract::{Asked, Block, WRITES_ROOM, every_block, example, file, page, takes, writes};
 use model::notation::steps;
 use model::types::{delay, reaction, repeat, strong_delay};
 use model::{Constraint, NO_LIMIT, Step, edition_of, page_text, recording_bytes, report_text, table_bytes};
@@ -21,6 +21,7 @@ fn block_vectors(block: &Block) -> Vec<Vector> {
         "file" => vec![file_vector(block)],
         "page" => vec![page_vector(block)],
         "take" => block.lines.iter().map(|line| take_vector(line)).collect(),
+        "write" => block.lines.iter().map(|line| write_vector(line)).collect(),
         "stamps" => block.lines.iter().map(|line| stamps_vector(line)).collect(),
         "join" => block.lines.iter().map(|line| join_vector(line)).collect(),
         "stretch" => block.lines.iter().map(|line| stretch_vector(line)).collect(),
@@ -101,6 +102,16 @@ fn take_vector(line: &str) -> Vector {
     for (recording, _) in takes(line).recordings {
         vector.recording(&recording);
         vector.take();
+    }
+    vector
+}
+
+/// "0@10, tick 14 = 02 0009 ..".
+fn write_vector(line: &str) -> Vector {
+    let mut vector = Vector::new("");
+    vector.recording(&[]);
+    for step in writes(line).steps {
+        vector.put_record(step, WRITES_ROOM);
     }
     vector
 }

@@ -120,6 +120,8 @@ fn damaged(random: &mut Random) -> Vector {
         1 => refused_recording(random, &rows, 90),
         _ => recording(random, &rows, 20),
     });
+    let (kind, colour, time) = (random.below(70) as u8, random.below(9) as u8, random.below(1 << 50));
+    vector.put_record(if kind < 40 { Step::Event { kind, time } } else { Step::Coloured { kind, colour, time } }, ROOM);
     let form = 1 + random.below(2) as u8;
     vector.fresh(form);
     vector.report(form, if random.chance(80) { ROOM } else { random.place(60) });

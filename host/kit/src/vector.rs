@@ -3,7 +3,7 @@
 
 use crate::bytes::{put_bytes, put_number, put_text, put_way};
 use model::join::{Input, join};
-use model::recording::read_record;
+use model::recording::{put_record, read_record};
 use model::{
     Constraint, Monitor, NEWEST_EDITION, NO_LIMIT, Refusal, Stamped, Step, Verdict, edition_of, page_text,
     read_table_up_to, refused_row_in, report_of, report_text_up_to, shortest_stretch_up_to, stamped_up_to,
@@ -34,6 +34,7 @@ enum Item {
     Zeros,
     WithdrawStep,
     Take,
+    Put,
 }
 
 /// What the runner expects of the monitor.
@@ -405,6 +406,39 @@ impl Vector {
                 self.refused(number);
                 self.shows(format!("writer refuses {number}"));
             }
+        }
+    }
+
+    /// A record written behind the recording, in a buffer of this size (§7.26). The recording then has it.
+    pub fn put_record(&mut self, step: Step, room: usize) {
+        self.item(Item::Put);
+        let (sort, kind, colour) = match step {
+            Step::Event { kind, .. } => (0, kind, 0),
+            Step::Coloured { kind, colour, .. } => (1, kind, colour),
+            _ => (2, 0, 0),
+        };
+        self.bytes.extend([sort, kind, colour]);
+        put_number(&mut self.bytes, model::beside::time_of(step).expect("a time"));
+        put_number(&mut self.bytes, room as u64);
+        let size = self.recording.len();
+        let mut buffer = self.recording.clone();
+        buffer.resize(room.max(size), 0);
+        match put_record(&mut buffer[..room], size, step) {
+            Ok(end) => {
+                put_number(&mut self.bytes, 256 * end as u64);
+                self.shows("record written");
+                self.recording = buffer[..end].to_vec();
+            }
+            Err(number) => {
+                put_number(&mut self.bytes, u64::from(number));
+                self.refused(number);
+                self.shows("record not written");
+            }
+        }
+        let bytes = self.recording.clone();
+        put_text(&mut self.bytes, &bytes);
+        if bytes.len() > size {
+            self.recording(&bytes);
         }
     }
 

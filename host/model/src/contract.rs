@@ -215,6 +215,28 @@ fn take_answer(text: &str) -> u64 {
     256 * number(place) + number(refusal)
 }
 
+/// Records that are written one after the other, and the bytes then, or the refusal of the last (§7.27).
+pub struct Writes {
+    pub steps: Vec<Step>,
+    pub written: Result<Vec<u8>, u8>,
+}
+
+/// The room of the contract's buffer.
+pub const WRITES_ROOM: usize = 60;
+
+/// "0@10, tick 14 = 02 0009 ..", or "64@10 = refused 9".
+///
+/// # Panics
+/// Where it is none.
+pub fn writes(line: &str) -> Writes {
+    let (records, answer) = line.split_once(" = ").unwrap_or_else(|| panic!("no bytes: {line}"));
+    let written = match answer.strip_prefix("refused ") {
+        Some(refusal) => Err(refusal.parse().expect("a refusal")),
+        None => Ok(bytes(answer, "")),
+    };
+    Writes { steps: steps(records), written }
+}
+
 /// A page of the contract: the rows of a table, the steps of a recording, and what is printed after them.
 pub struct Page {
     pub rows: Vec<Constraint>,

@@ -573,6 +573,7 @@ enum delkuthi_refusal {
 static inline const char *delkuthi_refusal_text(uint8_t number)
 {
     switch (number) {
+    /* begin refusal texts: made by a program */
     case DELKUTHI_TAKEN:
         return "taken";
     case DELKUTHI_TABLE_VERSION:
@@ -615,8 +616,8 @@ static inline const char *delkuthi_refusal_text(uint8_t number)
         return "a row has a plain kind where its type takes coloured ones, "
                "or a coloured one where it takes plain ones";
     case DELKUTHI_FORM:
-        return "an event has no colour and a coloured kind, or a colour and a "
-               "plain kind, or no such colour";
+        return "an event has no colour and a coloured kind, or a colour and "
+               "a plain kind, or no such colour";
     case DELKUTHI_COMMON_KIND:
         return "a kind is found in both recordings";
     case DELKUTHI_NOTHING_TO_WITHDRAW:
@@ -631,8 +632,42 @@ static inline const char *delkuthi_refusal_text(uint8_t number)
         return "the row is not a Repeat of span 1";
     case DELKUTHI_OTHER_STEP:
         return "the last step has another number";
+    /* end refusal texts */
     default:
         return "a refusal without a text";
+    }
+}
+
+/* Returns the name of a row type, such as "Delay", as a page has it. */
+static inline const char *delkuthi_type_text(uint8_t type)
+{
+    switch (type) {
+    /* begin type texts: made by a program */
+    case 1:
+        return "Delay";
+    case 2:
+        return "StrongDelay";
+    case 3:
+        return "Repeat";
+    case 4:
+        return "Sporadic";
+    case 5:
+        return "Burst";
+    case 6:
+        return "Order";
+    case 7:
+        return "StrongSynchronization";
+    case 8:
+        return "ExecutionTime";
+    case 9:
+        return "Reaction";
+    case 10:
+        return "Repetition";
+    case 11:
+        return "Synchronization";
+    /* end type texts */
+    default:
+        return "no type";
     }
 }
 

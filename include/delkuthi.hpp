@@ -58,6 +58,12 @@ inline std::string_view text(number refusal) noexcept
     return delkuthi_refusal_text(static_cast<std::uint8_t>(refusal));
 }
 
+// Returns the name of a row type.
+inline std::string_view type_text(std::uint8_t type) noexcept
+{
+    return delkuthi_type_text(type);
+}
+
 // An answer: taken, or a refusal with its number and its place or row.
 class [[nodiscard]] answer {
 public:

@@ -75,6 +75,7 @@ impl Refusal {
 /// A line of text for the number of a refusal, as `delkuthi_refusal_text` of the header has it. 0 is not a refusal.
 pub const fn refusal_text(number: u8) -> &'static str {
     match number {
+        // begin refusal texts: made by a program
         0 => "taken",
         1 => "the table does not begin with a version byte 1, or 2 where both editions are taken",
         2 => "a length field or a row of the table is not whole",
@@ -102,6 +103,7 @@ pub const fn refusal_text(number: u8) -> &'static str {
         24 => "the count of steps is full",
         25 => "the row is not a Repeat of span 1",
         26 => "the last step has another number",
+        // end refusal texts
         _ => "a refusal without a text",
     }
 }

@@ -131,7 +131,7 @@
  *   a page           at most 2,482 bytes  DELKUTHI_PAGE_LIMIT
  *   stack, report    at most 50 KiB       DELKUTHI_REPORT_STACK
  *   stack, report_on at most 11 KiB       DELKUTHI_REPORT_ON_STACK
- *   stack, take      at most 2 KiB        DELKUTHI_TAKE_STACK
+ *   stack, take      at most 3 KiB        DELKUTHI_TAKE_STACK
  *   stack, page      at most 2 KiB        DELKUTHI_PAGE_STACK
  *   stack, stamps    at most 20 KiB       DELKUTHI_STAMPS_STACK
  *   stack, join      at most 16 KiB       DELKUTHI_JOIN_STACK
@@ -426,7 +426,7 @@ extern "C" {
 #define DELKUTHI_PAGE_LIMIT    2482
 #define DELKUTHI_REPORT_STACK  51200
 #define DELKUTHI_REPORT_ON_STACK 11264
-#define DELKUTHI_TAKE_STACK    2048
+#define DELKUTHI_TAKE_STACK    3072
 #define DELKUTHI_PAGE_STACK    2048
 #define DELKUTHI_STAMPS_STACK  20480
 #define DELKUTHI_JOIN_STACK    16384

@@ -16,10 +16,10 @@
  * For every table, every recording and every order of calls, refused ones
  * included:
  *   - Each call returns a result or the number of a refusal. A refused call
- *     changes nothing, with one exception: if delkuthi_report_on refuses a
- *     record, its monitor has taken the records before that one. No call
- *     reads or writes outside the memory that it is given, and every call
- *     ends.
+ *     changes nothing, with one exception: if delkuthi_report_on or
+ *     delkuthi_take refuses a record, its monitor has taken the records before
+ *     that one. No call reads or writes outside the memory that it is given,
+ *     and every call ends.
  *   - A row reads broken exactly if no continuation of the recording can
  *     still meet its TADL2 definition. The step that broke it is the first
  *     one after which this holds. Otherwise the row reads open, or kept once
@@ -29,11 +29,11 @@
  *     step had never been taken.
  * A machine has checked these statements. They are one theorem,
  * session-is-exact. It speaks of any memory and any list of the calls that
- * change it: delkuthi_fresh, events, ticks, closes, withdrawals and
- * delkuthi_report_on, with any arguments, in both forms. It says what each of
- * these calls answers, and what each of the thirteen calls that only read a
- * monitor answers after the list. That no call leaves its memory and that
- * every call ends is in the contract of each call.
+ * change it: delkuthi_fresh, events, ticks, closes, withdrawals,
+ * delkuthi_take and delkuthi_report_on, with any arguments, in both forms. It
+ * says what each of these calls answers, and what each of the thirteen calls
+ * that only read a monitor answers after the list. That no call leaves its
+ * memory and that every call ends is in the contract of each call.
  * DATASHEET.md lists the promises with their theorems, the assumptions, and
  * what is not promised. CONTRACT.md says everything in words, in numbered
  * clauses, with examples by which you can check a verdict by hand.
@@ -131,6 +131,7 @@
  *   a page           at most 2,482 bytes  DELKUTHI_PAGE_LIMIT
  *   stack, report    at most 50 KiB       DELKUTHI_REPORT_STACK
  *   stack, report_on at most 11 KiB       DELKUTHI_REPORT_ON_STACK
+ *   stack, take      at most 3 KiB        DELKUTHI_TAKE_STACK
  *   stack, page      at most 2 KiB        DELKUTHI_PAGE_STACK
  *   stack, stamps    at most 20 KiB       DELKUTHI_STAMPS_STACK
  *   stack, join      at most 16 KiB       DELKUTHI_JOIN_STACK
@@ -425,6 +426,7 @@ extern "C" {
 #define DELKUTHI_PAGE_LIMIT    2482
 #define DELKUTHI_REPORT_STACK  51200
 #define DELKUTHI_REPORT_ON_STACK 11264
+#define DELKUTHI_TAKE_STACK    3072
 #define DELKUTHI_PAGE_STACK    2048
 #define DELKUTHI_STAMPS_STACK  20480
 #define DELKUTHI_JOIN_STACK    16384
@@ -536,9 +538,10 @@ enum delkuthi_refusal {
     /* A row number (delkuthi_row_verdict). The first row is row 0. */
     DELKUTHI_NO_ROW = 15, /* the table has no row of that number */
 
-    /* A buffer (delkuthi_make_table, delkuthi_join). Pass a longer one. */
-    DELKUTHI_TABLE_ROOM = 16, /* it is too short for the table, or for the
-                                 joined recording */
+    /* A buffer (delkuthi_make_table, delkuthi_join, delkuthi_put_event). Pass
+       a longer one. */
+    DELKUTHI_TABLE_ROOM = 16, /* it is too short for the table, for the joined
+                                 recording, or for one more record */
 
     /* Two recordings (delkuthi_join). Join other recordings, or renumber the
        kinds of one. */
@@ -549,9 +552,13 @@ enum delkuthi_refusal {
                                        pass a part of it */
     DELKUTHI_NO_STRETCH = 23, /* no stretch of it breaks the row */
 
-    /* A withdrawal (delkuthi_withdraw). Take a step first. */
+    /* A withdrawal (delkuthi_withdraw, delkuthi_withdraw_step). Take a step
+       first. */
     DELKUTHI_NOTHING_TO_WITHDRAW = 21, /* no step was taken since the last
                                           withdrawal, or none at all */
+    DELKUTHI_OTHER_STEP = 26, /* the last step does not have that number: other
+                                 steps were taken since. Asked after 21, of
+                                 delkuthi_withdraw_step alone */
 
     /* A row for late stamps (delkuthi_stamps). Ask for another row. */
     DELKUTHI_NOT_REPEAT = 25 /* the row is not a Repeat of span 1 */
@@ -566,6 +573,7 @@ enum delkuthi_refusal {
 static inline const char *delkuthi_refusal_text(uint8_t number)
 {
     switch (number) {
+    /* begin refusal texts: made by a program */
     case DELKUTHI_TAKEN:
         return "taken";
     case DELKUTHI_TABLE_VERSION:
@@ -608,8 +616,8 @@ static inline const char *delkuthi_refusal_text(uint8_t number)
         return "a row has a plain kind where its type takes coloured ones, "
                "or a coloured one where it takes plain ones";
     case DELKUTHI_FORM:
-        return "an event has no colour and a coloured kind, or a colour and a "
-               "plain kind, or no such colour";
+        return "an event has no colour and a coloured kind, or a colour and "
+               "a plain kind, or no such colour";
     case DELKUTHI_COMMON_KIND:
         return "a kind is found in both recordings";
     case DELKUTHI_NOTHING_TO_WITHDRAW:
@@ -622,8 +630,44 @@ static inline const char *delkuthi_refusal_text(uint8_t number)
         return "the count of steps is full";
     case DELKUTHI_NOT_REPEAT:
         return "the row is not a Repeat of span 1";
+    case DELKUTHI_OTHER_STEP:
+        return "the last step has another number";
+    /* end refusal texts */
     default:
         return "a refusal without a text";
+    }
+}
+
+/* Returns the name of a row type, such as "Delay", as a page has it. */
+static inline const char *delkuthi_type_text(uint8_t type)
+{
+    switch (type) {
+    /* begin type texts: made by a program */
+    case 1:
+        return "Delay";
+    case 2:
+        return "StrongDelay";
+    case 3:
+        return "Repeat";
+    case 4:
+        return "Sporadic";
+    case 5:
+        return "Burst";
+    case 6:
+        return "Order";
+    case 7:
+        return "StrongSynchronization";
+    case 8:
+        return "ExecutionTime";
+    case 9:
+        return "Reaction";
+    case 10:
+        return "Repetition";
+    case 11:
+        return "Synchronization";
+    /* end type texts */
+    default:
+        return "no type";
     }
 }
 
@@ -862,15 +906,76 @@ uint8_t delkuthi_close(delkuthi_monitor *monitor);
  * step itself.
  *
  * It takes back the last step, whichever that is. To take back a certain step,
- * keep the answer of delkuthi_steps right after that step, and withdraw only
- * if delkuthi_steps still returns the same number. Otherwise another step has
- * come since, and the call would withdraw that one.
+ * call delkuthi_withdraw_step.
  *
  * Returns DELKUTHI_TAKEN, or DELKUTHI_NOTHING_TO_WITHDRAW, which leaves the
  * monitor as it was.
  */
 DELKUTHI_CHECKED DELKUTHI_NONNULL
 uint8_t delkuthi_withdraw(delkuthi_monitor *monitor);
+
+/*
+ * Withdraws the last step if its number is `step`. The number of a step is
+ * what delkuthi_steps returns right after it. If another step has come since,
+ * the call is refused, and that other step stays.
+ *
+ * Returns DELKUTHI_TAKEN; DELKUTHI_NOTHING_TO_WITHDRAW; or DELKUTHI_OTHER_STEP
+ * if the last step has another number. A refusal leaves the monitor as it was.
+ */
+DELKUTHI_CHECKED DELKUTHI_NONNULL
+uint8_t delkuthi_withdraw_step(delkuthi_monitor *monitor, uint64_t step);
+
+/*
+ * Takes the records of a recording, one after the other, without a close. Each
+ * record is the step that delkuthi_event, delkuthi_coloured_event or
+ * delkuthi_tick would take. The monitor goes on from where it is, so a host
+ * can pass a long recording in parts; each part begins with a version byte
+ * (delkuthi_report has the form of a recording).
+ *
+ * Returns DELKUTHI_TAKEN if every record is taken. Otherwise DELKUTHI_NUMBER
+ * is the number of the refusal: DELKUTHI_RECORDING_VERSION, DELKUTHI_RECORD,
+ * or what a step returns; and DELKUTHI_PLACE is the place of the refused
+ * record. A place above 2^56 - 1 is given as 2^56 - 1. The monitor has then
+ * taken the records before that one, and nothing of the refused one.
+ */
+DELKUTHI_CHECKED DELKUTHI_NONNULL
+uint64_t delkuthi_take(delkuthi_monitor *monitor,
+                       const uint8_t *recording, size_t recording_length);
+
+/*
+ * Write one record behind the first `size` bytes of a buffer: an event of a
+ * plain kind, an event of a coloured kind, or a tick. If size is 0, the call
+ * begins a recording: it writes the version byte 2 before the record. Pass the
+ * size that one call returns to the next:
+ *
+ *     answer = delkuthi_put_event(buffer, sizeof buffer, size, kind, time);
+ *     if (DELKUTHI_NUMBER(answer) == DELKUTHI_TAKEN)
+ *         size = DELKUTHI_LENGTH(answer);
+ *
+ * The first `size` bytes are then a recording for delkuthi_take,
+ * delkuthi_report and the other calls. Other bytes of the buffer stay as they
+ * were. The calls do not compare times with those of earlier records: that is
+ * asked when the recording is read.
+ *
+ * If DELKUTHI_NUMBER of the answer is DELKUTHI_TAKEN, DELKUTHI_LENGTH is the
+ * new size. Otherwise the call is refused, and the buffer stays as it was:
+ * DELKUTHI_RECORDING_VERSION if size is not 0 and the first byte is neither 1
+ * nor 2; DELKUTHI_KIND, DELKUTHI_FORM or DELKUTHI_TIME_RANGE for the record,
+ * where version 1 takes no colours; DELKUTHI_TABLE_ROOM if the buffer is too
+ * short.
+ */
+DELKUTHI_CHECKED DELKUTHI_NONNULL
+uint64_t delkuthi_put_event(uint8_t *buffer, size_t buffer_length, size_t size,
+                            uint8_t kind, uint64_t time);
+
+DELKUTHI_CHECKED DELKUTHI_NONNULL
+uint64_t delkuthi_put_coloured_event(uint8_t *buffer, size_t buffer_length,
+                                     size_t size, uint8_t kind, uint8_t colour,
+                                     uint64_t time);
+
+DELKUTHI_CHECKED DELKUTHI_NONNULL
+uint64_t delkuthi_put_tick(uint8_t *buffer, size_t buffer_length, size_t size,
+                           uint64_t time);
 
 /*
  * Says what a row reads. The first row is row 0. The call changes nothing and

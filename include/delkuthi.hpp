@@ -49,12 +49,19 @@ enum class number : std::uint8_t {
     no_stretch = DELKUTHI_NO_STRETCH,
     count_full = DELKUTHI_COUNT_FULL,
     not_repeat = DELKUTHI_NOT_REPEAT,
+    other_step = DELKUTHI_OTHER_STEP,
 };
 
 // Returns a line of text for the number of a refusal.
 inline std::string_view text(number refusal) noexcept
 {
     return delkuthi_refusal_text(static_cast<std::uint8_t>(refusal));
+}
+
+// Returns the name of a row type.
+inline std::string_view type_text(std::uint8_t type) noexcept
+{
+    return delkuthi_type_text(type);
 }
 
 // An answer: taken, or a refusal with its number and its place or row.
@@ -192,6 +199,52 @@ inline std::optional<std::size_t> written(std::size_t bytes) noexcept
     return bytes == 0 ? std::nullopt : std::optional(bytes);
 }
 
+// A recording in memory, which grows by one record with each call. A refused
+// call leaves the memory as it was.
+class recording {
+public:
+    // The first `size` bytes of the memory are a recording already.
+    explicit recording(output memory, std::size_t size = 0) noexcept
+        : memory_(memory), size_(size)
+    {
+    }
+
+    delkuthi::answer event(std::uint8_t kind, std::uint64_t time) noexcept
+    {
+        return grown(delkuthi_put_event(memory_.data(), memory_.size(), size_,
+                                        kind, time));
+    }
+
+    delkuthi::answer event(std::uint8_t kind, std::uint8_t colour,
+                           std::uint64_t time) noexcept
+    {
+        return grown(delkuthi_put_coloured_event(
+            memory_.data(), memory_.size(), size_, kind, colour, time));
+    }
+
+    delkuthi::answer tick(std::uint64_t time) noexcept
+    {
+        return grown(
+            delkuthi_put_tick(memory_.data(), memory_.size(), size_, time));
+    }
+
+    const std::uint8_t *data() const noexcept { return memory_.data(); }
+    std::size_t size() const noexcept { return size_; }
+
+private:
+    delkuthi::answer grown(std::uint64_t put) noexcept
+    {
+        const delkuthi::answer answer(put);
+
+        if (answer)
+            size_ = DELKUTHI_LENGTH(put);
+        return answer;
+    }
+
+    output memory_;
+    std::size_t size_;
+};
+
 // A monitor. It holds its memory and nothing else: a copy is an independent
 // monitor, and nothing has to be released. Before `fresh` it is closed and has
 // no rows.
@@ -238,10 +291,25 @@ public:
         return delkuthi::answer(delkuthi_close(&words_));
     }
 
-    // Withdraws the last step: compare steps() first.
+    // Withdraws the last step, whichever that is.
     delkuthi::answer withdraw() noexcept
     {
         return delkuthi::answer(delkuthi_withdraw(&words_));
+    }
+
+    // Withdraws the last step if it has this number: what steps() returned
+    // right after it.
+    delkuthi::answer withdraw(std::uint64_t step) noexcept
+    {
+        return delkuthi::answer(delkuthi_withdraw_step(&words_, step));
+    }
+
+    // Takes the records of a recording, without a close, up to the first one
+    // that is refused.
+    delkuthi::answer take(input recording) noexcept
+    {
+        return delkuthi::answer(
+            delkuthi_take(&words_, recording.data(), recording.size()));
     }
 
     std::uint64_t rows() const noexcept { return delkuthi_rows(&words_); }

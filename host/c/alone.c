@@ -61,6 +61,11 @@ void start(void)
     (void)delkuthi_fresh_2(&monitor, bytes, sizeof bytes);
     (void)delkuthi_event(&monitor, 0, 0);
     (void)delkuthi_tick(&monitor, 0);
+    (void)delkuthi_take(&monitor, bytes, sizeof bytes);
+    (void)delkuthi_put_event(bytes, sizeof bytes, 0, 0, 0);
+    (void)delkuthi_put_coloured_event(bytes, sizeof bytes, 0, DELKUTHI_FIRST_COLOURED, 0, 0);
+    (void)delkuthi_put_tick(bytes, sizeof bytes, 0, 0);
+    (void)delkuthi_withdraw_step(&monitor, 0);
     (void)delkuthi_close(&monitor);
     (void)delkuthi_row_verdict(&monitor, delkuthi_rows(&monitor));
     (void)delkuthi_row_step(&monitor, delkuthi_rows(&monitor));

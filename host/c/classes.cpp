@@ -28,7 +28,8 @@ bool closed()
     const bool refused = monitor.event(0, 1).number() == delkuthi::number::closed
         && monitor.event(48, 0, 1).number() == delkuthi::number::closed && monitor.tick(1).number() == delkuthi::number::closed
         && monitor.close().number() == delkuthi::number::closed
-        && monitor.withdraw().number() == delkuthi::number::nothing_to_withdraw;
+        && monitor.withdraw().number() == delkuthi::number::nothing_to_withdraw
+        && monitor.withdraw(0).number() == delkuthi::number::nothing_to_withdraw;
 
     return refused && monitor.closed() && monitor.rows() == 0 && monitor.clock() == 0 && monitor.steps() == 0
         && monitor.broken_rows() == 0 && !monitor.verdict(0) && monitor.broken_at(0) == 0 && monitor.waiting(0) == 0
@@ -66,6 +67,35 @@ bool reports()
     well = well && is(memory, delkuthi::report(none, recording, memory), "refused 1 0\n");
     return well && monitor.page(memory) == 146u && memory[0] == '-' && std::memcmp(memory.data() + 73, "  0  Delay", 10) == 0
         && !monitor.page(none);
+}
+
+// Records taken in parts, the second of which is refused at its second record, and a step withdrawn by its number.
+bool takes()
+{
+    bytes first{1}, second{1};
+    delkuthi::monitor monitor;
+
+    add(first, 0, 10);
+    add(second, 1, 12);
+    add(second, 1, 12);
+    const bool well = monitor.fresh(delkuthi::table{delkuthi_delay(0, 1, 2, 3)}).taken() && monitor.take(first).taken();
+    const delkuthi::answer refused = monitor.take(second);
+    return well && refused.number() == delkuthi::number::time_order && refused.place() == 12 && monitor.steps() == 2
+        && monitor.withdraw(1).number() == delkuthi::number::other_step && monitor.withdraw(2) && monitor.steps() == 1
+        && monitor.take(bytes{}).number() == delkuthi::number::recording_version;
+}
+
+// A recording that is written in memory with room for three records and taken as it is.
+bool writes()
+{
+    bytes memory(34), none;
+    delkuthi::recording recording(memory), short_one(none);
+    delkuthi::monitor monitor;
+    const bool well = recording.event(0, 10) && recording.event(48, 1, 11) && recording.tick(20);
+
+    return well && recording.size() == 34 && recording.tick(21).number() == delkuthi::number::table_room
+        && recording.event(64, 21).number() == delkuthi::number::kind && short_one.tick(1).number() == delkuthi::number::table_room
+        && monitor.fresh(delkuthi::table{delkuthi_order(0, 1)}) && monitor.take(recording) && monitor.clock() == 20;
 }
 
 // Late stamps of a Repeat, 4 to 6, with events at 10 and 15.
@@ -119,5 +149,5 @@ bool stretches()
 
 int main()
 {
-    return delkuthi::matches() && closed() && crowded() && reports() && late_stamps() && joins() && stretches() ? 0 : 1;
+    return delkuthi::matches() && closed() && crowded() && reports() && takes() && writes() && late_stamps() && joins() && stretches() ? 0 : 1;
 }

@@ -75,6 +75,9 @@ static void every_call(const delkuthi_monitor *forged)
 {
     static delkuthi_monitor monitor;
     static uint8_t page[DELKUTHI_PAGE_LIMIT];
+    /* an event, an event with a colour, and a tick */
+    static const uint8_t records[] = {2, 0, 9, 0, 0, 0, 0, 0, 0, 0, 1, 0, 0, 10, 48, 1, 0, 0, 0, 0, 0, 0, 1, 0,
+                                      0, 8, 0, 0, 0, 0, 0, 0, 2, 0};
     size_t i, j;
 
     for (i = 0; i < COUNT(times); i++) {
@@ -92,6 +95,12 @@ static void every_call(const delkuthi_monitor *forged)
         begins("delkuthi_tick");
         (void)delkuthi_tick(&monitor, times[i]);
     }
+    monitor = *forged;
+    begins("delkuthi_withdraw_step");
+    (void)delkuthi_withdraw_step(&monitor, delkuthi_steps(forged));
+    monitor = *forged;
+    begins("delkuthi_take");
+    (void)delkuthi_take(&monitor, records, sizeof records);
     monitor = *forged;
     begins("delkuthi_close");
     (void)delkuthi_close(&monitor);

@@ -30,6 +30,8 @@ int main()
     well = well && delkuthi_row_verdict(&bench.monitor, 0) == DELKUTHI_OPEN;
     well = well && delkuthi_event(&bench.monitor, 1, 5) == DELKUTHI_TAKEN;
     well = well && delkuthi_tick(&bench.monitor, 6) == DELKUTHI_TAKEN;
+    well = well && delkuthi_withdraw_step(&bench.monitor, 1) == DELKUTHI_OTHER_STEP;
+    well = well && delkuthi_take(&bench.monitor, recording, 1) == DELKUTHI_TAKEN;
     well = well && delkuthi_row_verdict(&bench.monitor, 0) == DELKUTHI_BROKEN;
     well = well && delkuthi_row_step(&bench.monitor, 0) == 2;
     well = well && delkuthi_clock(&bench.monitor) == 6 && delkuthi_steps(&bench.monitor) == 2;

@@ -62,6 +62,8 @@ static void calls(delkuthi_monitor *monitor)
         (void)delkuthi_event(monitor, (uint8_t)(number() % 72), time);
         (void)delkuthi_coloured_event(monitor, (uint8_t)(number() % 72), (uint8_t)(number() % 9), time);
         (void)delkuthi_tick(monitor, time + 1);
+        (void)delkuthi_withdraw_step(monitor, number() % 40);
+        (void)delkuthi_take(monitor, page, number() % (sizeof page + 1));
         (void)delkuthi_row_verdict(monitor, number() % 40);
         (void)delkuthi_row_verdict(monitor, number());
         (void)delkuthi_row_step(monitor, number() % 40);
@@ -109,7 +111,8 @@ static int closed(delkuthi_monitor *zeros)
             && delkuthi_row_waiting(zeros, row) == 0 && delkuthi_row_deadline(zeros, row) == DELKUTHI_NO_LIMIT;
     well = well && delkuthi_event(zeros, 0, 1) == DELKUTHI_CLOSED && delkuthi_coloured_event(zeros, 48, 0, 1) == DELKUTHI_CLOSED
         && delkuthi_tick(zeros, 1) == DELKUTHI_CLOSED && delkuthi_close(zeros) == DELKUTHI_CLOSED
-        && delkuthi_withdraw(zeros) == DELKUTHI_NOTHING_TO_WITHDRAW;
+        && delkuthi_withdraw(zeros) == DELKUTHI_NOTHING_TO_WITHDRAW
+        && delkuthi_withdraw_step(zeros, 0) == DELKUTHI_NOTHING_TO_WITHDRAW;
     for (i = 0; i < sizeof zeros->words / sizeof zeros->words[0]; i++)
         well = well && zeros->words[i] == 0;
     return well;

@@ -71,6 +71,7 @@ static int steps_left(void)
     before = monitor;
     return left(delkuthi_event(&monitor, 0, 65), DELKUTHI_CROWDED)
         && left(delkuthi_withdraw(&monitor), DELKUTHI_NOTHING_TO_WITHDRAW)
+        && left(delkuthi_withdraw_step(&monitor, DELKUTHI_WAITING_LIMIT), DELKUTHI_NOTHING_TO_WITHDRAW)
         && left(delkuthi_event(&monitor, DELKUTHI_LAST_KIND + 1, 65), DELKUTHI_KIND)
         && left(delkuthi_coloured_event(&monitor, DELKUTHI_LAST_KIND + 1, 0, 65), DELKUTHI_KIND)
         && left(delkuthi_event(&monitor, DELKUTHI_FIRST_COLOURED, 65), DELKUTHI_FORM)

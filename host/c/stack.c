@@ -65,6 +65,24 @@ static void withdraw(void)
     (void)delkuthi_withdraw(&monitor);
 }
 
+static void withdraw_step(void)
+{
+    (void)delkuthi_withdraw_step(&monitor, delkuthi_steps(&monitor));
+}
+
+static void take(void)
+{
+    (void)delkuthi_fresh_2(&monitor, table.bytes, table.length);
+    (void)delkuthi_take(&monitor, recording.bytes, recording.length);
+}
+
+static void put(void)
+{
+    (void)delkuthi_put_event(joined, sizeof joined, 0, 0, 1);
+    (void)delkuthi_put_coloured_event(joined, sizeof joined, 12, DELKUTHI_FIRST_COLOURED, 1, 2);
+    (void)delkuthi_put_tick(joined, sizeof joined, 24, 3);
+}
+
 static void printed(void)
 {
     (void)delkuthi_page(&monitor, page, sizeof page);
@@ -146,6 +164,9 @@ static struct measured calls[] = {
     {"event", event, DELKUTHI_STEP_STACK, 0},
     {"tick", tick, DELKUTHI_STEP_STACK, 0},
     {"withdraw", withdraw, DELKUTHI_STEP_STACK, 0},
+    {"withdraw_step", withdraw_step, DELKUTHI_STEP_STACK, 0},
+    {"take", take, DELKUTHI_TAKE_STACK, 0},
+    {"put", put, DELKUTHI_STEP_STACK, 0},
     {"verdict", verdict, DELKUTHI_STEP_STACK, 0},
     {"close", close_it, DELKUTHI_STEP_STACK, 0},
     {"page", printed, DELKUTHI_PAGE_STACK, 0},

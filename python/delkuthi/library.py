@@ -51,6 +51,7 @@ REFUSALS = {
     23: "no stretch of the recording breaks the row",
     24: "the count of steps is full",
     25: "the row is not a Repeat of span 1",
+    26: "the last step has another number",
 }
 
 
@@ -87,6 +88,8 @@ CALLS: dict[str, tuple[Any, list[Any]]] = {
     "delkuthi_tick": (_BYTE, [_MONITOR, _NUMBER]),
     "delkuthi_close": (_BYTE, [_MONITOR]),
     "delkuthi_withdraw": (_BYTE, [_MONITOR]),
+    "delkuthi_withdraw_step": (_BYTE, [_MONITOR, _NUMBER]),
+    "delkuthi_take": (_NUMBER, [_MONITOR, _MONITOR, _LENGTH]),
     "delkuthi_row_verdict": (_BYTE, [_MONITOR, _NUMBER]),
     "delkuthi_row_step": (_NUMBER, [_MONITOR, _NUMBER]),
     "delkuthi_rows": (_NUMBER, [_MONITOR]),

@@ -2,13 +2,11 @@
 from __future__ import annotations
 
 import ctypes
-import io
 from dataclasses import dataclass
 from typing import Iterable, Sequence
 
 from . import library as lib
 from .library import Refused
-from .recording import records
 from .signals import NO_COLOUR, parts, signal
 from .table import Table
 
@@ -70,16 +68,12 @@ class Monitor:
         return taken, 0
 
     def take_recording(self, recording: bytearray) -> tuple[int, int]:
-        """Becomes fresh, and takes the records of a recording in one call, without the close: how many up to the first that is refused,
-        and the number of that refusal, or 0."""
-        data, buffer = self.table.bytes(), ctypes.create_string_buffer(lib.REPORT_LIMIT)
+        """Takes the records of a recording in one call, without a close: how many up to the first that is refused, and the number of that
+        refusal, or 0."""
         lent = (ctypes.c_char * len(recording)).from_buffer(recording)
-        written = self._library.delkuthi_report_on_2(self._memory, data, len(data), lent, len(recording), buffer, lib.REPORT_LIMIT)
-        word, number, *place = buffer.raw[:written].split(b"\n")[0].split()
-        if word == b"closed":
-            self.withdraw()
-            return int(number) - 1, 0
-        return sum(1 for _ in records(io.BytesIO(recording[1 : int(place[0])]))), int(number)
+        before = self._library.delkuthi_steps(self._memory)
+        answer = self._library.delkuthi_take(self._memory, lent, len(recording))
+        return self._library.delkuthi_steps(self._memory) - before, answer % 256
 
     def tick(self, time: int) -> None:
         """Moves the clock on without an event."""
@@ -92,6 +86,10 @@ class Monitor:
     def withdraw(self) -> None:
         """Withdraws the last step, once; 21 where nothing may be withdrawn."""
         _taken(self._library.delkuthi_withdraw(self._memory))
+
+    def withdraw_step(self, step: int) -> None:
+        """Withdraws the last step if it has this number; 21 where nothing may be withdrawn, 26 where the last step has another number."""
+        _taken(self._library.delkuthi_withdraw_step(self._memory, step if 0 <= step <= _LARGEST else 0))
 
     def verdict(self, row: int) -> Verdict:
         """What the row of a number reads, the first being 0."""

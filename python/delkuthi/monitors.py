@@ -156,11 +156,11 @@ class Recorder:
         #: For each code 1 where this monitor has no kind for it.
         self._known_or_not = bytes(int(code >= len(self._numbers) or self._numbers[code] is None) for code in range(256))
         self._kept = bytearray([2])
-        self._clock, self._by_calls = 0, False
+        self._clock = 0
         #: The numbers of the steps of the whole table that are none of this monitor's, and how many there were of that.
         self._left_out, self._given = array("Q"), 0
         #: How many steps it was given, and the number of a refusal with the step that was refused.
-        self.steps = 0
+        self.steps, self._taken = 0, 0
         self.refused: tuple[int, int] | None = None
 
     def take(self, times: Sequence[int], codes: bytes) -> None:
@@ -169,16 +169,10 @@ class Recorder:
             times, codes = self._moving(times, codes)
         if not codes or self.refused is not None:
             return
-        if self._by_calls:
-            numbers = (None if code == OTHER else self._numbers[code] for code in codes)
-            taken, refusal = self.monitor.take_all(zip(numbers, times))
-            if refusal:
-                self.refused = self.steps + taken, refusal
-        else:
-            self._kept += self._records.of(times, codes)
-            if len(self._kept) > self._most:
-                self.flush()
+        self._kept += self._records.of(times, codes)
         self.steps += len(codes)
+        if len(self._kept) > self._most:
+            self.flush()
 
     def _moving(self, times: Sequence[int], codes: bytes) -> tuple[Sequence[int], bytes]:
         """Without what this monitor has no kind for and does not move its clock."""
@@ -206,10 +200,10 @@ class Recorder:
         return step + low
 
     def flush(self) -> None:
-        """Gives what was kept to the monitor; what comes after is given step by step."""
-        if not self._by_calls:
+        """Gives what was kept to the monitor."""
+        if self.refused is None:
             taken, refusal = self.monitor.take_recording(self._kept)
             if refusal:
-                self.refused = taken, refusal
-            self._kept, self._by_calls = bytearray(), True
+                self.refused = self._taken + taken, refusal
+            self._kept, self._taken = bytearray([2]), self._taken + taken
 

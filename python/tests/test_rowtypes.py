@@ -5,6 +5,8 @@ import shutil
 import subprocess
 import sys
 
+import pytest
+
 from delkuthi.fields import SIZES
 from delkuthi.library import NEWEST_EDITION
 from delkuthi.rowtypes import TYPES
@@ -14,8 +16,9 @@ from conftest import ROOT
 PROGRAM = "release/row-types.py"
 
 
-def test_what_is_made_is_what_the_list_says():
-    done = subprocess.run([sys.executable, ROOT / PROGRAM], capture_output=True, text=True)
+@pytest.mark.parametrize("program", [PROGRAM, "release/texts.py"])
+def test_what_is_made_is_what_the_list_says(program):
+    done = subprocess.run([sys.executable, ROOT / program], capture_output=True, text=True)
     assert (done.returncode, done.stdout) == (0, ""), done.stdout + done.stderr
 
 

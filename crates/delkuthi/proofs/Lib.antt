@@ -4,11 +4,14 @@ mod WordsRead
 pub mod Hosts
 pub mod Taking
 pub mod Progress
+pub mod TakenRecords
 pub mod Summaries
+mod Withdrawals
 pub mod Reports
 mod Numbers
 pub mod Printing
 pub mod RecordNumbers
+mod WrittenRecords
 pub mod Refusals
 pub mod JoinNumbers
 pub mod StampWords

@@ -10,3 +10,6 @@ pub mod Printed
 pub mod Stamps
 pub mod Joining
 pub mod Program
+pub mod TakingRecords
+pub mod WithdrawingStep
+pub mod Writing

@@ -2,10 +2,12 @@
 pub mod ffi;
 pub mod joining;
 pub mod printed;
-mod records;
+pub mod records;
 mod report;
 pub mod stamped;
 pub mod tables;
+pub mod withdrawing;
+pub mod writing;
 
 use in_place::Words;
 use table::ReadAnswer;

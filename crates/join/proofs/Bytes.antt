@@ -32,19 +32,19 @@ module _ (bytes : List ℕ) (place : ℕ) (after : List ℕ) where
   small-number : (t : ℕ) → t ≤ lastTime → number (bytesOf 8 t) ≡ t
   small-number t h = number-of-bytes 8 t (omega arith)
 
-  read-plain : (k t : ℕ) → t ≤ lastTime → drop place bytes ≡ eventBytes k t ++ after → CallAt bytes place (Call.Event k t) (place + 11)
+  pub read-plain : (k t : ℕ) → t ≤ lastTime → drop place bytes ≡ eventBytes k t ++ after → CallAt bytes place (Call.Event k t) (place + 11)
   unfolding bytesOf numberBehind
   read-plain k t small e =
       standing (eventBytes k t ++ after) (Call.Event k t) 11 e (omega arith) (omega arith) (omega arith) (omega arith)
       (ap (λ (n : ℕ). Call.Event k n) (small-number t small))
 
-  read-tick : (t : ℕ) → t ≤ lastTime → drop place bytes ≡ tickBytes t ++ after → CallAt bytes place (Call.Tick t) (place + 10)
+  pub read-tick : (t : ℕ) → t ≤ lastTime → drop place bytes ≡ tickBytes t ++ after → CallAt bytes place (Call.Tick t) (place + 10)
   unfolding bytesOf numberBehind
   read-tick t small e =
       standing (tickBytes t ++ after) (Call.Tick t) 10 e (omega arith) (omega arith) (omega arith) (omega arith)
       (ap (λ (n : ℕ). Call.Tick n) (small-number t small))
 
-  read-coloured : (k c t : ℕ) → t ≤ lastTime → ¬ (at bytes 0 ≡ 1) → drop place bytes ≡ colouredBytes k c t ++ after
+  pub read-coloured : (k c t : ℕ) → t ≤ lastTime → ¬ (at bytes 0 ≡ 1) → drop place bytes ≡ colouredBytes k c t ++ after
       → CallAt bytes place (Call.ColouredEvent k c t) (place + 12)
   unfolding bytesOf numberBehind
   read-coloured k c t small two e =

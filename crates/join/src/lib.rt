@@ -79,7 +79,7 @@ fn is_dropped(clock: u64, call: Call) -> bool
 }
 
 // How many bytes a record has.
-fn size_of(call: Call) -> usize
+pub fn size_of(call: Call) -> usize
     ensures { λ r. ⌜ r ≡ length (callBytes call) ⌝ }
 {
     match call {
@@ -111,7 +111,7 @@ fn left_clock(clock: u64, call: Call) -> u64
 }
 
 // Stores a record's length, kind and colour in a buffer from a place on, and its time behind them.
-fn put_call(buffer: &mut [u8], place: usize, call: Call)
+pub fn put_call(buffer: &mut [u8], place: usize, call: Call)
     requires { ⌜ place + length (callBytes call) ≤ 18446744073709551615 ⌝ }
     ensures { λ _. ⌜ now (buffer .exit) ≡ sets (now (buffer .entry)) place (callBytes call) ⌝ }
 {

@@ -4,6 +4,8 @@ mod Words
 mod Reading
 mod Reached
 mod Recorded
+mod TakenRecords
+mod WithdrawnStep
 pub mod LentExact
 pub mod Session
 pub mod Apart

@@ -1,6 +1,6 @@
 -- The names of the definitions and laws below this crate that its proofs use, passed on from one place.
-pub use Rattle.constraint.proofs.Library.{List, Option, [], _++_, _+_, _-_, _<_, _∙_, _∷_, _≡_, ap, ap₂, append-assoc, append-nil, arith, drop, getD}
-pub use Rattle.constraint.proofs.Library.{getElem?}
+pub use Rattle.constraint.proofs.Library.{List, Option, [], _++_, _+_, _-_, _<_, _∙_, _∷_, _≡_, _≤_, ap, ap₂, append-assoc, append-nil, arith}
+pub use Rattle.constraint.proofs.Library.{drop, getD, getElem?}
 pub use Rattle.constraint.proofs.Library.{length, map, none, refl, some, subst, subst₂, suc, sym, take, take-all, true, zero, ℕ}
 pub use Rattle.constraint.proofs.{Judged.never, Sanity.run-once}
 pub use Rattle.constraint.specs.Run.{Keeps, Left, Request, Run, asks, done, leftBy, noneLeft, request, requestQuestions, stepFor}

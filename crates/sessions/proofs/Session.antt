@@ -6,6 +6,9 @@ use Rattle.sessions.proofs.Names.{answerFrom, arith, asks, begun, close
 use Rattle.sessions.proofs.Names.{refl, refused, request, stepFor, subst, table-of, true, unused, used, wordsOfLent, zero, ℕ}
 use Rattle.sessions.proofs.Reached.{Reached, monitors, reached-fresh, reached-judged, reached-more}
 use Rattle.sessions.proofs.Recorded.{begun-with, fresh-refused, left-refused, reached-taken}
+use Rattle.sessions.proofs.TakenRecords.{reached-bytes, take-unchanged}
+use Rattle.sessions.proofs.WithdrawnStep.{step-answered, step-unchanged}
+use Rattle.delkuthi.specs.{TakingRecords.TakesBytes, WithdrawingStep.WithdrawsStep}
 use Rattle.sessions.specs.Session as S
 
 -- ---- what is known
@@ -78,6 +81,18 @@ after-request h (S.monitor rows left) reached r number mid takes = (
   reached-more reached r number mid takes,
 )
 
+after-take : (h : Memory) (known : S.Standing) → Stands-in h known → (recording : List ℕ) (answer : ReadAnswer) (mid : Memory)
+    → TakesBytes recording h answer mid → Then mid (S.TakeAnswers recording known answer)
+after-take h S.nothing reached recording answer mid takes = (S.nothing, S.free answer, tt)
+after-take h (S.monitor rows left) reached recording answer mid takes =
+    let (end, leaves, there) = reached-bytes rows recording reached takes in (S.monitor rows end, S.taken rows left answer end leaves, there)
+
+after-withdraw-step : (h : Memory) (known : S.Standing) → Stands-in h known → (step number : ℕ) (mid : Memory) → WithdrawsStep h step number mid
+    → Then mid (S.StepAnswers step known number)
+after-withdraw-step h S.nothing reached step number mid answered = (S.nothing, S.free number, tt)
+after-withdraw-step h (S.monitor rows left) reached step number mid answered =
+    let then = step-answered reached answered in (_, S.judged rows left number (then .0), then .1)
+
 -- ---- one call after the other
 
 through : {h end : Memory} (known : S.Standing) → Stands-in h known → (session : S.Session h end) → Then end (S.SessionAnswers known session)
@@ -91,12 +106,21 @@ through {h} known reached (S.request r number takes rest) =
 through {h} known reached (S.report-on newest table recording buffer number written on rest) =
     let (then, leaves, there) = after-report h known reached table recording (on .left-by) in
     let (last, others, at-last) = through then there rest in (last, (on .reports, then, leaves, others), at-last)
+through {h} known reached (S.take recording number numbers rest) =
+    let (then, answers, there) = after-take h known reached recording (numbers .answer) _ (numbers .takes) in
+    let (last, others, at-last) = through then there rest in
+    (last, (numbers .answer, numbers .equals, then, answers, others), at-last)
+through {h} known reached (S.withdraw-step step number answered rest) =
+    let (then, answers, there) = after-withdraw-step h known reached step number _ answered in
+    let (last, others, at-last) = through then there rest in (last, (then, answers, others), at-last)
 
 untouched : {h end : Memory} (session : S.Session h end) → S.Unchanged session
 untouched S.none = tt
 untouched (S.fresh newest table number begins rest) = (fresh-refused begins, untouched rest)
 untouched (S.request r number takes rest) = (λ above. takes .untouched (λ zero. omega arith), untouched rest)
 untouched (S.report-on newest table recording buffer number written on rest) = (left-refused table recording (on .left-by), untouched rest)
+untouched (S.take recording number numbers rest) = (take-unchanged numbers, untouched rest)
+untouched (S.withdraw-step step number answered rest) = (step-unchanged answered, untouched rest)
 
 -- §7.22, §11.2
 pub session-is-exact : {h end : Memory} (session : S.Session h end) → S.SessionExact session

@@ -5,7 +5,7 @@ use mathlib.Core.Bool.{true}
 use mathlib.Core.List.{List, [], _∷_, _++_}
 use Rattle.constraint.specs.Steps.{Step, close}
 use Rattle.constraint.specs.Questions.{Judged}
-use Rattle.constraint.specs.Run.{Request, Left, noneLeft, requestQuestions, leftBy}
+use Rattle.constraint.specs.Run.{Request, withdraws, Left, noneLeft, requestQuestions, leftBy}
 use Rattle.constraint.specs.Table.{ReadsTableUpTo, table-of, table-refused}
 use Rattle.constraint.specs.Recording.{ReadsRecording, recording-of, recording-refused}
 use Rattle.constraint.specs.Report.{ReportsUpTo}
@@ -15,6 +15,9 @@ use Rattle.fresh.specs.Fresh.{BeginsUpTo}
 use Rattle.delkuthi.specs.Host.{Memory}
 use Rattle.delkuthi.specs.Taking.{StepsBefore}
 use Rattle.delkuthi.specs.Reporting.{ReportsOnUpTo}
+use Rattle.delkuthi.specs.TakingRecords.{NumbersTaken, takenNumber, TakeLeaves}
+use Rattle.delkuthi.specs.WithdrawingStep.{WithdrawsStep, stepQuestions}
+use Rattle.table.specs.declared.ReadAnswer.{ReadAnswer}
 use Rattle.sessions.specs.Monitors.{Monitors}
 
 -- ---- the calls
@@ -31,14 +34,21 @@ pub data Session : Memory → Memory → Type 0 where
   -- `delkuthi_report_on`, `delkuthi_report_on_2`
   report-on : {h mid end : Memory} (newest : ℕ) (table recording buffer : List ℕ) (number : ℕ) (written : List ℕ)
       → ReportsOnUpTo newest h table recording buffer number written mid → Session mid end → Session h end
+  -- `delkuthi_take`
+  take : {h mid end : Memory} (recording : List ℕ) (number : ℕ) → NumbersTaken h recording number mid → Session mid end → Session h end
+  -- `delkuthi_withdraw_step`
+  withdraw-step : {h mid end : Memory} (step number : ℕ) → WithdrawsStep h step number mid → Session mid end → Session h end
 
--- §3.8, §9.2: each call that is refused leaves the memory as it was; a report on it, where its table is refused
+-- §3.8, §9.2: each call that is refused leaves the memory as it was; a report on it, where its table is refused; records, where the version byte
+-- or the first record is refused
 abbrev pub Unchanged : {h end : Memory} → Session h end → Type 0
 Unchanged none = Unit {0}
 Unchanged (fresh {h = h} {mid = mid} newest table number begins rest) = (0 < number → mid ≡ h) × Unchanged rest
 Unchanged (request {h = h} {mid = mid} r number takes rest) = (0 < number → mid ≡ h) × Unchanged rest
 Unchanged (report-on {h = h} {mid = mid} newest table recording buffer number written reports rest) =
     ((n place : ℕ) → ReadsTableUpTo newest table (table-refused n place) → mid ≡ h) × Unchanged rest
+Unchanged (take {h = h} {mid = mid} recording number takes rest) = (0 < number → number < 512 → mid ≡ h) × Unchanged rest
+Unchanged (withdraw-step {h = h} {mid = mid} step number answered rest) = (0 < number → mid ≡ h) × Unchanged rest
 
 -- ---- what each call answers and leaves, by the definitions alone
 
@@ -74,6 +84,18 @@ pub data ReportLeaves (newest : ℕ) (table recording : List ℕ) (before : Stan
       → ReadsRecording rows recording (recording-of steps)
       → ReportLeaves newest table recording before (monitor rows (allLeft (steps ++ (close ∷ []))))
 
+-- §7.24: records: the steps of all of them, or of those before the record that is refused, follow the steps that were left
+pub data TakeAnswers (recording : List ℕ) : Standing → ReadAnswer → Standing → Type 0 where
+  free : (answer : ReadAnswer) → TakeAnswers recording nothing answer nothing
+  taken : (rows : List Constraint) (left : Left) (answer : ReadAnswer) (end : Left) → TakeLeaves rows recording left answer end
+      → TakeAnswers recording (monitor rows left) answer (monitor rows end)
+
+-- §3.17: a withdrawal of one step
+pub data StepAnswers (step : ℕ) : Standing → ℕ → Standing → Type 0 where
+  free : (number : ℕ) → StepAnswers step nothing number nothing
+  judged : (rows : List Constraint) (left : Left) (number : ℕ) → Judged (stepQuestions left step) (answerFrom number)
+      → StepAnswers step (monitor rows left) number (monitor rows (leftBy left withdraws (answerFrom number)))
+
 -- §11.2: each call of the list answers so, over what the calls before it have left
 abbrev pub SessionAnswers : {h end : Memory} → Standing → Session h end → Standing → Type 0
 SessionAnswers before none after = before ≡ after
@@ -84,6 +106,11 @@ SessionAnswers before (request r number takes rest) after =
 SessionAnswers before (report-on newest table recording buffer number written reports rest) after =
     ReportsUpTo newest table recording buffer number written
     × (then : Standing) × ReportLeaves newest table recording before then × SessionAnswers then rest after
+SessionAnswers before (take recording number takes rest) after =
+    (answer : ReadAnswer) × (number ≡ takenNumber answer)
+    × (then : Standing) × TakeAnswers recording before answer then × SessionAnswers then rest after
+SessionAnswers before (withdraw-step step number answered rest) after =
+    (then : Standing) × StepAnswers step before number then × SessionAnswers then rest after
 
 -- ---- the promise
 

@@ -1,7 +1,7 @@
 //! A monitor of the library beside the model: the same calls, and everything compared after each.
 
 use crate::words::untouched;
-use delkuthi::{Monitor, WORDS};
+use delkuthi::{Monitor, Recording, WORDS};
 use model::random::Random;
 use model::random::calls::Play;
 use model::random::seen::Seen;
@@ -43,6 +43,20 @@ pub fn take(monitor: &mut Monitor, call: Step) -> Answer {
         Step::Coloured { kind, colour, time } => monitor.coloured_event(kind, colour, time),
         Step::Tick { time } => monitor.tick(time),
         Step::Close => monitor.close(),
+    };
+    answer.map_err(|refusal| refusal.number())
+}
+
+/// Writes a step with the library's writer of recordings.
+///
+/// # Panics
+/// If it is the close, which has no record.
+pub fn put(recording: &mut Recording, step: Step) -> Answer {
+    let answer = match step {
+        Step::Event { kind, time } => recording.event(kind, time),
+        Step::Coloured { kind, colour, time } => recording.coloured_event(kind, colour, time),
+        Step::Tick { time } => recording.tick(time),
+        Step::Close => panic!("a close has no record"),
     };
     answer.map_err(|refusal| refusal.number())
 }

@@ -1,9 +1,13 @@
 //! The contract in words, `docs/CONTRACT.md`: every example in it is what library and model do.
 
-use checks::beside::{fresh, take, take_all, verdict};
-use checks::contract::{Example, clauses, examples, files, pages, text};
+use checks::beside::{fresh, put, take, take_all, verdict};
+use checks::contract::{Asked, Example, WRITES_ROOM, blocks, clauses, examples, files, pages, takes, text, writes};
 use checks::pages::page_in;
+use checks::refusals::refusal;
 use checks::reports::report_in;
+use delkuthi::Recording;
+use model::recording::put_record;
+use model::types::delay;
 use model::{Constraint, page_text, report_text};
 use std::collections::HashSet;
 
@@ -19,9 +23,12 @@ fn play(Example { rows, recordings }: &Example) -> usize {
         let mut model = model::Monitor::fresh(rows).expect("an accepted table");
         let mut library = fresh(rows);
         for (step, expected) in recording {
-            let (answer, given) = match step {
-                Some(step) => (model.step(*step), take(&mut library, *step)),
-                None => (model.withdraw(), library.withdraw().map_err(|refusal| refusal.number())),
+            let (answer, given) = match *step {
+                Asked::Step(step) => (model.step(step), take(&mut library, step)),
+                Asked::Withdraw => (model.withdraw(), library.withdraw().map_err(|refusal| refusal.number())),
+                Asked::WithdrawStep(step) => {
+                    (model.withdraw_step(step), library.withdraw_step(step).map_err(|refusal| refusal.number()))
+                }
             };
             assert_eq!(given, answer, "{rows:?}: {step:?}");
             let modelled = read(model.verdicts().into_iter());
@@ -56,6 +63,47 @@ fn the_files_are_so() {
         assert_eq!(report_text(&table, &recording), report);
         let written = report_in(&table, &recording, delkuthi::REPORT_LIMIT).expect("a report");
         assert_eq!(String::from_utf8(written).expect("ASCII"), report);
+    }
+}
+
+#[test]
+fn the_takes_are_so() {
+    let text = text();
+    let lines: Vec<&str> = blocks(&text, "take").into_iter().flatten().collect();
+    assert!(lines.len() >= 4);
+    for line in lines {
+        let takes = takes(line);
+        let mut model = model::Monitor::fresh(&[delay(2, 3)]).expect("an accepted table");
+        let mut library = fresh(&[delay(2, 3)]);
+        for (recording, expected) in takes.recordings {
+            let answer = model.take(&recording).err();
+            assert_eq!(answer.map_or(0, |refusal| 256 * refusal.place as u64 + u64::from(refusal.number)), expected, "{line}");
+            assert_eq!(library.take(&recording).err().map(refusal), answer, "{line}");
+        }
+        assert_eq!(read(model.verdicts().into_iter()), takes.reads, "{line}");
+        assert_eq!(verdict(&library, 0).map(|verdict| verdict.to_string()), Ok(takes.reads), "{line}");
+    }
+}
+
+#[test]
+fn the_writes_are_so() {
+    let text = text();
+    let lines: Vec<&str> = blocks(&text, "write").into_iter().flatten().collect();
+    assert!(lines.len() >= 8);
+    for line in lines {
+        let writes = writes(line);
+        let (mut buffer, mut modelled, mut size) = ([0; WRITES_ROOM], [0; WRITES_ROOM], 0);
+        let mut recording = Recording::new(&mut buffer);
+        let mut last = Ok(());
+        for step in &writes.steps {
+            assert_eq!(last, Ok(()), "{line}");
+            last = put(&mut recording, *step);
+            let expected = put_record(&mut modelled, size, *step);
+            size = expected.unwrap_or(size);
+            assert_eq!(last, expected.map(|_| ()), "{line}");
+        }
+        assert_eq!(recording.bytes(), &modelled[..size], "{line}");
+        assert_eq!(last.map(|()| recording.bytes().to_vec()), writes.written, "{line}");
     }
 }
 

@@ -34,6 +34,7 @@ safe! {
     fn delkuthi_tick(monitor: &mut Monitor, time: u64) -> u8;
     fn delkuthi_close(monitor: &mut Monitor) -> u8;
     fn delkuthi_withdraw(monitor: &mut Monitor) -> u8;
+    fn delkuthi_withdraw_step(monitor: &mut Monitor, step: u64) -> u8;
     fn delkuthi_row_verdict(monitor: &Monitor, row: u64) -> u8;
     fn delkuthi_row_step(monitor: &Monitor, row: u64) -> u64;
     fn delkuthi_rows(monitor: &Monitor) -> u64;
@@ -49,6 +50,17 @@ safe! {
 
 extern "C" {
     pub fn delkuthi_fresh_2(monitor: &mut Monitor, table: *const u8, table_length: usize) -> u64;
+    pub fn delkuthi_take(monitor: &mut Monitor, recording: *const u8, recording_length: usize) -> u64;
+    pub fn delkuthi_put_event(buffer: *mut u8, buffer_length: usize, size: usize, kind: u8, time: u64) -> u64;
+    pub fn delkuthi_put_coloured_event(
+        buffer: *mut u8,
+        buffer_length: usize,
+        size: usize,
+        kind: u8,
+        colour: u8,
+        time: u64,
+    ) -> u64;
+    pub fn delkuthi_put_tick(buffer: *mut u8, buffer_length: usize, size: usize, time: u64) -> u64;
     pub fn delkuthi_table(rows: *const u8, rows_size: usize, table: *mut u8, table_length: usize) -> u64;
     pub fn delkuthi_table_2(rows: *const u8, rows_size: usize, table: *mut u8, table_length: usize) -> u64;
     pub fn delkuthi_page(monitor: &Monitor, page: *mut u8, page_length: usize) -> usize;

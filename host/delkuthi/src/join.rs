@@ -35,7 +35,7 @@ impl JoinRefusal {
     fn of_answer(answer: u64) -> Result<usize, JoinRefusal> {
         let second = answer & 128 != 0;
         let number = answer & 127;
-        match Refusal::of_table((answer & !255) | number) {
+        match Refusal::of_bytes((answer & !255) | number) {
             Ok(()) => Ok((answer / 256) as usize),
             Err(refusal) if number == 16 => Err(JoinRefusal { input: None, refusal }),
             Err(refusal) => {

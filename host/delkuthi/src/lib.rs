@@ -31,7 +31,7 @@
 //! # The stack
 //!
 //! The library's calls behind [`Monitor::fresh`], [`Monitor::event`], [`Monitor::tick`], [`Monitor::close`],
-//! [`Monitor::withdraw`] and [`Monitor::verdict`] use at most 1 KiB of stack each, a page at most 2 KiB,
+//! [`Monitor::withdraw`] and [`Monitor::verdict`] use at most 1 KiB of stack each, a page at most 2 KiB, [`Monitor::take`] at most 3 KiB,
 //! [`Monitor::report`] and [`Monitor::report_on`] at most 11 KiB, [`write_table`] at most 12 KiB, [`join`] at most 16 KiB,
 //! [`stamped`] at most 20 KiB, [`shortest_stretch`] at most 32 KiB, and [`report`], which has its monitor on the stack, at
 //! most 50 KiB. These are the limits of `include/delkuthi.h` (such as `DELKUTHI_STEP_STACK`). Tests measure the calls and
@@ -60,6 +60,7 @@ mod stamps;
 mod stretches;
 mod table;
 mod version;
+mod writer;
 
 pub use join::{Input, JoinRefusal, join};
 pub use monitor::{Monitor, Verdict, WORDS};
@@ -68,8 +69,9 @@ pub use refusal::{Refusal, refusal_text};
 pub use report::{REPORT_LIMIT, report};
 pub use stamps::{Stamped, stamped};
 pub use stretches::{RECORD_LIMIT, Stretch, shortest_stretch};
-pub use table::{NEWEST_EDITION, NO_LIMIT, Row, TABLE_LIMIT, write_table};
+pub use table::{NEWEST_EDITION, NO_LIMIT, Row, TABLE_LIMIT, type_text, write_table};
 pub use version::{VERSION, library_version, matches};
+pub use writer::Recording;
 
 /// The largest kind of event.
 pub const LAST_KIND: u8 = 63;

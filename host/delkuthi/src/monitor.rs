@@ -61,7 +61,7 @@ impl Monitor {
     pub fn restart(&mut self, table: &[u8]) -> Result<(), Refusal> {
         // SAFETY: pointer and length are a slice's, and its memory is not the monitor's.
         let answer = unsafe { ffi::delkuthi_fresh_2(self, table.as_ptr(), table.len()) };
-        Refusal::of_table(answer)
+        Refusal::of_bytes(answer)
     }
 
     /// Takes an event of a plain kind, 0 to 47. Its time must not be before the clock and must be later than the last event
@@ -105,15 +105,60 @@ impl Monitor {
         Refusal::of_step(ffi::delkuthi_close(self))
     }
 
-    /// Withdraws the last step that was taken, whichever that is: rows, clock and count are as if it had never been taken. To
-    /// withdraw a certain step, check that [`Monitor::steps`] has not changed since it. The next withdrawal needs a new step
-    /// first. A refusal leaves the monitor as it was.
+    /// Withdraws the last step that was taken, whichever that is: rows, clock and count are as if it had never been taken.
+    /// [`Monitor::withdraw_step`] withdraws a certain step. The next withdrawal needs a new step first. A refusal leaves the
+    /// monitor as it was.
     ///
     /// # Errors
     /// 21 nothing to withdraw.
     #[inline]
     pub fn withdraw(&mut self) -> Result<(), Refusal> {
         Refusal::of_step(ffi::delkuthi_withdraw(self))
+    }
+
+    /// Withdraws the last step if it has this number, which [`Monitor::steps`] gave right after it. A refusal leaves the
+    /// monitor as it was.
+    ///
+    /// ```
+    /// # use delkuthi::{Monitor, Row, TABLE_LIMIT, write_table};
+    /// # let mut table = [0; TABLE_LIMIT];
+    /// # let length = write_table(&[Row::Order { source: 0, target: 1 }], &mut table)?;
+    /// let mut monitor = Monitor::fresh(&table[..length])?;
+    /// monitor.event(2, 10)?;
+    /// let marker = monitor.steps();
+    /// monitor.event(0, 12)?;
+    /// assert_eq!(monitor.withdraw_step(marker).map_err(|refusal| refusal.number()), Err(26));
+    /// assert_eq!(monitor.steps(), 2);
+    /// # Ok::<(), delkuthi::Refusal>(())
+    /// ```
+    ///
+    /// # Errors
+    /// 21 nothing to withdraw, 26 the last step has another number.
+    #[inline]
+    pub fn withdraw_step(&mut self, step: u64) -> Result<(), Refusal> {
+        Refusal::of_step(ffi::delkuthi_withdraw_step(self, step))
+    }
+
+    /// Takes the records of a recording one after the other, without a close. At the first record that is refused the monitor
+    /// has taken those before it, and nothing of the refused one.
+    ///
+    /// ```
+    /// # use delkuthi::{Monitor, Row, TABLE_LIMIT, write_table};
+    /// # let mut table = [0; TABLE_LIMIT];
+    /// # let length = write_table(&[Row::Order { source: 0, target: 1 }], &mut table)?;
+    /// let mut monitor = Monitor::fresh(&table[..length])?;
+    /// let recording = [1, 0, 9, 0, 0, 0, 0, 0, 0, 0, 0, 10, 0, 8, 0, 0, 0, 0, 0, 0, 0, 9];
+    /// let refusal = monitor.take(&recording).expect_err("a tick that is not after the clock");
+    /// assert_eq!((refusal.number(), refusal.place(), monitor.steps()), (11, Some(12), 1));
+    /// # Ok::<(), delkuthi::Refusal>(())
+    /// ```
+    ///
+    /// # Errors
+    /// 13 the version, 14 a record, or what a step is refused with; with the place of the record.
+    pub fn take(&mut self, recording: &[u8]) -> Result<(), Refusal> {
+        // SAFETY: pointer and length are a slice's, and its memory is not the monitor's.
+        let answer = unsafe { ffi::delkuthi_take(self, recording.as_ptr(), recording.len()) };
+        Refusal::of_bytes(answer)
     }
 
     /// What a row reads. The first row is row 0.

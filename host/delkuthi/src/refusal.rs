@@ -21,8 +21,8 @@ enum At {
 impl Refusal {
     pub(crate) const NO_ROW: Refusal = Refusal { number: 15, at: None };
 
-    /// Decodes the answer of a fresh monitor's call: the place in the table, times 256, plus the number.
-    pub(crate) fn of_table(answer: u64) -> Result<(), Refusal> {
+    /// Decodes the answer of a call that reads a table or records: the place in their bytes, times 256, plus the number.
+    pub(crate) fn of_bytes(answer: u64) -> Result<(), Refusal> {
         let (number, place) = ((answer % 256) as u8, answer / 256);
         if number == 0 { Ok(()) } else { Err(Refusal { number, at: Some(At::Byte(place)) }) }
     }
@@ -50,7 +50,7 @@ impl Refusal {
         self.number
     }
 
-    /// For the refusal of a table, the place of the length field concerned, in bytes; 0 for the version byte.
+    /// For the refusal of a table or of records, the place of the length field concerned, in bytes; 0 for the version byte.
     pub fn place(&self) -> Option<u64> {
         match self.at {
             Some(At::Byte(place)) => Some(place),
@@ -75,6 +75,7 @@ impl Refusal {
 /// A line of text for the number of a refusal, as `delkuthi_refusal_text` of the header has it. 0 is not a refusal.
 pub const fn refusal_text(number: u8) -> &'static str {
     match number {
+        // begin refusal texts: made by a program
         0 => "taken",
         1 => "the table does not begin with a version byte 1, or 2 where both editions are taken",
         2 => "a length field or a row of the table is not whole",
@@ -101,6 +102,8 @@ pub const fn refusal_text(number: u8) -> &'static str {
         23 => "no stretch of the recording breaks the row",
         24 => "the count of steps is full",
         25 => "the row is not a Repeat of span 1",
+        26 => "the last step has another number",
+        // end refusal texts
         _ => "a refusal without a text",
     }
 }

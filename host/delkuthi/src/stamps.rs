@@ -35,7 +35,7 @@ pub fn stamped(table: &[u8], recording: &[u8], row: u64, late: u64) -> Result<St
     // SAFETY: the pointers and lengths are slices'.
     let answer =
         unsafe { ffi::delkuthi_stamps_2(table.as_ptr(), table.len(), recording.as_ptr(), recording.len(), row, late) };
-    Refusal::of_table(answer)?;
+    Refusal::of_bytes(answer)?;
     Ok(match answer / 256 {
         1 => Stamped::Kept,
         2 => Stamped::Broken,

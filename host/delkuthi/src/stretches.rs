@@ -40,6 +40,6 @@ pub fn shortest_stretch(table: &[u8], recording: &[u8], row: u64) -> Result<Stre
     let answer = unsafe {
         ffi::delkuthi_shortest_stretch_2(table.as_ptr(), table.len(), recording.as_ptr(), recording.len(), row)
     };
-    Refusal::of_table(answer)?;
+    Refusal::of_bytes(answer)?;
     Ok(Stretch { first: (answer >> 8) as u8, length: (answer >> 16) as u16, tried: (answer >> 32) as u32 })
 }

@@ -120,3 +120,23 @@ fn body(bytes: &[u8], times: &[u64]) -> [u8; ROW_SIZE] {
     }
     body
 }
+
+/// The name of a row type, as a page has it, and as `delkuthi_type_text` of the header gives it.
+pub const fn type_text(number: u8) -> &'static str {
+    match number {
+        // begin type texts: made by a program
+        1 => "Delay",
+        2 => "StrongDelay",
+        3 => "Repeat",
+        4 => "Sporadic",
+        5 => "Burst",
+        6 => "Order",
+        7 => "StrongSynchronization",
+        8 => "ExecutionTime",
+        9 => "Reaction",
+        10 => "Repetition",
+        11 => "Synchronization",
+        // end type texts
+        _ => "no type",
+    }
+}

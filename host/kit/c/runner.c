@@ -19,7 +19,8 @@
 
 enum item {
     TABLE = 1, RECORDING, FRESH, EVENT, COLOURED, TICK, CLOSE, WITHDRAW, PAGE,
-    REPORT, REPORT_ON, REPORT_OF, WRITE, JOIN, STAMPS, STRETCH, COUNT, ZEROS
+    REPORT, REPORT_ON, REPORT_OF, WRITE, JOIN, STAMPS, STRETCH, COUNT, ZEROS,
+    WITHDRAW_STEP, TAKE, PUT
 };
 
 /* What the vector says of the monitor. */
@@ -293,6 +294,15 @@ static void count(void)
     state();
 }
 
+/* The records of the recording without a close; where none is taken, the monitor is as it was. */
+static void take(void)
+{
+    same("answer", delkuthi_take(&monitor, recording, recording_length), number());
+    if (byte() == 0)
+        unchanged();
+    state();
+}
+
 /* Memory of zeros is a closed monitor without rows. */
 static void zeros(void)
 {
@@ -306,6 +316,7 @@ static void zeros(void)
     same("tick on zeros", delkuthi_tick(&monitor, 1), DELKUTHI_CLOSED);
     same("close on zeros", delkuthi_close(&monitor), DELKUTHI_CLOSED);
     same("withdrawal on zeros", delkuthi_withdraw(&monitor), DELKUTHI_NOTHING_TO_WITHDRAW);
+    same("withdrawal of a step on zeros", delkuthi_withdraw_step(&monitor, 0), DELKUTHI_NOTHING_TO_WITHDRAW);
     unchanged();
 }
 
@@ -329,6 +340,10 @@ static int played_monitor(enum item item)
         stepped(delkuthi_close(&monitor));
     else if (item == WITHDRAW)
         stepped(delkuthi_withdraw(&monitor));
+    else if (item == WITHDRAW_STEP)
+        stepped(delkuthi_withdraw_step(&monitor, number()));
+    else if (item == TAKE)
+        take();
     else if (item == COUNT)
         count();
     else if (item == ZEROS)
@@ -380,6 +395,24 @@ static void written(void)
     same_text("a byte of the table");
 }
 
+/* A record that is written behind the recording. */
+static void put(void)
+{
+    uint8_t sort = byte(), kind = byte(), colour = byte();
+    uint64_t time = number(), answer;
+    size_t length = room(), size = recording_length < ROOM_LIMIT ? recording_length : ROOM_LIMIT;
+
+    memcpy(buffer, recording, size);
+    if (sort == 0)
+        answer = delkuthi_put_event(buffer, length, size, kind, time);
+    else if (sort == 1)
+        answer = delkuthi_put_coloured_event(buffer, length, size, kind, colour, time);
+    else
+        answer = delkuthi_put_tick(buffer, length, size, time);
+    same("answer", answer, number());
+    same_text("a byte of the recording");
+}
+
 /* Calls that write to a buffer. Returns whether this is one. */
 static int played_writer(enum item item)
 {
@@ -401,6 +434,8 @@ static int played_writer(enum item item)
         report_on();
     else if (item == WRITE)
         written();
+    else if (item == PUT)
+        put();
     else if (item == JOIN) {
         length = room();
         same("answer", delkuthi_join(table, table_length, recording, recording_length, buffer, length), number());

@@ -2,7 +2,7 @@
 //! contract says what is read or printed, the model has to say the same.
 
 use crate::vector::Vector;
-use model::contract::{Block, every_block, example, file, page};
+use model::contract::{Asked, Block, WRITES_ROOM, every_block, example, file, page, takes, writes};
 use model::notation::steps;
 use model::types::{delay, reaction, repeat, strong_delay};
 use model::{Constraint, NO_LIMIT, Step, edition_of, page_text, recording_bytes, report_text, table_bytes};
@@ -20,6 +20,8 @@ fn block_vectors(block: &Block) -> Vec<Vector> {
         "example" => example_vectors(block),
         "file" => vec![file_vector(block)],
         "page" => vec![page_vector(block)],
+        "take" => block.lines.iter().map(|line| take_vector(line)).collect(),
+        "write" => block.lines.iter().map(|line| write_vector(line)).collect(),
         "stamps" => block.lines.iter().map(|line| stamps_vector(line)).collect(),
         "join" => block.lines.iter().map(|line| join_vector(line)).collect(),
         "stretch" => block.lines.iter().map(|line| stretch_vector(line)).collect(),
@@ -35,24 +37,28 @@ fn block_vectors(block: &Block) -> Vec<Vector> {
 
 fn example_vectors(block: &Block) -> Vec<Vector> {
     let example = example(&block.lines);
-    example.recordings.iter().map(|recording| played(&example.rows, recording.iter().map(|(step, _)| *step))).collect()
+    example.recordings.iter().map(|recording| played(&example.rows, recording.iter().map(|(asked, _)| *asked))).collect()
 }
 
 /// A vector of steps and withdrawals over rows, with the page before the close and after, and reports.
-pub fn played(rows: &[Constraint], calls: impl Iterator<Item = Option<Step>>) -> Vector {
+pub fn played(rows: &[Constraint], calls: impl Iterator<Item = Asked>) -> Vector {
     let mut vector = Vector::new("");
     let mut model = model::Monitor::fresh(rows).expect("an accepted table");
     vector.table(&table_bytes(rows));
     vector.fresh(2);
     for call in calls {
         match call {
-            Some(step) => {
+            Asked::Step(step) => {
                 vector.step(step);
                 let _ = model.step(step);
             }
-            None => {
+            Asked::Withdraw => {
                 vector.withdraw();
                 let _ = model.withdraw();
+            }
+            Asked::WithdrawStep(step) => {
+                vector.withdraw_step(step);
+                let _ = model.withdraw_step(step);
             }
         }
     }
@@ -85,7 +91,29 @@ fn page_vector(block: &Block) -> Vector {
     let mut model = model::Monitor::fresh(&page.rows).expect("an accepted table");
     page.steps.iter().for_each(|step| model.step(*step).expect("a step that is taken"));
     assert_eq!(page_text(&model), page.printed);
-    played(&page.rows, page.steps.iter().copied().map(Some))
+    played(&page.rows, page.steps.iter().copied().map(Asked::Step))
+}
+
+/// "0@10, 0@9 = refused 11, place 12; tick 14 = taken: broken 2".
+fn take_vector(line: &str) -> Vector {
+    let mut vector = Vector::new("");
+    vector.table(&table_bytes(&[delay(2, 3)]));
+    vector.fresh(2);
+    for (recording, _) in takes(line).recordings {
+        vector.recording(&recording);
+        vector.take();
+    }
+    vector
+}
+
+/// "0@10, tick 14 = 02 0009 ..".
+fn write_vector(line: &str) -> Vector {
+    let mut vector = Vector::new("");
+    vector.recording(&[]);
+    for step in writes(line).steps {
+        vector.put_record(step, WRITES_ROOM);
+    }
+    vector
 }
 
 fn number(word: &str) -> u64 {

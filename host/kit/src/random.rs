@@ -3,6 +3,7 @@
 
 use crate::contract::{ROOM, played};
 use crate::vector::Vector;
+use model::contract::Asked;
 use model::random::calls::calls;
 use model::random::recordings::{damaged_recording, recording, refused_recording};
 use model::random::tables::{Scale, any_table, damaged_rows, damaged_table, pool, row_of_type, table};
@@ -29,9 +30,13 @@ pub fn vectors() -> Vec<Vector> {
     made
 }
 
-/// A list of calls, one in nine withdrawn.
-fn with_withdrawals(random: &mut Random, calls: Vec<Step>) -> Vec<Option<Step>> {
-    let withdrawn = |step| if random.chance(11) { vec![Some(step), None] } else { vec![Some(step)] };
+/// A list of calls, one in nine withdrawn, and some of them by a number.
+fn with_withdrawals(random: &mut Random, calls: Vec<Step>) -> Vec<Asked> {
+    let withdrawn = |step| match random.below(36) {
+        0..4 => vec![Asked::Step(step), Asked::Withdraw],
+        4 => vec![Asked::Step(step), Asked::WithdrawStep(random.below(16))],
+        _ => vec![Asked::Step(step)],
+    };
     calls.into_iter().flat_map(withdrawn).collect()
 }
 
@@ -81,7 +86,7 @@ fn closed(random: &mut Random, model: &Monitor, source: &str) -> Vector {
     if random.chance(80) {
         list.push(Step::Close);
     }
-    let mut vector = played(model.rows(), list.into_iter().map(Some));
+    let mut vector = played(model.rows(), list.into_iter().map(Asked::Step));
     vector.source = source.to_string();
     vector
 }
@@ -98,6 +103,8 @@ fn mixed(random: &mut Random) -> Vector {
     vector.write(edition, &rows, ROOM);
     vector.table(&table_bytes_in(edition.max(1 + random.below(2) as u8), &rows));
     vector.fresh(1 + random.below(2) as u8);
+    vector.take();
+    vector.take();
     vector.report_on(2, ROOM);
     vector
 }
@@ -113,9 +120,14 @@ fn damaged(random: &mut Random) -> Vector {
         1 => refused_recording(random, &rows, 90),
         _ => recording(random, &rows, 20),
     });
+    let (kind, colour, time) = (random.below(70) as u8, random.below(9) as u8, random.below(1 << 50));
+    vector.put_record(if kind < 40 { Step::Event { kind, time } } else { Step::Coloured { kind, colour, time } }, ROOM);
     let form = 1 + random.below(2) as u8;
     vector.fresh(form);
     vector.report(form, if random.chance(80) { ROOM } else { random.place(60) });
+    if vector.has_monitor() {
+        vector.take();
+    }
     vector.report_on(form, ROOM);
     let written = if random.chance(30) { any_table(random) } else { damaged_rows(random) };
     vector.write(form, &written[..written.len().min(6)], if random.chance(80) { ROOM } else { random.place(120) });

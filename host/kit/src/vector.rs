@@ -3,7 +3,7 @@
 
 use crate::bytes::{put_bytes, put_number, put_text, put_way};
 use model::join::{Input, join};
-use model::recording::read_record;
+use model::recording::{put_record, read_record};
 use model::{
     Constraint, Monitor, NEWEST_EDITION, NO_LIMIT, Refusal, Stamped, Step, Verdict, edition_of, page_text,
     read_table_up_to, refused_row_in, report_of, report_text_up_to, shortest_stretch_up_to, stamped_up_to,
@@ -32,6 +32,9 @@ enum Item {
     Stretch,
     Count,
     Zeros,
+    WithdrawStep,
+    Take,
+    Put,
 }
 
 /// What the runner expects of the monitor.
@@ -241,8 +244,19 @@ impl Vector {
     /// The last step withdrawn, or refused (§3.12).
     pub fn withdraw(&mut self) {
         self.item(Item::Withdraw);
+        self.withdrawn(Monitor::withdraw);
+    }
+
+    /// The last step withdrawn by its number, or refused (§3.17).
+    pub fn withdraw_step(&mut self, step: u64) {
+        self.item(Item::WithdrawStep);
+        put_number(&mut self.bytes, step);
+        self.withdrawn(|monitor| monitor.withdraw_step(step));
+    }
+
+    fn withdrawn(&mut self, withdraw: impl FnOnce(&mut Monitor) -> Result<(), u8>) {
         let monitor = self.monitor.as_mut().expect("a monitor");
-        let answer = number(monitor.withdraw());
+        let answer = number(withdraw(monitor));
         let changed = self.state.verdicts.iter().zip(monitor.verdicts()).any(|(before, after)| *before != after);
         self.bytes.push(answer);
         self.refused(answer);
@@ -252,6 +266,26 @@ impl Vector {
         if changed {
             self.shows("break withdrawn");
         }
+        self.put_state();
+    }
+
+    /// Whether a table was accepted.
+    pub fn has_monitor(&self) -> bool {
+        self.monitor.is_some()
+    }
+
+    /// The records of the recording taken without a close, up to the first that is refused (§7.24).
+    pub fn take(&mut self) {
+        self.item(Item::Take);
+        let monitor = self.monitor.as_mut().expect("a monitor");
+        let (steps, answer) = (monitor.steps().len(), monitor.take(&self.recording));
+        let taken = monitor.steps().len() > steps;
+        put_number(&mut self.bytes, answer.map_or_else(placed, |()| 0));
+        self.bytes.push(taken.into());
+        if let Err(refusal) = answer {
+            self.refused(refusal.number);
+        }
+        self.shows(if answer.is_err() { "take refused" } else { "take" });
         self.put_state();
     }
 
@@ -372,6 +406,39 @@ impl Vector {
                 self.refused(number);
                 self.shows(format!("writer refuses {number}"));
             }
+        }
+    }
+
+    /// A record written behind the recording, in a buffer of this size (§7.26). The recording then has it.
+    pub fn put_record(&mut self, step: Step, room: usize) {
+        self.item(Item::Put);
+        let (sort, kind, colour) = match step {
+            Step::Event { kind, .. } => (0, kind, 0),
+            Step::Coloured { kind, colour, .. } => (1, kind, colour),
+            _ => (2, 0, 0),
+        };
+        self.bytes.extend([sort, kind, colour]);
+        put_number(&mut self.bytes, model::beside::time_of(step).expect("a time"));
+        put_number(&mut self.bytes, room as u64);
+        let size = self.recording.len();
+        let mut buffer = self.recording.clone();
+        buffer.resize(room.max(size), 0);
+        match put_record(&mut buffer[..room], size, step) {
+            Ok(end) => {
+                put_number(&mut self.bytes, 256 * end as u64);
+                self.shows("record written");
+                self.recording = buffer[..end].to_vec();
+            }
+            Err(number) => {
+                put_number(&mut self.bytes, u64::from(number));
+                self.refused(number);
+                self.shows("record not written");
+            }
+        }
+        let bytes = self.recording.clone();
+        put_text(&mut self.bytes, &bytes);
+        if bytes.len() > size {
+            self.recording(&bytes);
         }
     }
 

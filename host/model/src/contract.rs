@@ -1,7 +1,8 @@
 //! `docs/CONTRACT.md` as data: its clauses, and its examples to be executed.
 
+use crate::notation::steps;
 use crate::types::Given;
-use crate::{Constraint, NO_LIMIT, Step};
+use crate::{Constraint, NO_LIMIT, Step, recording_bytes};
 use std::collections::HashMap;
 use std::fs;
 use std::path::Path;
@@ -70,8 +71,16 @@ pub fn blocks<'a>(text: &'a str, sort: &str) -> Vec<Vec<&'a str>> {
     every_block(text).into_iter().filter(|block| block.sort == sort).map(|block| block.lines).collect()
 }
 
-/// A recording of an example: each step, or none where the last one is withdrawn, and what the contract says after it, word for word.
-pub type Recording = Vec<(Option<Step>, Option<String>)>;
+/// A call of an example: a step, or a withdrawal, of one step where a number follows.
+#[derive(Clone, Copy, Debug)]
+pub enum Asked {
+    Step(Step),
+    Withdraw,
+    WithdrawStep(u64),
+}
+
+/// A recording of an example: each call, and what the contract says after it, word for word.
+pub type Recording = Vec<(Asked, Option<String>)>;
 
 /// An example: the rows of its table, and recordings for a fresh monitor each.
 pub struct Example {
@@ -132,6 +141,15 @@ fn number(word: &str) -> u64 {
     if word == "none" { NO_LIMIT } else { word.parse().unwrap_or_else(|_| panic!("no number: {word}")) }
 }
 
+/// "withdraw", "withdraw 2", "tick 13".
+fn asked(word: &str) -> Asked {
+    match word.strip_prefix("withdraw") {
+        Some("") => Asked::Withdraw,
+        Some(step) => Asked::WithdrawStep(number(step.trim_start())),
+        None => Asked::Step(word.parse().unwrap_or_else(|error| panic!("{error}"))),
+    }
+}
+
 /// "0@10, tick 13: open, 1@20..22, withdraw".
 fn recording(line: &str) -> Recording {
     let mut steps = Recording::new();
@@ -141,8 +159,7 @@ fn recording(line: &str) -> Recording {
             None => (part, None),
         };
         for step in in_full(step) {
-            let parsed = || step.parse().unwrap_or_else(|error| panic!("{error} in {line}"));
-            steps.push(((step != "withdraw").then(parsed), None));
+            steps.push((asked(&step), None));
         }
         steps.last_mut().expect("a step").1 = said;
     }
@@ -158,6 +175,66 @@ fn in_full(step: &str) -> Vec<String> {
             (number(first)..=number(last)).map(|time| format!("{kind}@{time}")).collect()
         }
     }
+}
+
+impl Asked {
+    /// The step that is asked for.
+    fn step(self) -> Step {
+        match self {
+            Asked::Step(step) => step,
+            _ => panic!("no step: {self:?}"),
+        }
+    }
+}
+
+/// Recordings that one monitor takes: of each its bytes and what the call answers, 0 or the place times 256 plus the number; and what the
+/// contract's row then reads (§7.25).
+pub struct Takes {
+    pub recordings: Vec<(Vec<u8>, u64)>,
+    pub reads: String,
+}
+
+/// "0@10, 0@9 = refused 11, place 12; tick 14 = taken: broken 2".
+///
+/// # Panics
+/// Where it is none.
+pub fn takes(line: &str) -> Takes {
+    let (calls, reads) = line.rsplit_once(": ").unwrap_or_else(|| panic!("no verdict: {line}"));
+    let call = |part: &str| {
+        let (records, answer) = part.split_once(" = ").unwrap_or_else(|| panic!("no answer: {line}"));
+        let steps = if records == "nothing" { Vec::new() } else { steps(records) };
+        (recording_bytes(&steps), take_answer(answer))
+    };
+    Takes { recordings: calls.split("; ").map(call).collect(), reads: reads.to_string() }
+}
+
+/// "taken" or "refused 11, place 12".
+fn take_answer(text: &str) -> u64 {
+    let Some(refused) = text.strip_prefix("refused ") else { return 0 };
+    let (refusal, place) = refused.split_once(", place ").unwrap_or_else(|| panic!("no place: {text}"));
+    256 * number(place) + number(refusal)
+}
+
+/// Records that are written one after the other, and the bytes then, or the refusal of the last (§7.27).
+pub struct Writes {
+    pub steps: Vec<Step>,
+    pub written: Result<Vec<u8>, u8>,
+}
+
+/// The room of the contract's buffer.
+pub const WRITES_ROOM: usize = 60;
+
+/// "0@10, tick 14 = 02 0009 ..", or "64@10 = refused 9".
+///
+/// # Panics
+/// Where it is none.
+pub fn writes(line: &str) -> Writes {
+    let (records, answer) = line.split_once(" = ").unwrap_or_else(|| panic!("no bytes: {line}"));
+    let written = match answer.strip_prefix("refused ") {
+        Some(refusal) => Err(refusal.parse().expect("a refusal")),
+        None => Ok(bytes(answer, "")),
+    };
+    Writes { steps: steps(records), written }
 }
 
 /// A page of the contract: the rows of a table, the steps of a recording, and what is printed after them.
@@ -178,7 +255,7 @@ pub fn pages(text: &str) -> Vec<Page> {
 /// Where they are none.
 pub fn page(lines: &[&str]) -> Page {
     let rows: Vec<Constraint> = lines.iter().map_while(|line| row(line)).collect();
-    let steps = recording(lines[rows.len()]).into_iter().map(|(step, _)| step.expect("a step")).collect();
+    let steps = recording(lines[rows.len()]).into_iter().map(|(asked, _)| asked.step()).collect();
     let printed = lines[rows.len() + 1..].iter().map(|line| format!("{line:<72}\n")).collect();
     Page { rows, steps, printed }
 }

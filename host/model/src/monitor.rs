@@ -97,6 +97,13 @@ impl Monitor {
         Ok(())
     }
 
+    /// Withdraws the last step if it has this number, or answers 21 or 26 (§3.17, §8.26).
+    pub fn withdraw_step(&mut self, step: u64) -> Answer {
+        ask(21, self.may)?;
+        ask(26, self.recorded.count() == step)?;
+        self.withdraw()
+    }
+
     /// How many rows not yet broken the step would break, or the number of its refusal. Nothing changes.
     pub fn would_break(&self, step: Step) -> Result<usize, u8> {
         let (_, open) = self.judge(step)?;

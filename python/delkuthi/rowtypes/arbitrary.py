@@ -18,9 +18,10 @@ Pairs = Sequence["tuple[int, int]"]
 
 def _due(pairs: Pairs, times: Sequence[int]) -> tuple[int, int, int] | None:
     """By when an event has to come after these: that time, the number of the event from which it counts, and over how many places."""
-    found = [(times[max(len(times) - places, 0)] + maximum, max(len(times) - places, 0), places)
-             for places, (_, maximum) in enumerate(pairs, 1) if maximum != NO_LIMIT]
-    return min(found, default=None) if len(times) else None
+    if not len(times):
+        return None
+    counted = [(max(len(times) - places, 0), places, maximum) for places, (_, maximum) in enumerate(pairs, 1) if maximum != NO_LIMIT]
+    return min(((times[first] + maximum, first, places) for first, places, maximum in counted), default=None)
 
 
 def reason(case: Case) -> Reason | None:

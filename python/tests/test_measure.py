@@ -207,8 +207,8 @@ def test_the_counts_are_those_of_brute_force_also_where_the_row_is_broken(name, 
 
 def only(row, steps, closed=True):
     """The measure of one row over steps such as ``a1 b5 t9``; the place of each is its number."""
-    signals = {"a": 0, "b": 1, "c": 2, "d": 3, "t": None, "s": signal(48, 0), "r": signal(49, 0)}
-    table = Table.from_text("event a = 0\nevent b = 1\nevent c = 2\nevent d = 3\nevent s = 48\nevent r = 49\n" + row)
+    signals = {"a": 0, "b": 1, "c": 2, "d": 3, "t": None, "s": signal(48, 0), "r": signal(49, 0), "q": signal(50, 0)}
+    table = Table.from_text("event a = 0\nevent b = 1\nevent c = 2\nevent d = 3\nevent s = 48\nevent r = 49\nevent q = 50\n" + row)
     return measure(table, [(signals[step[0]], int(step[1:]), number) for number, step in enumerate(steps.split(), 1)], closed)[0]
 
 
@@ -226,6 +226,11 @@ EXAMPLES = [
     ("ExecutionTime a -> b, preempt c, resume d, 2 .. 5", "a0 c2 d10 b13 a20 b21 b30", (3, 1, 1, 1, 5, -1, 1, 6)),
     ("Reaction s -> r, 4 .. 6", "s10 s11 r16 s20", (3, 0, 1, 5, 6, 0, 6, 3)),
     ("Repetition a span 2, 10 .. 10, jitter 5", "a5 a16 a17 a31", (2, 1, 0, 12, 15, -2, 15, 4)),
+    ("Age s -> r, 2 .. 6", "s10 s12 r15 r17 r20 s30 r33", (5, 1, 1, 3, 8, -2, 8, 5)),
+    ("OutputSynchronization s -> r q, tolerance 3", "s4 s5 r9 q14 r20 s30", (3, 2, 1, 5, 5, -2, 5, 4)),
+    ("InputSynchronization s r -> q, tolerance 3", "s4 r5 s9 q12 q15 s20", (3, 2, 1, 4, 4, -1, 4, 3)),
+    ("Pattern a, period 100, jitter 5, minimum 1, offsets 0 20 50", "a10 a32 a61 a110 a160 a212 a231", (6, 1, 0, 19, 52, -25, 50, 5)),
+    ("Arbitrary a, 5 .. 20, 15 .. none", "a10 a17 a26 a33 a38 a60 t99", (6, 2, 1, 5, 22, -3, 12, 5)),
 ]
 
 

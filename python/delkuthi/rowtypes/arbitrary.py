@@ -17,11 +17,11 @@ Pairs = Sequence["tuple[int, int]"]
 
 
 def _due(pairs: Pairs, times: Sequence[int]) -> tuple[int, int, int] | None:
-    """By when an event has to come after these: that time, the number of the event from which it counts, and over how many places."""
+    """By when an event has to come after these: that time, over how many places it counts, and the number of the event that it counts from."""
     if not len(times):
         return None
     counted = [(max(len(times) - places, 0), places, maximum) for places, (_, maximum) in enumerate(pairs, 1) if maximum != NO_LIMIT]
-    return min(((times[first] + maximum, first, places) for first, places, maximum in counted), default=None)
+    return min(((times[first] + maximum, places, first) for first, places, maximum in counted), default=None)
 
 
 def reason(case: Case) -> Reason | None:
@@ -36,7 +36,7 @@ def reason(case: Case) -> Reason | None:
                 return gap(case, one, before, None, maximum)
     due = _due(pairs, times)
     if due is not None and case.clock > due[0]:
-        time, first, places = due
+        time, places, first = due
         return silent(case, Blamed(kind, first), time, f", at most {case.long(pairs[places - 1][1])} is asked", places)
     return None
 
@@ -101,7 +101,7 @@ class Distances(RowMeasuring):
     def end(self, clock: int, closed: bool) -> None:
         due = _due(self.pairs, [time for time, _ in self.last])
         if due is not None and clock > due[0]:
-            time, first, places = due
+            time, places, first = due
             missing = "no event came after it" if places == 1 else f"fewer than {places} events came after it"
             self.measure.miss(self.last[first], missing, time, clock)
 

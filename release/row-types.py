@@ -64,7 +64,8 @@ def asked():
     """What each row asks, in the manual: with the example of which there is a picture."""
     def said(row_type):
         words = f"**{row_type.name}** `{row_type.example[1]}`: {row_type.manual}"
-        return f"{wrapped(words, 145)}\n\n![{row_type.name}](pictures/{row_type.name}.svg)\n\n"
+        picture = f"![{row_type.name}](pictures/{row_type.name}.svg)\n\n" if row_type.example[2] else ""
+        return f"{wrapped(words, 145)}\n\n{picture}"
 
     return "".join(map(said, TYPES))
 
@@ -81,13 +82,13 @@ def example_rows():
     for row_type in TYPES:
         name, fields, times = row_type.example
         for event in times:
-            role = "coloured" if row_type.has("coloured") else "kind"
+            role = "coloured" if row_type.has("coloured", "coloured_kinds") else "kind"
             events.append(f"event {event:8} = {taken[role]}\n")
             taken[role] += 1
         quoted = f'"{name}"'
         found.append(f"{quoted:17} {row_type.name} {fields}\n")
     assert len({line.split()[1] for line in events}) == len(events), "two types' examples have an event of the same name"
-    first = "# A row of each type. In rows.csv each is met at first and then broken; the manual has the pictures.\nunit ms\n"
+    first = "# A row of each type. In rows.csv each that has events is met at first and then broken; the manual has the pictures.\nunit ms\n"
     return first + "".join(events) + "".join(found)
 
 

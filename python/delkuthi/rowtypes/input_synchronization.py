@@ -125,9 +125,9 @@ TYPE = RowType(
         Earlier stimuli do not count, and how long before the response they come is not asked: add an Age for each kind
         where it matters. A stimulus after a response of its colour breaks the row, so give each chain its own colour,
         0 to 7.""",
-    measures="width: from the first of the latest stimuli of a colour to the last", each="each response",
+    measures="width: from the earliest of the latest stimuli of its colour to the last of them", each="each response",
     reason=reason, forget=forget, windows=windows, measuring=InputWidths, instance=("response", 0), edition=2, words=40, pending=pending,
     beginning=Beginning(_began, online=True),
-    example=("fusion of chains", "near far -> fused, tolerance 4 ms",
+    example=("inputs", "near far -> fused, tolerance 4 ms",
              {"near": "10/1 40/2", "far": "12/1 47/2", "fused": "20/1 55/2"}),
 )

@@ -184,7 +184,7 @@ TYPE = RowType(
     manual="""a stimulus is answered by a response of every kind, all of its colour, and the first of these are at most
         tolerance apart. How long after the stimulus they come is not asked: add a Reaction for each kind where it matters.
         A stimulus after a response of its colour breaks the row, so give each chain its own colour, 0 to 7.""",
-    measures="width: from the first of the first responses of a colour to the last", each="each stimulus",
+    measures="width: from the earliest of the first responses of its colour to the last of them", each="each stimulus",
     reason=reason, forget=forget, windows=windows, measuring=OutputWidths, instance=("stimulus", 0), edition=2, words=40, pending=pending,
     beginning=Beginning(_began),
     example=("indicators", "lever -> left right roof, tolerance 5 ms",

@@ -82,7 +82,7 @@ class Distances(RowMeasuring):
                 margin = margin_of(time - before[0], minimum, None if maximum == NO_LIMIT else maximum)
                 if margin is not None:
                     found.append((margin, places, before, time - before[0] < minimum))
-            self._add(time, place, min(found, key=lambda one: one[:2], default=None))
+            self._add(time, place, min(found) if found else None)
         self.last.append((time, place))
 
     def _add(self, time: int, place: int, worst: tuple[int, int, Moment, bool] | None) -> None:

@@ -102,17 +102,16 @@ class RowType:
     #: How many words such a row has from the start: its offsets or pairs, and zeros.
     words: int = field(default=0, compare=False)
     parts: tuple[str | Field, ...] = field(init=False, compare=False)
+    #: The fields in the order of the bytes.
+    fields: tuple[Field, ...] = field(init=False, compare=False)
 
     def __post_init__(self) -> None:
         parts: list[str | Field] = []
         for match in re.finditer(r"\{(\w+):(\w+)\}|(->|\.\.|,|\w+)", self.form):
             parts.append(match[3] if match[3] else Field(match[1], match[2]))
         object.__setattr__(self, "parts", tuple(parts))
-
-    @property
-    def fields(self) -> tuple[Field, ...]:
-        """The fields in the order of the bytes."""
-        return tuple(sorted((part for part in self.parts if isinstance(part, Field)), key=lambda part: part.role != "operator"))
+        fields = [part for part in parts if isinstance(part, Field)]
+        object.__setattr__(self, "fields", tuple(sorted(fields, key=lambda part: part.role != "operator")))
 
     def has(self, *roles: str) -> bool:
         """Has it a field of one of these roles?"""

@@ -110,8 +110,9 @@ class RowType:
         for match in re.finditer(r"\{(\w+):(\w+)\}|(->|\.\.|,|\w+)", self.form):
             parts.append(match[3] if match[3] else Field(match[1], match[2]))
         object.__setattr__(self, "parts", tuple(parts))
-        fields = [part for part in parts if isinstance(part, Field)]
-        object.__setattr__(self, "fields", tuple(sorted(fields, key=lambda part: part.role != "operator")))
+        named = [part for part in parts if isinstance(part, Field)]
+        first = [part for part in named if part.role == "operator"]
+        object.__setattr__(self, "fields", (*first, *(part for part in named if part not in first)))
 
     def has(self, *roles: str) -> bool:
         """Has it a field of one of these roles?"""

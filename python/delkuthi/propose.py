@@ -194,7 +194,7 @@ class Proposing:
         for event in enough:
             jitter = jitters.get(event.name)
             clear = [one for one in groups[event.name] if one.is_clear(self.statistics.clock)]
-            if clear and jitter is not None and jitter.least > max(CLEARER * clear[0].jitter, event.period / 4):
+            if clear and jitter is not None and jitter.least > CLEARER * clear[0].jitter and jitter.least > event.period / 4:
                 yield self._pattern(event, clear[0])
             else:
                 yield self._period(event, jitter)

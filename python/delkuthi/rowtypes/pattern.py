@@ -2,7 +2,7 @@
 from __future__ import annotations
 
 from collections import Counter
-from typing import TYPE_CHECKING, Iterator, NamedTuple, Sequence
+from typing import TYPE_CHECKING, Callable, Iterator, Mapping, NamedTuple, Sequence
 
 from ..beginnings import Beginning
 from ..fields import RowType
@@ -164,6 +164,13 @@ class Places(HiddenPoints):
         if self.place is None and time < self.asked.offsets[0]:
             self.measure.miss((time, place), "came before its offset from a start at 0")
         super().take(time, place)
+
+    def take_all(self, times: Mapping[int, list[int]], place: Callable[[int, int], int]) -> bool:
+        before = self.place
+        if not super().take_all(times, place):
+            self.place = before
+            return False
+        return True
 
     def step(self, time: int) -> None:
         self.place = self.asked.begin(time) if self.place is None else self.asked.taken(self.asked.next(self.place), time)

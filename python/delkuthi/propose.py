@@ -1,8 +1,9 @@
 """``delkuthi propose``: a table to begin with, from what one log shows.
 
-For each event its period: a Sporadic where it keeps a period, a Pattern where it repeats groups of two to eight, else a Repeat where its distances are
-alike, else a Burst. For each event the nearest one before it that it follows in turn, with a Delay. For each task, interrupt routine and runnable of a scheduler trace its ExecutionTime. Values are
-the least that the log allows, with a slack. What the library does not find kept in the log is left out.
+For each event its period: a Sporadic where it keeps a period, a Pattern where it repeats groups of two to eight, else a Repeat where its distances
+are alike, else a Burst. For each event the nearest one before it that it follows in turn, with a Delay. For each task, interrupt routine and runnable
+of a scheduler trace its ExecutionTime. Values are the least that the log allows, with a slack. What the library does not find kept in the log is left
+out.
 """
 from __future__ import annotations
 

@@ -142,14 +142,14 @@ class Row:
             if part.role == "operator":
                 word, holds = OPERATORS[self.number(part.name) - 1]
                 left, right = (self.number(name) for name in ("left", "right"))
-                return None if holds(left, right) else ("left", f"{exact(left, unit)} {word} {exact(right, unit)} is false")
+                return None if holds(left, right) else ("left", f"found {exact(left, unit)} {word} {exact(right, unit)}")
             for lower_time, upper_time in self.pairs(part.name) if part.role == "pairs" else ():
                 if lower_time > upper_time:
                     return part.name, f"found {exact(lower_time, unit)} above {exact(upper_time, unit)}"
             offsets = self.several(part.name) if part.role == "offsets" else ()
             for before, after in zip(offsets, offsets[1:]):
                 if after <= before:
-                    return part.name, f"found {exact(after, unit)} after {exact(before, unit)}, and each is above the one before it"
+                    return part.name, f"found {exact(after, unit)} after {exact(before, unit)}"
         return None
 
 

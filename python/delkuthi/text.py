@@ -498,11 +498,16 @@ def _refusals(parser: _Parser, rows: list[Row]) -> Iterator[TextRefused]:
         place += len(data) - 1
 
 
+#: What a refusal with 7 says of rows that have no lower and upper.
+_DISORDERS = {"offsets": "each offset has to be above the one before it", "operator": "the comparison is false"}
+
+
 def _refused_at(parser: _Parser, row: Row, refusal: Refused) -> TextRefused:
     """The refusal with the line and the field that it is about, what was found there and what may stand there."""
     field, found = row.doubtful(refusal.number, parser.unit) or (None, None)
     about = f"{row.type.name}, {field}" if field else row.type.name
-    message = f"{about}: {refusal.text} (refused with {refusal.number}){f': {found}' if found else ''}"
+    disorders = [text for role, text in _DISORDERS.items() if refusal.number == 7 and row.type.has(role)]
+    message = f"{about}: {disorders[0] if disorders else refusal.text} (refused with {refusal.number}){f': {found}' if found else ''}"
     return TextRefused(parser.file, row.line, row.columns.get(field or "", 1), message, refusal, parser.sources[row.line - 1])
 
 

@@ -78,7 +78,7 @@ ROWS = [
     ("CONCRETE-PATTERN-EVENT-TRIGGERING", [event(), several("OFFSETS", 5 * MS, MS), time("PATTERN-PERIOD", 9 * MS)],
      ['"x" Pattern a, period 9 ms, jitter 0, minimum 0, offsets 1 ms 5 ms'], None),
     ("CONCRETE-PATTERN-EVENT-TRIGGERING", [event(), several("OFFSETS", MS, MS), time("PATTERN-PERIOD", 9 * MS)],
-     [], "(refused with 7): found 1 ms after 1 ms, and each is above the one before it"),
+     [], "Pattern, offsets: each offset has to be above the one before it (refused with 7): found 1 ms after 1 ms"),
     ("CONCRETE-PATTERN-EVENT-TRIGGERING", [event(), several("OFFSETS", *range(9)), time("PATTERN-PERIOD", 9 * MS)],
      [], "expected at most 8 offsets, found one more"),
     ("CONCRETE-PATTERN-EVENT-TRIGGERING", [event(), several("OFFSETS", 0, MS), time("PATTERN-PERIOD", 9 * MS), time("PATTERN-JITTER", MS)],

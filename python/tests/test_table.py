@@ -229,7 +229,7 @@ def _bytes(line):
 
 pieces = st.sampled_from(['"', "#", "\n", " ", ",", "..", "->", "=", "0", "7", "64", "1.5", "ms", "us", "none", "from", "can",
                           "csv", "key", "data", "bus", "on", "change", "0x1", "\\", "unit", "event", "a", "b", "span", "maximum",
-                          "length", "minimum", "jitter", "tolerance", *BY_NAME])
+                          "length", "minimum", "jitter", "tolerance", "period", "offsets", "<=", "<", ">=", ">", "48", "49", *BY_NAME])
 
 
 @given(st.lists(pieces, max_size=25).map(" ".join) | st.text(max_size=30))

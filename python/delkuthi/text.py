@@ -38,7 +38,7 @@ GRAMMAR = (__doc__ or "").split(".. code-block:: text\n\n")[1]
 #: What people write for a row type, and what it is here.
 _PERIODIC = "a periodic signal is a Sporadic with lower = upper, as in Sporadic EVENT, 10 ms .. 10 ms, jitter 1 ms, minimum 0 ms"
 _TYPE_WORDS = {
-    "periodic": _PERIODIC, "period": _PERIODIC, "synchronization": "events in step are a StrongSynchronization",
+    "periodic": _PERIODIC, "period": _PERIODIC,
     "deadline": "a deadline is a Delay from 0 to it",
 }
 

@@ -2,7 +2,7 @@
 
 use delkuthi::Row;
 use model::Constraint;
-use model::types::{self, Field};
+use model::types;
 
 /// The row as the Rust crate has it.
 pub fn row_of(row: &Constraint) -> Row<'_> {
@@ -56,8 +56,9 @@ pub fn refused_row(rows: &[Constraint]) -> Option<usize> {
 
 /// The row as `host/c/make_table.c` reads it: its type, five bytes and four times.
 pub fn numbers_of(row: &Constraint) -> String {
-    let bytes: Vec<u8> = row.fields().iter().filter(|field| field.time().is_none()).flat_map(Field::bytes).collect();
     let times = row.times();
+    let body = row.body();
+    let bytes = &body[1..body.len() - 8 * times.len()];
     let byte = |i| bytes.get(i).copied().unwrap_or(0).to_string();
     let time = |i| times.get(i).copied().unwrap_or(0).to_string();
     let numbers: Vec<String> = (0..5).map(byte).chain((0..4).map(time)).collect();

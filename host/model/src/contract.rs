@@ -115,6 +115,11 @@ impl Words<'_> {
 }
 
 impl Given for Words<'_> {
+    /// The list itself says how long it is.
+    fn number(&mut self) -> Option<()> {
+        Some(())
+    }
+
     fn byte(&mut self, name: &str) -> Option<u8> {
         self.time(name).and_then(|value| u8::try_from(value).ok())
     }
@@ -125,6 +130,16 @@ impl Given for Words<'_> {
 
     fn kinds(&mut self, name: &str) -> Option<Vec<u8>> {
         self.0.get(name)?.iter().map(|kind| u8::try_from(*kind).ok()).collect()
+    }
+
+    fn times(&mut self, name: &str) -> Option<Vec<u64>> {
+        self.0.get(name).cloned()
+    }
+
+    /// The lower and the upper of the first pair, of the second, and so on.
+    fn pairs(&mut self, name: &str) -> Option<Vec<(u64, u64)>> {
+        let pair = |pair: &[u64]| Some((pair[0], *pair.get(1)?));
+        self.0.get(name)?.chunks(2).map(pair).collect()
     }
 }
 

@@ -24,7 +24,7 @@ pub fn rows_questions(edition: u8, rows: &[Constraint]) -> Answer {
     for (before, row) in rows.iter().enumerate() {
         ask(3, before < ROW_LIMIT)?;
         // the type of a row is known, and it has no length
-        ask(4, row.edition() <= edition && row.fields().iter().all(Field::number_of_kinds_fits))?;
+        ask(4, row.edition() <= edition && row.fields().iter().all(Field::number_fits))?;
         fields_questions(row)?;
     }
     Ok(())
@@ -35,7 +35,7 @@ pub fn fields_questions(row: &Constraint) -> Answer {
     ask(5, kinds_fit(&row.kinds()))?;
     ask(18, row.fields().iter().all(Field::sort_fits))?;
     ask(6, row.fields().iter().all(Field::in_range))?;
-    ask(7, row.as_type().bounds().is_none_or(|(lower, upper)| lower <= upper))
+    ask(7, row.as_type().in_order())
 }
 
 /// Question 5 (§8.5).

@@ -9,8 +9,7 @@ use crate::types::{Constraint, Field, Given};
 
 /// A row's bytes (§4.3), whatever stands in the fields.
 fn row_bytes(row: &Constraint) -> Vec<u8> {
-    let fields = row.fields();
-    with_length(&std::iter::once(row.type_byte()).chain(fields.iter().flat_map(Field::bytes)).collect::<Vec<u8>>())
+    with_length(&row.body())
 }
 
 /// A length field of two bytes, the most significant first (§4.1), and these bytes behind it.
@@ -99,25 +98,44 @@ pub(crate) fn body_at_start(bytes: &[u8]) -> Option<&[u8]> {
 
 /// Question 4 (§8.4) but for the edition: the row that a body stands for, if it is one of a type's, neither shorter nor longer.
 fn row_of(body: &[u8]) -> Option<Constraint> {
-    let (number, mut left) = body.split_first()?;
-    let row = Constraint::read(*number, &mut left)?;
-    (left.is_empty() && row.fields().iter().all(Field::number_of_kinds_fits)).then_some(row)
+    let (number, left) = body.split_first()?;
+    let mut given = Body { n: 0, left };
+    let row = Constraint::read(*number, &mut given)?;
+    (given.left.is_empty() && row.fields().iter().all(Field::number_fits)).then_some(row)
 }
 
-/// The bytes of a row's fields, one after the other (§4.4).
-impl Given for &[u8] {
+/// The bytes of a row's fields, one after the other (§4.4), and the n that stands before them.
+struct Body<'a> {
+    n: u8,
+    left: &'a [u8],
+}
+
+impl Given for Body<'_> {
+    fn number(&mut self) -> Option<()> {
+        self.n = self.byte("n")?;
+        Some(())
+    }
+
     fn byte(&mut self, _name: &str) -> Option<u8> {
-        self.split_off_first().copied()
+        self.left.split_off_first().copied()
     }
 
     fn time(&mut self, _name: &str) -> Option<u64> {
-        let (bytes, left) = self.split_first_chunk::<8>()?;
-        *self = left;
+        let (bytes, left) = self.left.split_first_chunk::<8>()?;
+        self.left = left;
         Some(u64::from_be_bytes(*bytes))
     }
 
     fn kinds(&mut self, name: &str) -> Option<Vec<u8>> {
-        (0..self.byte("n")?).map(|_| self.byte(name)).collect()
+        (0..self.n).map(|_| self.byte(name)).collect()
+    }
+
+    fn times(&mut self, name: &str) -> Option<Vec<u64>> {
+        (0..self.n).map(|_| self.time(name)).collect()
+    }
+
+    fn pairs(&mut self, name: &str) -> Option<Vec<(u64, u64)>> {
+        (0..self.n).map(|_| Some((self.time(name)?, self.time(name)?))).collect()
     }
 }
 

@@ -58,7 +58,11 @@ impl RowType for OutputSynchronization {
     /// What is asked of one colour does not speak of the others.
     fn demands(&self) -> Vec<Demand<'_>> {
         let of_colour = |colour: u8| Demand {
-            streams: [&[self.stimulus], &self.responses[..]].concat().iter().map(|kind| stream(*kind, colour)).collect(),
+            streams: [&[self.stimulus], &self.responses[..]]
+                .concat()
+                .iter()
+                .map(|kind| stream(*kind, colour))
+                .collect(),
             met: Box::new(move |events| self.meets_in(colour, events)),
         };
         (0..=LAST_COLOUR).map(of_colour).collect()

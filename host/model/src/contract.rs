@@ -1,6 +1,6 @@
 //! `docs/CONTRACT.md` as data: its clauses, and its examples to be executed.
 
-use crate::types::Given;
+use crate::types::{Given, LAST_TYPE};
 use crate::{Constraint, NO_LIMIT, Step};
 use std::collections::HashMap;
 use std::fs;
@@ -24,7 +24,18 @@ pub struct Clause {
 
 /// The clauses of the contract, in its order.
 pub fn clauses(text: &str) -> Vec<Clause> {
-    text.lines().filter_map(clause).collect()
+    text.lines().filter_map(clause).filter(|clause| is_ready(&clause.number)).collect()
+}
+
+/// The last type of a row in a clause that is not in section 5 and is about types of the second edition.
+const ABOUT: [(&str, u8); 7] =
+    [("4.15", 12), ("4.16", 14), ("4.17", 16), ("4.18", 17), ("16.9", 17), ("16.10", 17), ("16.11", 17)];
+
+/// Is it about types that the library has, or about none? In section 5 the second number is the type's.
+fn is_ready(clause: &str) -> bool {
+    let in_section_5 = clause.strip_prefix("5.").and_then(|rest| rest.split('.').next()?.parse::<u8>().ok());
+    let about = ABOUT.iter().find(|(one, _)| *one == clause).map(|(_, last)| *last);
+    in_section_5.or(about).is_none_or(|last| last <= LAST_TYPE)
 }
 
 /// The clause that a line begins, if it begins one.
@@ -61,7 +72,8 @@ pub fn every_block(text: &str) -> Vec<Block<'_>> {
             under = Some(clause.number);
         }
     }
-    blocks.retain(|block| !block.sort.is_empty());
+    let is_ready = |clause: &Option<String>| clause.as_ref().is_none_or(|clause| is_ready(clause));
+    blocks.retain(|block| !block.sort.is_empty() && is_ready(&block.clause));
     blocks
 }
 
@@ -203,13 +215,16 @@ pub fn files(text: &str) -> Vec<(Vec<u8>, Vec<u8>, String)> {
     blocks(text, "file").iter().map(|lines| file(lines)).collect()
 }
 
-/// The file in the lines of a block.
+/// The file in the lines of a block. Its bytes may take several lines, all but the first of which are indented.
 ///
 /// # Panics
 /// Where they are none.
 pub fn file(lines: &[&str]) -> (Vec<u8>, Vec<u8>, String) {
-    let report = lines[2..].iter().map(|line| format!("{line}\n")).collect();
-    (bytes(lines[0], "table"), bytes(lines[1], "recording"), report)
+    let long = |from: usize| lines[from + 1..].iter().take_while(|line| line.starts_with(' ')).count() + 1;
+    let (table, rest) = lines.split_at(long(0));
+    let (recording, report) = rest.split_at(long(table.len()));
+    let report = report.iter().map(|line| format!("{line}\n")).collect();
+    (bytes(&table.concat(), "table"), bytes(&recording.concat(), "recording"), report)
 }
 
 /// "table 01 0003": the bytes in hexadecimal after a name.

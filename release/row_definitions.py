@@ -4,7 +4,10 @@ from functools import partial
 from pathlib import Path
 from typing import NamedTuple
 
-from row_list import MADE, ROOT, TYPES, length, one, snake, text_of, wrapped
+from row_list import MADE, ROOT, TYPES as LISTED, length, one, snake, text_of, wrapped
+
+#: The types that these parts have been made for.
+TYPES = [row_type for row_type in LISTED if row_type.number <= 11]
 
 #: The kinds of a type that has an n: how many there may be, and their names.
 NUMBERS, KINDS = (2, 3, 4), ("first", "second", "third", "fourth")

@@ -3,7 +3,8 @@ import re
 from functools import partial
 from typing import NamedTuple
 
-from row_list import MADE, ROOT, TYPES, text_of
+from row_definitions import TYPES
+from row_list import MADE, ROOT, text_of
 
 #: The kinds of a type that has an n.
 KINDS = ("first", "second", "third", "fourth")

@@ -924,7 +924,8 @@ typedef struct delkuthi_long_row {
 
 /* A pair of an Arbitrary. */
 typedef struct delkuthi_pair {
-    uint64_t minimum, maximum;
+    uint64_t minimum;
+    uint64_t maximum;
 } delkuthi_pair;
 
 /* A row with its type and two bytes. Hosts use the functions below. */
@@ -997,14 +998,17 @@ static inline delkuthi_long_row delkuthi_as_long(delkuthi_row given)
     /* begin lengths: made by a program */
     static const uint8_t lengths[] = {0, 19, 19, 19, 34, 19, 3, 10, 21, 19, 27,
         10, 19, 11, 11, 0, 0, 18};
-    const int several = type == 7 || type == 11 || type == 13 || type == 14;
+    static const uint8_t entries[] = {0, 0, 0, 0, 0, 0, 0, 1, 0, 0, 0, 1, 0, 1,
+        1, 0, 0, 0};
     /* end lengths */
-    delkuthi_long_row row = {0, {0}};
+    delkuthi_long_row row = {1, {0}};
     size_t i;
 
-    row.length = type < sizeof lengths ? lengths[type] : 1;
-    if (several)
-        row.length += given.body[1] < 4 ? given.body[1] : 4;
+    if (type < sizeof lengths)
+        row.length = lengths[type];
+    for (i = 0; i < given.body[1] && i < 4; i++)
+        if (type < sizeof entries)
+            row.length += entries[type];
     for (i = 0; i < row.length; i++)
         row.body[i] = given.body[i];
     return row;
@@ -1472,9 +1476,9 @@ static inline uint64_t delkuthi_make_any_table(const delkuthi_row *rows,
                                                size_t count, uint8_t *table,
                                                size_t table_length)
 {
-    return delkuthi_edition(rows, count) == 1
-               ? delkuthi_make_table(rows, count, table, table_length)
-               : delkuthi_make_table_2(rows, count, table, table_length);
+    if (delkuthi_edition(rows, count) == 1)
+        return delkuthi_make_table(rows, count, table, table_length);
+    return delkuthi_make_table_2(rows, count, table, table_length);
 }
 
 /*

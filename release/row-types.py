@@ -248,11 +248,12 @@ def c_makers(long):
 
 
 def c_lengths():
-    """The lengths of the rows that are given by value, without the n kinds, and the types that have an n."""
-    numbers = ", ".join(["0", *(str(known(t)) if not is_long(t) else "0" for t in TYPES)])
-    several = " || ".join(f"type == {t.number}" for t in TYPES if t.several and not is_long(t))
-    return (wrapped(f"static const uint8_t lengths[] = {{{numbers}}};", 79, "    ", "        ") + "\n"
-            + wrapped(f"const int several = {several};".replace(" == ", "\0==\0"), 79, "    ", "                        ") + "\n")
+    """The lengths of the rows that are given by value without their n kinds, and which of them have an n."""
+    def array(name, value):
+        numbers = ", ".join(["0", *(str(value(row_type)) if not is_long(row_type) else "0" for row_type in TYPES)])
+        return wrapped(f"static const uint8_t {name}[] = {{{numbers}}};", 79, "    ", "        ") + "\n"
+
+    return array("lengths", known) + array("entries", lambda row_type: int(row_type.several is not None))
 
 
 def c_cases():

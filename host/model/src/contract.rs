@@ -24,7 +24,12 @@ pub struct Clause {
 
 /// The clauses of the contract, in its order.
 pub fn clauses(text: &str) -> Vec<Clause> {
-    text.lines().filter_map(clause).filter(|clause| is_ready(&clause.number)).collect()
+    every_clause(text).into_iter().filter(|clause| is_ready(&clause.number)).collect()
+}
+
+/// The same with those that are about types that the library does not have.
+pub fn every_clause(text: &str) -> Vec<Clause> {
+    text.lines().filter_map(clause).collect()
 }
 
 /// The last type of a row in a clause that is not in section 5 and is about types of the second edition.

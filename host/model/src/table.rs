@@ -3,8 +3,8 @@
 //! The newest edition that a call takes is 1 for the calls of the first edition and 2 for their second forms. The functions that do
 //! not say it are the second forms, on tables of the edition that their rows need.
 
-use crate::limits::{NEWEST_EDITION, ROW_LIMIT};
-use crate::questions::{Refusal, ask, fields_questions, rows_questions};
+use crate::limits::{NEWEST_EDITION, ROW_LIMIT, SHORT_ROW};
+use crate::questions::{Refusal, ask, fields_questions, rows_questions, rows_questions_within};
 use crate::types::{Constraint, Field, Given};
 
 /// A row's bytes (§4.3), whatever stands in the fields.
@@ -36,7 +36,16 @@ pub fn edition_of(rows: &[Constraint]) -> u8 {
 /// Writes the table in an edition and answers the number of bytes written, or the number of the refusal: questions 3 to 7 and 18,
 /// then 16 (§9.7, §9.8, §16.4).
 pub fn write_table_in(edition: u8, rows: &[Constraint], buffer: &mut [u8]) -> Result<usize, u8> {
-    rows_questions(edition, rows)?;
+    write_within(usize::MAX, edition, rows, buffer)
+}
+
+/// The same of rows that are given by value, in 34 bytes each (§11.5).
+pub fn write_short_in(edition: u8, rows: &[Constraint], buffer: &mut [u8]) -> Result<usize, u8> {
+    write_within(SHORT_ROW, edition, rows, buffer)
+}
+
+fn write_within(room: usize, edition: u8, rows: &[Constraint], buffer: &mut [u8]) -> Result<usize, u8> {
+    rows_questions_within(room, edition, rows)?;
     let bytes = table_bytes_in(edition, rows);
     ask(16, bytes.len() <= buffer.len())?;
     buffer[..bytes.len()].copy_from_slice(&bytes);
@@ -51,6 +60,18 @@ pub fn write_table(rows: &[Constraint], buffer: &mut [u8]) -> Result<usize, u8> 
 /// The number of the first row that is refused, as the writer of an edition puts its questions row by row (§11.5).
 pub fn refused_row_in(edition: u8, rows: &[Constraint]) -> Option<usize> {
     (0..rows.len()).find(|row| rows_questions(edition, &rows[..=*row]).is_err())
+}
+
+/// The same of rows that are given in 34 bytes each.
+pub fn refused_short_in(edition: u8, rows: &[Constraint]) -> Option<usize> {
+    (0..rows.len()).find(|row| rows_questions_within(SHORT_ROW, edition, &rows[..=*row]).is_err())
+}
+
+/// The 34 bytes of a row, of which those past its end do not count (§11.5).
+pub fn short_body(row: &Constraint) -> Vec<u8> {
+    let mut body = row.body();
+    body.resize(SHORT_ROW, 0);
+    body
 }
 
 /// The same in the edition that the rows need.

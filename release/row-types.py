@@ -1,22 +1,22 @@
 #!/usr/bin/env python3
 """What follows from the list of row types is made from it: tables and limits in the documents, makers in C and Rust, other lists of the types.
 
-    row-types.py            says which parts differ from the list, and what a type still lacks; status 1 where there is such
-    row-types.py --write    writes the parts
+    row-types.py                    says which parts differ from the list, and what a type still lacks; status 1 where there is such
+    row-types.py --write            writes the parts
+    row-types.py --new NAME FORM    writes the skeleton of a new type, and says which files are to be filled
 
 The list is python/delkuthi/rowtypes, a file for each type. Each part of a file stands between two comments, `begin NAME: made by
-release/row-types.py` and `end NAME`. The files of examples/rows and some proofs are made whole. What a type lacks is written by hand: its section of
-the contract, its file in the model, its example.
+release/row-types.py` and `end NAME`. The files of examples/rows are made whole. Documents, header, Rust crate, model and tests have such parts, the
+crates have none. What a type lacks is written by hand: its section of the contract, its file in the model, its example.
 """
 import re
 import sys
 from os.path import commonprefix
 
 sys.dont_write_bytecode = True
-import row_definitions
-import row_machines
-from row_list import (INSTALLED, KINDS, MADE, ROOT, TYPES, having, is_long, known, length, listed, name_of, names, one, ranges, runs,
+from row_list import (INSTALLED, KINDS, MADE, ROOT, TYPES, having, is_long, known, length, listed, names, one, ranges, runs,
                       singles, snake, text_of, wrapped)
+from row_new import lacking, write_new
 from delkuthi.fields import MOST, NUMBERS, SIZES
 from delkuthi.library import NEWEST_EDITION
 from delkuthi.text import grammar
@@ -265,7 +265,7 @@ def c_cases():
                 if part.role in KINDS:
                     given += [f"b + {bytes_read}", "b[0]"]
                 elif part.role in NUMBERS:
-                    given += [f"pairs(t)" if part.role == "pairs" else f"t + {times_read}" if times_read else "t", "b[0]"]
+                    given += ["pairs(t)" if part.role == "pairs" else f"t + {times_read}" if times_read else "t", "b[0]"]
                 elif size == 1:
                     after = any(other.role in KINDS for other in row_type.fields[:row_type.fields.index(part)])
                     given.append(f"b[{bytes_read} + b[0]]" if after else f"b[{bytes_read}]")
@@ -376,21 +376,6 @@ PARTS = (
     ("host/model/src/types.rs", "modules", model_modules),
     ("host/model/src/types.rs", "list", model_list),
 )
-PARTS += row_definitions.PARTS + row_machines.PARTS
-
-
-# The roles that have another name in the model.
-ROLES = {"count": "Count(SPAN_LIMIT)", "few": "Count(REPETITION_SPAN_LIMIT)", "coloured_kinds": "Coloureds"}
-
-
-def lacking(row_type):
-    """What is written by hand for a type and is not there."""
-    fields = ", ".join(f"{part.name}: {ROLES.get(part.role, part.role.capitalize())}" for part in row_type.fields)
-    bounds = f"    {' <= '.join(row_type.bounds)}\n" if row_type.bounds else ""
-    wanted = (("docs/CONTRACT.md", f"\n### 5.{row_type.number} {row_type.name}: {', '.join(map(name_of, row_type.fields))}\n"),
-              (f"host/model/src/types/{snake(row_type)}.rs", f"\n    {row_type.name} {{ {fields} }}\n{bounds}}}\n"),
-              (f"python/delkuthi/rowtypes/{snake(row_type)}.py", "    example=("))
-    return [f"{path}: lacks {' '.join(text.split())}" for path, text in wanted if text not in text_of(path)]
 
 
 def found(text, name):
@@ -422,6 +407,9 @@ def updated(path, name, made, write):
 
 
 def main():
+    if sys.argv[1:2] == ["--new"] and len(sys.argv) == 4:
+        print(write_new(*sys.argv[2:]))
+        return 0
     if sys.argv[1:] not in ([], ["--write"]):
         print(__doc__, file=sys.stderr)
         return 2

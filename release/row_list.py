@@ -10,7 +10,7 @@ sys.path.insert(0, str(ROOT / "python"))
 from delkuthi.fields import EACH, NUMBERS, SIZES
 from delkuthi.rowtypes import TYPES
 
-#: What a begin marker says after the name of its part. A proof that is made whole says it in its first line.
+#: What a begin marker says after the name of its part.
 MADE = "made by release/row-types.py"
 #: The same in a file that is installed, where that program is not.
 INSTALLED = "made by a program"

@@ -245,9 +245,10 @@
  * not have its type. The monitor is the same whichever form made it, and every
  * other call works on both.
  *
- * Edition 2 has a row for each of the 18 constraints of TADL2; CONTRACT.md,
- * clause 16.9, lists them. It is frozen from version 1.0.0 on: a type that
- * comes later starts edition 3.
+ * Edition 2 has a row for each of the 18 constraints of TADL2: a row has the
+ * name of its constraint, and a PeriodicConstraint is a Sporadic with lower =
+ * upper. Edition 1 is frozen, and edition 2 is frozen from version 1.0.0 on: a
+ * type that comes later starts edition 3.
  *
  *
  * WHAT EACH ROW ASKS

@@ -45,8 +45,8 @@ def contract():
     """§4.4 to §4.7."""
     own, others = counted()
     bytes_each = listed(["A kind", "an n", *map(one, own), *others, "an operator"])
-    lines = [f"| {t.number} | {t.name} | {', '.join(names(t, ' ({})')).replace('n pairs', 'n pairs minimum, maximum')} | {length(t)} | {t.edition} |\n"
-             for t in TYPES]
+    fields = {t.name: ", ".join(names(t, " ({})")).replace("n pairs", "n pairs minimum, maximum") for t in TYPES}
+    lines = [f"| {t.number} | {t.name} | {fields[t.name]} | {length(t)} | {t.edition} |\n" for t in TYPES]
     marked, pairs = ranges([t.number for t in having("limit")]), ranges([t.number for t in having("pairs")])
     texts = (f"**4.4** {bytes_each} take one byte each. All other fields are times of eight bytes each.",
              "**4.5** The types, their fields in the order of the bytes, the value of the length field, and the first edition that has the type "
@@ -132,7 +132,8 @@ def header_table():
         is a length field of two bytes, then its type and its fields in as many bytes as the length field says. Kinds, n, operator, {counts} take
         one byte, all other fields eight, the most significant byte first. n is the number of kinds, offsets or pairs. A pair is a minimum and a
         maximum."""
-    kinds = f"The kinds of types {coloured} are coloured, and those of all other types are plain. Minima are times, and so are maxima but that of a Burst."
+    kinds = f"""The kinds of types {coloured} are coloured, and those of all other types are plain. Minima are times, and so are maxima but that of
+        a Burst."""
     limit = f"""{spans()} If the upper of type {marked}, or a maximum of type {pairs}, is 2^64\0-\0001, DELKUTHI_NO_LIMIT, there is no upper limit.
         Offsets increase. The operators 1 to 5 are <=, <, >=, > and =."""
     table = " *   type                      fields                                   length\n" + "".join(map(header_line, TYPES))

@@ -80,7 +80,8 @@ def test_the_skeleton_of_a_new_type(tmp_path):
     contract = (tmp_path / "docs/CONTRACT.md").read_text(encoding="utf-8")
     assert contract.count(f"\n### 5.{n} WeakPattern: event, minimum, n offsets\n") == 1
     subprocess.run([sys.executable, tmp_path / PROGRAM, "--write"], capture_output=True)
-    assert f"| {n} | WeakPattern | n (1 to 8), event, minimum, n offsets | 11 + 8n | 2 |" in (tmp_path / "docs/CONTRACT.md").read_text(encoding="utf-8")
+    contract = (tmp_path / "docs/CONTRACT.md").read_text(encoding="utf-8")
+    assert f"| {n} | WeakPattern | n (1 to 8), event, minimum, n offsets | 11 + 8n | 2 |" in contract
     left = subprocess.run([sys.executable, tmp_path / PROGRAM], capture_output=True, text=True).stdout.splitlines()
     assert left == ["host/model/src/types/weak_pattern.rs: has a TODO", "python/delkuthi/rowtypes/weak_pattern.py: has a TODO"]
     again = subprocess.run(new, capture_output=True, text=True)

@@ -126,7 +126,7 @@
  *   colours          0 to 7               DELKUTHI_LAST_COLOUR
  *   rows of a table  0 to 32              DELKUTHI_ROW_LIMIT
  *   waiting in a row at most 64           DELKUTHI_WAITING_LIMIT
- *   a table          at most 1,153 bytes  DELKUTHI_TABLE_LIMIT
+ *   a table          at most 4,257 bytes  DELKUTHI_TABLE_LIMIT
  *   a report         at most 1,024 bytes  DELKUTHI_REPORT_LIMIT
  *   a page           at most 2,482 bytes  DELKUTHI_PAGE_LIMIT
  *   stack, report    at most 50 KiB       DELKUTHI_REPORT_STACK
@@ -157,8 +157,9 @@
  * A table is one byte, its version, followed by the rows. The first row is row
  * 0. The version is 1 or 2 (EDITIONS below). Each row is a length field of two
  * bytes, then its type and its fields in as many bytes as the length field
- * says. Kinds, n, span and maximum take one byte, all other fields eight, the
- * most significant byte first.
+ * says. Kinds, n, operator, span and maximum take one byte, all other fields
+ * eight, the most significant byte first. n is the number of kinds, offsets or
+ * pairs. A pair is a minimum and a maximum.
  *
  *   type                      fields                                   length
  *   1 Delay                   source, target, lower, upper                 19
@@ -168,35 +169,55 @@
  *   5 Burst                   event, maximum, length, minimum              19
  *   6 Order                   source, target                                3
  *   7 StrongSynchronization   n from 2 to 4, n kinds, tolerance        10 + n
- *   8 ExecutionTime           start, stop, preempt, resume,
- *                             lower, upper                                 21
+ *   8 ExecutionTime           start, stop, preempt, resume, lower,
+ *                             upper                                        21
  *   9 Reaction                stimulus, response, minimum, maximum         19
  *  10 Repetition              event, span, lower, upper, jitter            27
  *  11 Synchronization         n from 2 to 4, n kinds, tolerance        10 + n
+ *  12 Age                     stimulus, response, minimum, maximum         19
+ *  13 OutputSynchronization   n from 2 to 4, stimulus, n responses,
+ *                             tolerance                                11 + n
+ *  14 InputSynchronization    n from 2 to 4, n stimuli, response,
+ *                             tolerance                                11 + n
+ *  15 Pattern                 n from 1 to 8, event, period, jitter,
+ *                             minimum, n offsets                      27 + 8n
+ *  16 Arbitrary               n from 1 to 8, event, n pairs           3 + 16n
+ *  17 Comparison              operator from 1 to 5, left, right            18
  *
- * The kinds of a Reaction are coloured, and those of all other types are
- * plain. The minimum and maximum of a Reaction are times.
+ * The kinds of types 9 and 12 to 14 are coloured, and those of all other types
+ * are plain. Minima are times, and so are maxima but that of a Burst.
  *
  * Spans, and the maximum of a Burst, go from 1 to 64, the span of type 10 from
- * 1 to 8. If the upper of type 1, 3 or 4 is 2^64 - 1, DELKUTHI_NO_LIMIT, there
- * is no upper limit.
+ * 1 to 8. If the upper of type 1, 3 or 4, or a maximum of type 16, is
+ * 2^64 - 1, DELKUTHI_NO_LIMIT, there is no upper limit. Offsets increase. The
+ * operators 1 to 5 are <=, <, >=, > and =.
  *
- * Type 11 requires edition 2.
+ * Types 11 to 17 require edition 2.
  *
  * end table
  * A host need not count these bytes. A function for each type makes a row from
- * its fields, and delkuthi_make_table_2 writes the table. A Delay and an
- * Order:
+ * its fields, and delkuthi_make_table writes the table. A Delay and an Order:
+ *
+ *     #define DELKUTHI_EDITION 2
+ *     #include "delkuthi.h"
  *
  *     uint8_t table[DELKUTHI_TABLE_LIMIT];
  *     const delkuthi_row rows[2] = {
  *         delkuthi_delay(0, 1, 2, 3),
  *         delkuthi_order(4, 5)
  *     };
- *     uint64_t answer = delkuthi_make_table_2(rows, 2, table, sizeof table);
+ *     uint64_t answer = delkuthi_make_table(rows, 2, table, sizeof table);
  *
  *     if (DELKUTHI_NUMBER(answer) == DELKUTHI_TAKEN)
- *         answer = delkuthi_fresh_2(&monitor, table, DELKUTHI_LENGTH(answer));
+ *         answer = delkuthi_fresh(&monitor, table, DELKUTHI_LENGTH(answer));
+ *
+ * Rows with offsets or pairs, types 15 and 16, are put into the table one by
+ * one. A Pattern behind these rows:
+ *
+ *     const uint64_t offsets[2] = {0, 3};
+ *     const delkuthi_long_row row = delkuthi_pattern(6, 10, 1, 0, offsets, 2);
+ *     size_t length = delkuthi_put_row(table, sizeof table,
+ *                                      DELKUTHI_LENGTH(answer), &row);
  *
  *
  * EDITIONS
@@ -213,11 +234,22 @@
  *   delkuthi_shortest_stretch     delkuthi_shortest_stretch_2
  *   delkuthi_make_table           delkuthi_make_table_2, which writes edition 2
  *
- * A new host calls the second forms. For a table of edition 1 both forms
- * answer the same. The first forms behave as they did before there was edition
- * 2: they refuse a table of edition 2 with 1. Both forms refuse a row with 4
- * if the table's edition does not have its type. The monitor is the same
- * whichever form made it, and every other call works on both.
+ * A new host calls the second forms. It need not write _2: with
+ *
+ *     #define DELKUTHI_EDITION 2
+ *
+ * before the include, the names on the left stand for the calls on the right,
+ * and delkuthi_make_table writes the lowest edition that has all types of the
+ * rows. For a table of edition 1 both forms answer the same. The first forms
+ * behave as they did before there was edition 2: they refuse a table of
+ * edition 2 with 1. Both forms refuse a row with 4 if the table's edition does
+ * not have its type. The monitor is the same whichever form made it, and every
+ * other call works on both.
+ *
+ * Edition 2 has a row for each of the 18 constraints of TADL2: a row has the
+ * name of its constraint, and a PeriodicConstraint is a Sporadic with lower =
+ * upper. Edition 1 is frozen, and edition 2 is frozen from version 1.0.0 on: a
+ * type that comes later starts edition 3.
  *
  *
  * WHAT EACH ROW ASKS
@@ -295,6 +327,54 @@
  *                 type 7 it does not count events. An event that lies in no
  *                 full window breaks the row once the clock is past
  *                 it + tolerance, and at the close.
+ *  12 Age         Each response needs a stimulus of its colour. The stimulus
+ *                 is the latest one of that colour in the whole recording, and
+ *                 the response must come minimum to maximum after it. So all
+ *                 responses of a colour share one stimulus, and a stimulus
+ *                 after a response of its colour breaks the row. Stimuli
+ *                 without a response are allowed. With minimum 0 a response
+ *                 may come before its stimulus at the same time; it breaks the
+ *                 row once the clock is past it, and at the close.
+ *  13 OutputSynchronization
+ *                 Each colour with a stimulus needs a response of every one of
+ *                 the kinds. The first responses of the colour are at most
+ *                 tolerance apart, and no stimulus of the colour comes after
+ *                 one of them. Later responses do not count, and how long
+ *                 after the stimulus they come is not asked. A colour that
+ *                 lacks a response breaks the row once the clock is past its
+ *                 first response + tolerance, and at the close. A response
+ *                 without a stimulus is allowed; a later stimulus of its
+ *                 colour breaks the row.
+ *  14 InputSynchronization
+ *                 Each colour with a response needs a stimulus of every one of
+ *                 the kinds. The latest stimuli of the colour in the whole
+ *                 recording are at most tolerance apart, and none of them
+ *                 comes after a response of the colour. Stimuli without a
+ *                 response are allowed, and how long before the response they
+ *                 come is not asked. A stimulus after a response of its colour
+ *                 breaks the row at once. A response whose stimuli are missing
+ *                 or too far apart breaks it once the clock is past the
+ *                 response, and at the close.
+ *  15 Pattern     The events come in groups of as many as there are offsets.
+ *                 From one hidden start on, which is at least 0, the groups
+ *                 have points a period apart. The first event of a group comes
+ *                 0 to jitter after its point + the first offset, the second
+ *                 after its point + the second offset, and so on. The events
+ *                 are at least minimum apart. With period 0 there is only one
+ *                 group. Silence counts from the first event on: the row
+ *                 breaks once the clock is past the last moment for the next
+ *                 event. A group may be begun at the close.
+ *  16 Arbitrary   There are 1 to 8 pairs of a minimum and a maximum. In any
+ *                 i + 1 consecutive events, the last comes the i-th minimum to
+ *                 the i-th maximum after the first. So the row is a Repeat of
+ *                 span 1, a Repeat of span 2, and so on. Silence counts as in
+ *                 a Repeat, for each pair with an upper limit. The close does
+ *                 not break the row.
+ *  17 Comparison  The operator is 1 for left <= right, 2 for left < right, 3
+ *                 for left >= right, 4 for left > right and 5 for left =
+ *                 right. A table with a comparison that is false is refused
+ *                 with 7. A row that is accepted is kept, whatever the events
+ *                 are.
  * end rows
  *
  *
@@ -305,6 +385,7 @@
  * source. It prints each row when the row breaks. You write next_step for your
  * bench; bench_loop.c, among the examples, has one that reads a recording.
 
+#define DELKUTHI_EDITION 2
 #include "delkuthi.h"
 #include <inttypes.h>
 #include <stdio.h>
@@ -352,7 +433,7 @@ static int bench(const uint8_t *table, size_t table_length)
         printf("the library does not match this header\n");
         return 3;
     }
-    answer = delkuthi_fresh_2(&monitor, table, table_length);
+    answer = delkuthi_fresh(&monitor, table, table_length);
     if (answer != DELKUTHI_TAKEN) {
         printf("table refused with %d at byte %" PRIu64 "\n",
                DELKUTHI_NUMBER(answer), DELKUTHI_PLACE(answer));
@@ -421,7 +502,8 @@ extern "C" {
 #define DELKUTHI_LAST_COLOUR   7
 #define DELKUTHI_ROW_LIMIT     32
 #define DELKUTHI_WAITING_LIMIT 64
-#define DELKUTHI_TABLE_LIMIT   1153
+#define DELKUTHI_TABLE_LIMIT   4257
+#define DELKUTHI_LONGEST_ROW   131
 #define DELKUTHI_REPORT_LIMIT  1024
 #define DELKUTHI_PAGE_LIMIT    2482
 #define DELKUTHI_REPORT_STACK  51200
@@ -436,7 +518,10 @@ extern "C" {
 #define DELKUTHI_STEP_STACK    1024
 
 /* begin no limit: made by a program */
-/* The upper of a Delay, Repeat or Sporadic that has no upper limit. */
+/*
+ * The upper of a Delay, Repeat or Sporadic, or a maximum of an Arbitrary, that
+ * has no upper limit.
+ */
 #define DELKUTHI_NO_LIMIT UINT64_C(18446744073709551615)
 /* end no limit */
 
@@ -504,13 +589,15 @@ enum delkuthi_refusal {
     DELKUTHI_ROW_CUT = 2,       /* a length field or a row is cut off */
     DELKUTHI_ROW_TOO_MANY = 3,  /* more than 32 rows: use two monitors */
     DELKUTHI_ROW_SHAPE = 4,     /* the table's edition has no such type, no such
-                                   n, or the length is wrong */
+                                   n or operator, or the length is wrong */
     DELKUTHI_ROW_KINDS = 5,     /* a kind above 63, or the same kind twice */
     DELKUTHI_ROW_RANGE = 6,     /* a time, span or maximum out of range */
-    DELKUTHI_ROW_BOUNDS = 7,    /* lower is more than upper, or minimum more
-                                   than maximum in a Reaction */
-    DELKUTHI_ROW_SORT = 18,     /* a plain kind in a Reaction, or a coloured
-                                   kind in another row; asked after 5 */
+    DELKUTHI_ROW_BOUNDS = 7,    /* lower is more than upper, minimum more than
+                                   maximum, offsets do not increase, or a
+                                   comparison is false */
+    DELKUTHI_ROW_SORT = 18,     /* a plain kind in a row of type 9 or 12 to 14,
+                                   or a coloured kind in another row; asked
+                                   after 5 */
 
     /* A step (delkuthi_event, _coloured_event, _tick, _close, _report). */
     DELKUTHI_CLOSED = 8,     /* the recording is closed: use a fresh monitor */
@@ -815,8 +902,9 @@ static inline delkuthi_row delkuthi_repetition(uint8_t event, uint8_t span,
 }
 
 /* Of n kinds, 2 to 4; a row of another n is refused with 4. */
-static inline delkuthi_row delkuthi_synchronization(
-    const uint8_t *kinds, uint8_t n, uint64_t tolerance)
+static inline delkuthi_row delkuthi_synchronization(const uint8_t *kinds,
+                                                    uint8_t n,
+                                                    uint64_t tolerance)
 {
     delkuthi_row row = delkuthi_row_bytes(11, n, 0);
     size_t i;
@@ -826,7 +914,177 @@ static inline delkuthi_row delkuthi_synchronization(
     return delkuthi_row_time(row, 2 + i, tolerance);
 }
 
+/* Of coloured kinds. */
+static inline delkuthi_row delkuthi_age(uint8_t stimulus, uint8_t response,
+                                        uint64_t minimum, uint64_t maximum)
+{
+    delkuthi_row row = delkuthi_row_bytes(12, stimulus, response);
+
+    return delkuthi_row_time(delkuthi_row_time(row, 3, minimum), 11, maximum);
+}
+
+/* Of coloured kinds, n responses, 2 to 4; another n is refused with 4. */
+static inline delkuthi_row delkuthi_output_synchronization(
+    uint8_t stimulus, const uint8_t *responses, uint8_t n, uint64_t tolerance)
+{
+    delkuthi_row row = delkuthi_row_bytes(13, n, stimulus);
+    size_t i;
+
+    for (i = 0; i < n && i < 4; i++)
+        row.body[3 + i] = responses[i];
+    return delkuthi_row_time(row, 3 + i, tolerance);
+}
+
+/* Of coloured kinds, n stimuli, 2 to 4; another n is refused with 4. */
+static inline delkuthi_row delkuthi_input_synchronization(
+    const uint8_t *stimuli, uint8_t n, uint8_t response, uint64_t tolerance)
+{
+    delkuthi_row row = delkuthi_row_bytes(14, n, 0);
+    size_t i;
+
+    for (i = 0; i < n && i < 4; i++)
+        row.body[2 + i] = stimuli[i];
+    row.body[2 + i] = response;
+    return delkuthi_row_time(row, 3 + i, tolerance);
+}
+
+/* The sign 1 is <=, 2 is <, 3 is >=, 4 is >, 5 is =. */
+static inline delkuthi_row delkuthi_comparison(uint8_t sign, uint64_t left,
+                                               uint64_t right)
+{
+    delkuthi_row row = delkuthi_row_bytes(17, sign, 0);
+
+    return delkuthi_row_time(delkuthi_row_time(row, 2, left), 10, right);
+}
+
 /* end makers */
+/*
+ * A row of a type that has offsets or pairs. Its rows may be too long for a
+ * delkuthi_row. delkuthi_put_row puts it into a table.
+ */
+typedef struct delkuthi_long_row {
+    size_t length;
+    uint8_t body[DELKUTHI_LONGEST_ROW];
+} delkuthi_long_row;
+
+/* A pair of an Arbitrary. */
+typedef struct delkuthi_pair {
+    uint64_t minimum;
+    uint64_t maximum;
+} delkuthi_pair;
+
+/* A row with its type and two bytes. Hosts use the functions below. */
+static inline delkuthi_long_row delkuthi_long_row_bytes(uint8_t type,
+                                                        uint8_t a, uint8_t b)
+{
+    delkuthi_long_row row = {3, {0}};
+
+    row.body[0] = type;
+    row.body[1] = a;
+    row.body[2] = b;
+    return row;
+}
+
+/* Puts a time behind the bytes of a row. */
+DELKUTHI_NONNULL
+static inline void delkuthi_long_row_time(delkuthi_long_row *row,
+                                          uint64_t time)
+{
+    size_t i;
+
+    for (i = 8; i-- > 0; time >>= 8)
+        row->body[row->length + i] = DELKUTHI_LOW(time, 255);
+    row->length += 8;
+}
+
+/* A function for each type. */
+/* begin long makers: made by a program */
+
+/* Of n offsets, 1 to 8; a row of another n is refused with 4. */
+static inline delkuthi_long_row delkuthi_pattern(uint8_t event,
+                                                 uint64_t period,
+                                                 uint64_t jitter,
+                                                 uint64_t minimum,
+                                                 const uint64_t *offsets,
+                                                 uint8_t n)
+{
+    delkuthi_long_row row = delkuthi_long_row_bytes(15, n, event);
+    size_t i;
+
+    delkuthi_long_row_time(&row, period);
+    delkuthi_long_row_time(&row, jitter);
+    delkuthi_long_row_time(&row, minimum);
+    for (i = 0; i < n && i < 8; i++)
+        delkuthi_long_row_time(&row, offsets[i]);
+    return row;
+}
+
+/* Of n pairs, 1 to 8; a row of another n is refused with 4. */
+static inline delkuthi_long_row delkuthi_arbitrary(uint8_t event,
+                                                   const delkuthi_pair *pairs,
+                                                   uint8_t n)
+{
+    delkuthi_long_row row = delkuthi_long_row_bytes(16, n, event);
+    size_t i;
+
+    for (i = 0; i < n && i < 8; i++) {
+        delkuthi_long_row_time(&row, pairs[i].minimum);
+        delkuthi_long_row_time(&row, pairs[i].maximum);
+    }
+    return row;
+}
+
+/* end long makers */
+
+/* Returns a row of another type as a row of any length. */
+static inline delkuthi_long_row delkuthi_as_long(delkuthi_row given)
+{
+    const uint8_t type = given.body[0];
+    /* begin lengths: made by a program */
+    static const uint8_t lengths[] = {0, 19, 19, 19, 34, 19, 3, 10, 21, 19, 27,
+        10, 19, 11, 11, 0, 0, 18};
+    static const uint8_t entries[] = {0, 0, 0, 0, 0, 0, 0, 1, 0, 0, 0, 1, 0, 1,
+        1, 0, 0, 0};
+    /* end lengths */
+    delkuthi_long_row row = {1, {0}};
+    size_t i;
+
+    if (type < sizeof lengths)
+        row.length = lengths[type];
+    for (i = 0; i < given.body[1] && i < 4; i++)
+        if (type < sizeof entries)
+            row.length += entries[type];
+    for (i = 0; i < row.length; i++)
+        row.body[i] = given.body[i];
+    return row;
+}
+
+/*
+ * Puts a row behind the first `length` bytes of a table, with its length field.
+ * The table then has edition 2. A table of no rows is one byte, its version.
+ *
+ * Returns the new length of the table, or 0 if the buffer is too short; then
+ * it stays as it was. Nothing is asked about the row: delkuthi_fresh_2 and the
+ * other second forms ask their questions of the whole table, and the place of
+ * a refusal says which row it is about.
+ */
+DELKUTHI_CHECKED DELKUTHI_NONNULL
+static inline size_t delkuthi_put_row(uint8_t *table, size_t table_length,
+                                      size_t length,
+                                      const delkuthi_long_row *row)
+{
+    size_t i;
+
+    if (length > table_length || table_length - length < 2 + row->length)
+        return 0;
+    table[0] = 2;
+    table[length] = DELKUTHI_LOW(row->length >> 8, 255);
+    table[length + 1] = DELKUTHI_LOW(row->length, 255);
+    for (i = 0; i < row->length; i++)
+        table[length + 2 + i] = row->body[i];
+    return length + 2 + row->length;
+}
+
 /* The table writer; rows_size is in bytes. Call delkuthi_make_table instead. */
 DELKUTHI_CHECKED DELKUTHI_NONNULL
 uint64_t delkuthi_table(const delkuthi_row *rows, size_t rows_size,
@@ -1314,6 +1572,38 @@ static inline uint8_t delkuthi_edition(const delkuthi_row *rows, size_t count)
             return 2;
     return 1;
 }
+
+/*
+ * Writes the table of some rows as delkuthi_make_table and
+ * delkuthi_make_table_2 do, in the lowest edition that has all their types.
+ */
+DELKUTHI_CHECKED DELKUTHI_NONNULL
+static inline uint64_t delkuthi_make_any_table(const delkuthi_row *rows,
+                                               size_t count, uint8_t *table,
+                                               size_t table_length)
+{
+    if (delkuthi_edition(rows, count) == 1)
+        return delkuthi_make_table(rows, count, table, table_length);
+    return delkuthi_make_table_2(rows, count, table, table_length);
+}
+
+/*
+ * The names without _2 for both editions: a host defines DELKUTHI_EDITION as 2
+ * before it includes this header. Without it they are the first forms.
+ */
+#ifndef DELKUTHI_EDITION
+#define DELKUTHI_EDITION 1
+#endif
+#if DELKUTHI_EDITION == 2
+#define delkuthi_fresh            delkuthi_fresh_2
+#define delkuthi_report           delkuthi_report_2
+#define delkuthi_report_on        delkuthi_report_on_2
+#define delkuthi_stamps           delkuthi_stamps_2
+#define delkuthi_shortest_stretch delkuthi_shortest_stretch_2
+#define delkuthi_make_table       delkuthi_make_any_table
+#elif DELKUTHI_EDITION != 1
+#error "DELKUTHI_EDITION has to be 1 or 2"
+#endif
 
 #ifdef __cplusplus
 }

@@ -173,13 +173,24 @@ public:
     {
         const delkuthi_row none{};
         const delkuthi_row *given = count ? rows : &none;
-        const std::uint64_t made = delkuthi_edition(given, count) == 1
-            ? delkuthi_make_table(given, count, bytes_.data(), bytes_.size())
-            : delkuthi_make_table_2(given, count, bytes_.data(), bytes_.size());
+        const std::uint64_t made = delkuthi_make_any_table(
+            given, count, bytes_.data(), bytes_.size());
 
         answer_ = delkuthi::answer(made);
         if (answer_)
             size_ = DELKUTHI_LENGTH(made);
+    }
+
+    // Puts a row with offsets or pairs behind the others, in edition 2. A
+    // monitor asks about it in `fresh`. Returns false if there is no room.
+    [[nodiscard]] bool put(const delkuthi_long_row &row) noexcept
+    {
+        const std::size_t length = answer_
+            ? delkuthi_put_row(bytes_.data(), bytes_.size(), size_, &row)
+            : 0;
+
+        size_ = length != 0 ? length : size_;
+        return length != 0;
     }
 
     // Whether the rows were taken; or the number of the refusal and the row.

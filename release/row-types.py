@@ -1,22 +1,23 @@
 #!/usr/bin/env python3
 """What follows from the list of row types is made from it: tables and limits in the documents, makers in C and Rust, other lists of the types.
 
-    row-types.py            says which parts differ from the list, and what a type still lacks; status 1 where there is such
-    row-types.py --write    writes the parts
+    row-types.py                    says which parts differ from the list, and what a type still lacks; status 1 where there is such
+    row-types.py --write            writes the parts
+    row-types.py --new NAME FORM    writes the skeleton of a new type, and says which files are to be filled
 
 The list is python/delkuthi/rowtypes, a file for each type. Each part of a file stands between two comments, `begin NAME: made by
-release/row-types.py` and `end NAME`. The files of examples/rows and some proofs are made whole. What a type lacks is written by hand: its section of
-the contract, its file in the model, its example.
+release/row-types.py` and `end NAME`. The files of examples/rows are made whole. Documents, header, Rust crate, model and tests have such parts, the
+crates have none. What a type lacks is written by hand: its section of the contract, its file in the model, its example.
 """
 import re
 import sys
 from os.path import commonprefix
 
 sys.dont_write_bytecode = True
-import row_definitions
-import row_machines
-from row_list import INSTALLED, MADE, ROOT, TYPES, declared, having, length, listed, names, one, small, snake, text_of, wrapped
-from delkuthi.fields import MOST
+from row_list import (INSTALLED, KINDS, MADE, ROOT, TYPES, having, is_long, known, length, listed, names, one, ranges, runs,
+                      singles, snake, text_of, wrapped)
+from row_new import lacking, write_new
+from delkuthi.fields import MOST, NUMBERS, SIZES
 from delkuthi.library import NEWEST_EDITION
 from delkuthi.text import grammar
 
@@ -24,7 +25,7 @@ from delkuthi.text import grammar
 def counted():
     """The names of the fields that are counts: those that no time has, and the others with their types."""
     found = list(dict.fromkeys((part.name, row_type.name) for row_type in TYPES for part in row_type.fields if part.role in MOST))
-    times = {name for row_type in TYPES for name in small(row_type)[1]}
+    times = {name for row_type in TYPES for name in singles(row_type, 8)}
     own = list(dict.fromkeys(name for name, _ in found if name not in times))
     return own, [f"the {name} of {one(row_type)}" for name, row_type in found if name in times]
 
@@ -43,14 +44,16 @@ def spans():
 def contract():
     """§4.4 to §4.7."""
     own, others = counted()
-    bytes_each = listed(["A kind", "an n", *map(one, own), *others])
-    lines = [f"| {t.number} | {t.name} | {', '.join(names(t, 'n (2, 3 or 4), n kinds'))} | {length(t)} | {t.edition} |\n" for t in TYPES]
-    marked = listed([str(t.number) for t in having("limit")])
+    bytes_each = listed(["A kind", "an n", *map(one, own), *others, "an operator"])
+    fields = {t.name: ", ".join(names(t, " ({})")).replace("n pairs", "n pairs minimum, maximum") for t in TYPES}
+    lines = [f"| {t.number} | {t.name} | {fields[t.name]} | {length(t)} | {t.edition} |\n" for t in TYPES]
+    marked, pairs = ranges([t.number for t in having("limit")]), ranges([t.number for t in having("pairs")])
     texts = (f"**4.4** {bytes_each} take one byte each. All other fields are times of eight bytes each.",
-             "**4.5** The types, their fields, the value of the length field, and the first edition that has the type (§16.2):",
+             "**4.5** The types, their fields in the order of the bytes, the value of the length field, and the first edition that has the type "
+             "(§16.2). n is the number of kinds, offsets or pairs:",
              f"**4.6** {spans()} §1.1 gives the range of times.",
-             f"**4.7** An upper of 2^64 − 1 (eight bytes of 255) means that there is no upper limit. Types {marked} have this mark. In every "
-             "other field that number is a time out of range.")
+             f"**4.7** An upper of 2^64 − 1 (eight bytes of 255) means that there is no upper limit. Types {marked} have this mark, and type {pairs} "
+             "has it in each maximum. In every other field that number is a time out of range.")
     first, second, third, fourth = (wrapped(text, 120) + "\n\n" for text in texts)
     return first + second + "| type | name | fields | length | edition |\n|---|---|---|---|---|\n" + "".join(lines) + "\n" + third + fourth
 
@@ -64,7 +67,8 @@ def asked():
     """What each row asks, in the manual: with the example of which there is a picture."""
     def said(row_type):
         words = f"**{row_type.name}** `{row_type.example[1]}`: {row_type.manual}"
-        return f"{wrapped(words, 145)}\n\n![{row_type.name}](pictures/{row_type.name}.svg)\n\n"
+        picture = f"![{row_type.name}](pictures/{row_type.name}.svg)\n\n" if row_type.example[2] else ""
+        return f"{wrapped(words, 145)}\n\n{picture}"
 
     return "".join(map(said, TYPES))
 
@@ -81,13 +85,13 @@ def example_rows():
     for row_type in TYPES:
         name, fields, times = row_type.example
         for event in times:
-            role = "coloured" if row_type.has("coloured") else "kind"
+            role = "coloured" if row_type.has("coloured", "coloured_kinds") else "kind"
             events.append(f"event {event:8} = {taken[role]}\n")
             taken[role] += 1
         quoted = f'"{name}"'
         found.append(f"{quoted:17} {row_type.name} {fields}\n")
     assert len({line.split()[1] for line in events}) == len(events), "two types' examples have an event of the same name"
-    first = "# A row of each type. In rows.csv each is met at first and then broken; the manual has the pictures.\nunit ms\n"
+    first = "# A row of each type. In rows.csv each that has events is met at first and then broken; the manual has the pictures.\nunit ms\n"
     return first + "".join(events) + "".join(found)
 
 
@@ -106,25 +110,32 @@ def comment(text, first=" * ", other=" * "):
     return wrapped(re.sub(r"\s\+\s+", "\0+\0", text), 79, first, other) + "\n"
 
 
+def c_comment(text):
+    """A comment of one line, or of several."""
+    return f"/* {text} */\n" if len(text) < 74 else f"/*\n{comment(text)} */\n"
+
+
 def header_line(row_type):
-    """A type, its fields and its length, in columns; where there is no room for all fields, the times have a separate line."""
-    fields, first = ", ".join(names(row_type, "n from 2 to 4, n kinds")), f" *  {row_type.number:2} {row_type.name:22}  "
-    if len(fields) > 40:
-        kinds, fields = map(", ".join, small(row_type))
-        first = f"{first}{kinds},\n{' *'.ljust(len(first))}"
-    return f"{first}{fields:40}{length(row_type):>7}\n"
+    """A type, its fields and its length, in columns; fields for which there is no room have a separate line."""
+    first, room = f" *  {row_type.number:2} {row_type.name:22}  ", 40
+    fields = wrapped(", ".join(names(row_type, "\0from\0{}")).replace("n ", "n\0"), room).split("\n")
+    made = [f"{first if line is fields[0] else ' *'.ljust(len(first))}{line}" for line in fields]
+    return "\n".join([*made[:-1], f"{made[-1].ljust(len(first) + room)}{length(row_type):>7}"]) + "\n"
 
 
 def header_table():
     """The table, what its fields may be, and where it has no limit."""
-    marked = listed([str(t.number) for t in having("limit")], "or")
-    coloured = listed([one(t.name) for t in having("coloured")])
+    marked, pairs = ranges([t.number for t in having("limit")], "or"), ranges([t.number for t in having("pairs")], "or")
+    coloured = ranges([t.number for t in having("coloured", "coloured_kinds")])
     counts = listed(list(dict.fromkeys(part.name for t in TYPES for part in t.fields if part.role in MOST)))
     size = f"""A table is one byte, its version, followed by the rows. The first row is row 0. The version is 1 or 2 (EDITIONS below). Each row
-        is a length field of two bytes, then its type and its fields in as many bytes as the length field says. Kinds, n, {counts} take one
-        byte, all other fields eight, the most significant byte first."""
-    kinds = f"The kinds of {coloured} are coloured, and those of all other types are plain. The minimum and maximum of {coloured} are times."
-    limit = f"{spans()} If the upper of type {marked} is 2^64 - 1, DELKUTHI_NO_LIMIT, there is no upper limit."
+        is a length field of two bytes, then its type and its fields in as many bytes as the length field says. Kinds, n, operator, {counts} take
+        one byte, all other fields eight, the most significant byte first. n is the number of kinds, offsets or pairs. A pair is a minimum and a
+        maximum."""
+    kinds = f"""The kinds of types {coloured} are coloured, and those of all other types are plain. Minima are times, and so are maxima but that of
+        a Burst."""
+    limit = f"""{spans()} If the upper of type {marked}, or a maximum of type {pairs}, is 2^64\0-\0001, DELKUTHI_NO_LIMIT, there is no upper limit.
+        Offsets increase. The operators 1 to 5 are <=, <, >=, > and =."""
     table = " *   type                      fields                                   length\n" + "".join(map(header_line, TYPES))
     return " *\n".join([comment(size), table, comment(kinds), comment(limit), *map(comment, later())]) + " *\n"
 
@@ -132,8 +143,8 @@ def header_table():
 def later():
     """Which types only a later edition of the table has, if there are such."""
     editions = sorted({t.edition for t in TYPES} - {1})
-    numbers = {edition: [str(t.number) for t in TYPES if t.edition == edition] for edition in editions}
-    return [f"Types {listed(found)} require edition {edition}." if len(found) > 1 else f"Type {found[0]} requires edition {edition}."
+    numbers = {edition: [t.number for t in TYPES if t.edition == edition] for edition in editions}
+    return [f"Types {ranges(found)} require edition {edition}." if len(found) > 1 else f"Type {found[0]} requires edition {edition}."
             for edition, found in numbers.items()]
 
 
@@ -153,44 +164,119 @@ def header_asks():
 
 def limited():
     """The types that may have no upper limit."""
-    return f"The upper of {one(listed([t.name for t in having('limit')], 'or'))} that has no upper limit."
+    pairs = "".join(f", or a maximum of {one(t.name)}," for t in having("pairs"))
+    return f"The upper of {one(listed([t.name for t in having('limit')], 'or'))}{pairs} that has no upper limit."
+
+
+#: Fields that have another name in C, as the header is also for C++.
+C_NAMES = {"operator": "sign"}
+C_LISTS = {"kinds": "const\0uint8_t\0*", "coloured_kinds": "const\0uint8_t\0*", "offsets": "const\0uint64_t\0*", "pairs": "const\0delkuthi_pair\0*"}
+RUST_LISTS = {"kinds": "&'a [u8]", "coloured_kinds": "&'a [u8]", "offsets": "&'a [u64]", "pairs": "&'a [(u64, u64)]"}
+
+
+def c_name(part):
+    return C_NAMES.get(part.name, part.name)
 
 
 def c_head(row_type):
     """The head of the function that makes a row of a type, with as many parameters in a line as there is room for."""
-    head = f"static inline delkuthi_row delkuthi_{snake(row_type)}("
-    parameters = declared(row_type, "{size}\0{name}", "const\0uint8_t\0*kinds, uint8_t\0n", "uint8_t", "uint64_t")
+    head = f"static inline delkuthi_{'long_' * is_long(row_type)}row delkuthi_{snake(row_type)}("
+    parameters = []
+    for part in row_type.fields:
+        size = "uint8_t" if SIZES.get(part.role) == 1 else "uint64_t"
+        parameters += [f"{C_LISTS[part.role]}{part.name}", "uint8_t\0n"] if part.role in NUMBERS else [f"{size}\0{c_name(part)}"]
     indent = len(head) if len(head) + max(map(len, parameters)) < 79 else 4
     lines = wrapped(f"{', '.join(parameters)})", 79, " " * indent, " " * indent)
     return head + (lines.lstrip() if indent > 4 else "\n" + lines)
 
 
+def c_words(row_type):
+    """What a host has to know of the parameters."""
+    least, most = NUMBERS[row_type.several.role] if row_type.several else (0, 0)
+    entries = "kinds" if row_type.several and row_type.several.role in KINDS else row_type.several.name if row_type.several else ""
+    several = f"Of n {entries}, {least} to {most}; a row of another n is refused with 4." if row_type.several else ""
+    coloured = "Of coloured kinds." if row_type.has("coloured", "coloured_kinds") else ""
+    sign = "The sign 1 is <=, 2 is <, 3 is >=, 4 is >, 5 is =." if row_type.has("operator") else ""
+    if coloured and several:
+        several, coloured = f"Of coloured kinds, n {row_type.several.name}, {least} to {most}; another n is refused with 4.", ""
+    words = " ".join(filter(None, (coloured, several, sign)))
+    return c_comment(words) if words else ""
+
+
 def c_maker(row_type):
-    """The function that makes a row of a type by its fields."""
-    (singles, times), kinds = small(row_type), row_type.has("kinds")
-    start = f"delkuthi_row_bytes({row_type.number}, " + ", ".join([*(["n"] if kinds else singles), "0"][:2]) + ")"
-    words = "/* Of coloured kinds. */\n" * row_type.has("coloured")
-    words += "/* Of n kinds, 2 to 4; a row of another n is refused with 4. */\n" * kinds
-    if not times and len(singles) <= 2:
-        return f"{words}{c_head(row_type)}\n{{\n    return {start};\n}}\n\n"
-    body = [f"    delkuthi_row row = {start};", *["    size_t i;"] * kinds, ""]
-    if kinds:
-        body += ["    for (i = 0; i < n && i < 4; i++)", "        row.body[2 + i] = kinds[i];"]
-    body += [f"    row.body[{place}] = {name};" for place, name in enumerate(singles[2:], 3)]
-    places = [f"{2 + 8 * i} + i" if kinds else str(1 + len(singles) + 8 * i) for i in range(len(times))]
-    made = [f"delkuthi_row_time(row, {place}, {name})" for place, name in zip(places, times)]
-    made = [f"delkuthi_row_time({made[i]}, {places[i + 1]}, {times[i + 1]})" if i + 1 < len(made) else made[i] for i in range(0, len(made), 2)]
+    """The function that makes a row of a type by its fields, one after the other."""
+    if is_long(row_type):
+        return c_long_maker(row_type)
+    first = ["n"] if row_type.several else []
+    parts = list(row_type.fields)
+    while parts and SIZES.get(parts[0].role) == 1 and len(first) < 2:
+        first.append(c_name(parts.pop(0)))
+    start = f"delkuthi_row_bytes({row_type.number}, {', '.join([*first, '0', '0'][:2])})"
+    if not parts:
+        return f"{c_words(row_type)}{c_head(row_type)}\n{{\n    return {start};\n}}\n\n"
+    body = [f"    delkuthi_row row = {start};", *["    size_t i;"] * bool(row_type.several), ""]
+    place, more, times = 1 + len(first), "", []
+    for part in parts:
+        at = f"{place}{more}"
+        if part.role in NUMBERS:
+            body += [f"    for (i = 0; i < n && i < {NUMBERS[part.role][1]}; i++)", f"        row.body[{place} + i] = {part.name}[i];"]
+            more = " + i"
+        elif SIZES[part.role] == 1:
+            body.append(f"    row.body[{at}] = {c_name(part)};")
+        else:
+            times.append((at, c_name(part)))
+        place += SIZES.get(part.role, 0)
+    made = [f"delkuthi_row_time(row, {at}, {name})" for at, name in times]
+    made = [f"delkuthi_row_time({made[i]}, {times[i + 1][0]}, {times[i + 1][1]})" if i + 1 < len(made) else made[i] for i in range(0, len(made), 2)]
     body += [f"    row = {call};" for call in made[:-1]] + [f"    return {call};" for call in made[-1:] or ["row"]]
-    return f"{words}{c_head(row_type)}\n{{\n" + "\n".join(body) + "\n}\n\n"
+    return f"{c_words(row_type)}{c_head(row_type)}\n{{\n" + "\n".join(body) + "\n}\n\n"
+
+
+def c_long_maker(row_type):
+    """The same for rows of any length: a byte, then times."""
+    (byte,), times = singles(row_type, 1), singles(row_type, 8)
+    several = row_type.several
+    body = [f"    delkuthi_long_row row = delkuthi_long_row_bytes({row_type.number}, n, {byte});", "    size_t i;", ""]
+    body += [f"    delkuthi_long_row_time(&row, {name});" for name in times]
+    entries = [f"{several.name}[i].minimum", f"{several.name}[i].maximum"] if several.role == "pairs" else [f"{several.name}[i]"]
+    body += [f"    for (i = 0; i < n && i < {NUMBERS[several.role][1]}; i++)" + " {" * (len(entries) > 1)]
+    body += [f"        delkuthi_long_row_time(&row, {value});" for value in entries] + ["    }"] * (len(entries) > 1) + ["    return row;"]
+    return f"{c_words(row_type)}{c_head(row_type)}\n{{\n" + "\n".join(body) + "\n}\n\n"
+
+
+def c_makers(long):
+    return "".join(c_maker(row_type) for row_type in TYPES if is_long(row_type) == long)
+
+
+def c_lengths():
+    """The lengths of the rows that are given by value without their n kinds, and which of them have an n."""
+    def array(name, value):
+        numbers = ", ".join(["0", *(str(value(row_type)) if not is_long(row_type) else "0" for row_type in TYPES)])
+        return wrapped(f"static const uint8_t {name}[] = {{{numbers}}};", 79, "    ", "        ") + "\n"
+
+    return array("lengths", known) + array("entries", lambda row_type: int(row_type.several is not None))
 
 
 def c_cases():
     """The row of each type by its bytes and its times; the last is what is left."""
     def case(row_type):
-        singles, times = small(row_type)
-        given = ["b + 1, b[0]"] if row_type.has("kinds") else [f"b[{i}]" for i in range(len(singles))]
+        given, bytes_read, times_read = [], int(row_type.several is not None), 0
+        for size, parts in runs(row_type):
+            for part in parts:
+                if part.role in KINDS:
+                    given += [f"b + {bytes_read}", "b[0]"]
+                elif part.role in NUMBERS:
+                    given += ["pairs(t)" if part.role == "pairs" else f"t + {times_read}" if times_read else "t", "b[0]"]
+                elif size == 1:
+                    after = any(other.role in KINDS for other in row_type.fields[:row_type.fields.index(part)])
+                    given.append(f"b[{bytes_read} + b[0]]" if after else f"b[{bytes_read}]")
+                    bytes_read += 1
+                else:
+                    given.append(f"t[{times_read}]")
+                    times_read += 1
+        call = f"delkuthi_{snake(row_type)}({', '.join(given)})"
         start = "default" if row_type is TYPES[-1] else f"case {row_type.number}"
-        return f"    {start}:\n        return delkuthi_{snake(row_type)}({', '.join(given + [f't[{i}]' for i in range(len(times))])});\n"
+        return f"    {start}:\n        return {call if is_long(row_type) else f'delkuthi_as_long({call})'};\n"
 
     return "".join(map(case, TYPES))
 
@@ -210,30 +296,43 @@ def rust_match(indent, value, arm):
 
 def rust_rows():
     """The variants of a row."""
-    fields = {t.name: ", ".join(declared(t, "{name}: {size}", "kinds: &'a [u8]")) for t in TYPES}
-    return "".join(f"    /// {t.means}\n    {t.name} {{ {fields[t.name]} }},\n" for t in TYPES)
+    def declared(part):
+        return f"{part.name}: {RUST_LISTS.get(part.role) or ('u8' if SIZES[part.role] == 1 else 'u64')}"
+
+    return "".join(f"    /// {t.means}\n    {t.name} {{ {', '.join(map(declared, t.fields))} }},\n" for t in TYPES)
 
 
 def rust_bodies():
     """The bytes of a row by its type."""
+    calls = {"kinds": "kinds", "coloured_kinds": "kinds", "offsets": "times", "pairs": "pairs"}
+
     def arm(row_type):
-        singles, times = small(row_type)
-        pattern, indent = f"Row::{row_type.name} {{ {', '.join(names(row_type, 'kinds'))} }}", " " * 12
-        if not row_type.has("kinds"):
-            return rust_arm(indent, pattern, f"body(&[{', '.join([str(row_type.number), *singles])}], &[{', '.join(times)}])")
-        lines = ("let n = kinds.len().min(4);", f"let mut bytes = [{row_type.number}, kinds.len().min(255) as u8, 0, 0, 0, 0];",
-                 "bytes[2..2 + n].copy_from_slice(&kinds[..n]);", f"body(&bytes[..2 + n], &[{', '.join(times)}])")
-        return f"{indent}{pattern} => {{\n" + "".join(f"{indent}    {line}\n" for line in lines) + f"{indent}}}\n"
+        pattern = f"Row::{row_type.name} {{ {', '.join(part.name for part in row_type.fields)} }}"
+        first = [str(row_type.number)] + ([f"number({row_type.several.name})"] if row_type.several else [])
+        groups = runs(row_type)
+        if groups[0][0] == 1:
+            first += [part.name for part in groups.pop(0)[1]]
+        made = f"Body::of(&[{', '.join(first)}])"
+        for size, parts in groups:
+            named = ", ".join(part.name for part in parts)
+            made += f".{'bytes' if size == 1 else 'times'}(&[{named}])" if size else f".{calls[parts[0].role]}({named})"
+        return rust_arm(" " * 12, pattern, made)
 
     return rust_match(8, "self", arm)
+
+
+def rust_long():
+    """The types whose rows may be too long to be given by value."""
+    return f"        matches!(self, {' | '.join(f'Row::{t.name} {{ .. }}' for t in TYPES if is_long(t))})\n"
 
 
 def rust_checks():
     """From the model's rows to the crate's."""
     def arm(row_type):
-        fields = ", ".join(names(row_type, "kinds"))
-        pattern = f"Constraint::{row_type.name}(types::{row_type.name} {{ {fields.replace('kinds', 'ref kinds')} }})"
-        return rust_arm(" " * 8, pattern, f"Row::{row_type.name} {{ {fields} }}")
+        fields = [part.name for part in row_type.fields]
+        given = ", ".join(f"ref {part.name}" if part.role in NUMBERS else part.name for part in row_type.fields)
+        pattern = f"Constraint::{row_type.name}(types::{row_type.name} {{ {given} }})"
+        return rust_arm(" " * 8, pattern, f"Row::{row_type.name} {{ {', '.join(fields)} }}")
 
     return rust_match(4, "row", arm)
 
@@ -261,35 +360,23 @@ PARTS = (
     ("python/README.md", "measures", measured),
     ("include/delkuthi.h", "table", header_table),
     ("include/delkuthi.h", "rows", header_asks),
-    ("include/delkuthi.h", "no limit", lambda: f"/* {limited()} */\n#define DELKUTHI_NO_LIMIT UINT64_C(18446744073709551615)\n"),
+    ("include/delkuthi.h", "no limit", lambda: f"{c_comment(limited())}#define DELKUTHI_NO_LIMIT UINT64_C(18446744073709551615)\n"),
     ("include/delkuthi.h", "first edition", lambda: f"#define DELKUTHI_FIRST_EDITION_TYPES {last_type()}\n"),
-    ("include/delkuthi.h", "makers", lambda: "".join(map(c_maker, TYPES))),
+    ("include/delkuthi.h", "makers", lambda: c_makers(False)),
+    ("include/delkuthi.h", "long makers", lambda: c_makers(True)),
+    ("include/delkuthi.h", "lengths", c_lengths),
     ("examples/rows/rows.txt", "", example_rows),
     ("examples/rows/rows.csv", "", example_log),
     ("host/c/make_table.c", "cases", c_cases),
     ("host/delkuthi/src/table.rs", "no limit", lambda: f"/// {limited()}\npub const NO_LIMIT: u64 = u64::MAX;\n"),
     ("host/delkuthi/src/table.rs", "first edition", lambda: FIRST_EDITION.format(last_type())),
     ("host/delkuthi/src/table.rs", "rows", rust_rows),
+    ("host/delkuthi/src/table.rs", "long rows", rust_long),
     ("host/delkuthi/src/table.rs", "bodies", rust_bodies),
     ("host/checks/src/rows.rs", "rows", rust_checks),
     ("host/model/src/types.rs", "modules", model_modules),
     ("host/model/src/types.rs", "list", model_list),
 )
-PARTS += row_definitions.PARTS + row_machines.PARTS
-
-
-# The roles that have another name in the model.
-ROLES = {"count": "Count(SPAN_LIMIT)", "few": "Count(REPETITION_SPAN_LIMIT)"}
-
-
-def lacking(row_type):
-    """What is written by hand for a type and is not there."""
-    fields = ", ".join(f"{part.name}: {ROLES.get(part.role, part.role.capitalize())}" for part in row_type.fields)
-    bounds = f"    {' <= '.join(row_type.bounds)}\n" if row_type.bounds else ""
-    wanted = (("docs/CONTRACT.md", f"\n### 5.{row_type.number} {row_type.name}: {', '.join(names(row_type, 'n kinds'))}\n"),
-              (f"host/model/src/types/{snake(row_type)}.rs", f"\n    {row_type.name} {{ {fields} }}\n{bounds}}}\n"),
-              (f"python/delkuthi/rowtypes/{snake(row_type)}.py", "    example=("))
-    return [f"{path}: lacks {' '.join(text.split())}" for path, text in wanted if text not in text_of(path)]
 
 
 def found(text, name):
@@ -314,13 +401,16 @@ def updated(path, name, made, write):
         return []
     if write:
         (ROOT / path).parent.mkdir(parents=True, exist_ok=True)
-        (ROOT / path).write_text(before + made + after, encoding="utf-8")
+        (ROOT / path).write_text(before + made + "\n" * (not part and bool(name)) + after, encoding="utf-8")
         return []
     line = (before + part[:len(commonprefix([part, made]))]).count("\n") + 1
     return [f"{path}:{line}: not what the list of types says: release/row-types.py --write"]
 
 
 def main():
+    if sys.argv[1:2] == ["--new"] and len(sys.argv) == 4:
+        print(write_new(*sys.argv[2:]))
+        return 0
     if sys.argv[1:] not in ([], ["--write"]):
         print(__doc__, file=sys.stderr)
         return 2

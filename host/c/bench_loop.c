@@ -6,6 +6,7 @@
  * arrives LATE after its stamp. Both are 0 if they are not given. The loop is
  * the one in the manual, delkuthi.h.
  */
+#define DELKUTHI_EDITION 2
 #include "delkuthi.h"
 #include <inttypes.h>
 #include <stdio.h>
@@ -53,7 +54,7 @@ static int bench(const uint8_t *table, size_t table_length)
         printf("the library does not match this header\n");
         return 3;
     }
-    answer = delkuthi_fresh_2(&monitor, table, table_length);
+    answer = delkuthi_fresh(&monitor, table, table_length);
     if (answer != DELKUTHI_TAKEN) {
         printf("table refused with %d at byte %" PRIu64 "\n",
                DELKUTHI_NUMBER(answer), DELKUTHI_PLACE(answer));

@@ -49,6 +49,22 @@ bool crowded()
         && monitor.event(0, 65).number() == delkuthi::number::crowded && monitor.event(1, 65).taken() && monitor.waiting(1) == 0;
 }
 
+// A Pattern behind an Order: the table has the bytes of both, in edition 2, and no room for a 33rd of the longest rows.
+bool longer()
+{
+    const std::uint64_t offsets[] = {0, 3};
+    const std::uint8_t expected[] = {2, 0, 3, 6, 0, 1, 0, 43, 15, 2, 4, 0, 0, 0, 0, 0, 0, 0, 10, 0, 0, 0, 0, 0, 0, 0, 1,
+                                     0, 0, 0, 0, 0, 0, 0, 0, 0, 0, 0, 0, 0, 0, 0, 0, 0, 0, 0, 0, 0, 0, 0, 3};
+    const delkuthi_pair pairs[8] = {};
+    delkuthi::table table{delkuthi_order(0, 1)}, full{};
+    bool well = table.data()[0] == 1 && table.put(delkuthi_pattern(4, 10, 1, 0, offsets, 2))
+        && table.size() == sizeof expected && std::memcmp(table.data(), expected, sizeof expected) == 0;
+
+    for (int row = 0; row < DELKUTHI_ROW_LIMIT; row++)
+        well = well && full.put(delkuthi_arbitrary(0, pairs, 8));
+    return well && full.size() == DELKUTHI_TABLE_LIMIT && !full.put(delkuthi_as_long(delkuthi_order(0, 1)));
+}
+
 // The report on a recording, by the three calls, and the page: 0@10, 1@20 under Delay 0 to 1, 2 to 3.
 bool reports()
 {
@@ -149,5 +165,7 @@ bool stretches()
 
 int main()
 {
-    return delkuthi::matches() && closed() && crowded() && reports() && takes() && writes() && late_stamps() && joins() && stretches() ? 0 : 1;
+    const bool calls = reports() && takes() && writes() && late_stamps() && joins() && stretches();
+
+    return delkuthi::matches() && closed() && crowded() && longer() && calls ? 0 : 1;
 }

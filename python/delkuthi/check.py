@@ -414,7 +414,9 @@ def _fill(table: Table, log: Log, outcome: Outcome, found: _Checked) -> None:
         row.verdict = word if word == "broken" or verdict.instances else word + IDLE
         if found.measures is not None:
             measure = found.measures[number]
-            row.measured, row.violations = described(measure, outcome.time_format.stamp, log.at), measure.outside + measure.missing
+            row.violations = measure.outside + measure.missing
+            # A Comparison measures nothing.
+            row.measured = described(measure, outcome.time_format.stamp, log.at) if measure.quantity else None
         outcome.rows.append(row)
 
 

@@ -42,7 +42,7 @@ def textmate() -> str:
          "captures": {"1": {"name": "keyword.other.delkuthi"}, "2": {"name": "variable.parameter.delkuthi"}}},
         {"name": "string.quoted.double.delkuthi", "match": _STRING},
         {"name": "constant.numeric.delkuthi", "match": rf"{_NUMBER}(?:\s*(?:{_any(UNITS)}))?(?!\w)"},
-        {"name": "keyword.operator.delkuthi", "match": r"->|\.\.|[,=]"},
+        {"name": "keyword.operator.delkuthi", "match": r"->|\.\.|[<>]=?|[,=]"},
         {"name": "support.constant.unit.delkuthi", "match": rf"\b(?:{_any(UNITS)})\b"},
         {"name": "keyword.other.delkuthi", "match": rf"\b(?:{_any(words())})\b"},
         {"name": "variable.other.delkuthi", "match": r"[^\W\d]\w*(?:/[0-7])?"},

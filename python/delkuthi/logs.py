@@ -235,8 +235,8 @@ class Ordering:
         self.last: dict[int, int] = {}
 
     def _start(self, first: int) -> int:
-        """The monitor's clock is ahead of the stamps by the largest jitter of the table: a hidden point is at most that long before its
-        event, and none is below 0. So the verdicts do not depend on where the stamps begin."""
+        """The monitor's clock is ahead of the stamps by the largest jitter of the table, of a Pattern with its first offset: a hidden point is
+        at most that long before its event, and none is below 0. So the verdicts do not depend on where the stamps begin."""
         log = self.log
         room = 0 if log.policy.as_stamped else log.table.jitter
         self.add = room - (first if log.policy.from_zero else min(first, 0))

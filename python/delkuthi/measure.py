@@ -15,6 +15,7 @@ from typing import TYPE_CHECKING, Any, Callable, Iterable, Iterator, Mapping, Na
 
 from .fifo import Fifo
 from .library import NO_LIMIT
+from .signals import colours
 from .sketch import Sketch
 
 if TYPE_CHECKING:
@@ -296,10 +297,11 @@ class HiddenPoints(RowMeasuring):
             begin = self.before[0]
             self.measure.add(time - begin[0], time, place, margin, begin, self.wrong(time) if wrong else None)
         if wrong:
-            self.points.clear()
             self.before.clear()
+            self.restart(time)
+        else:
+            self.step(time)
         self.before.append((time, place))
-        self.step(time)
 
     def take_all(self, times: Mapping[int, list[int]], place: Callable[[int, int], int]) -> bool:
         event, before, points = self.values["event"], self.before.copy(), self.points.copy()
@@ -333,6 +335,75 @@ class HiddenPoints(RowMeasuring):
     def step(self, time: int) -> None:
         """The points after an event that was in its stretch, or is the first."""
         raise NotImplementedError
+
+    def restart(self, time: int) -> None:
+        """The points after an event that was not in its stretch: as if it were the first."""
+        self.points.clear()
+        self.step(time)
+
+
+class Chain:
+    """What one colour of an event chain has: the latest stimulus of each kind, a response whose time is not over yet, and whether there
+    was one before."""
+
+    def __init__(self) -> None:
+        self.latest: dict[int, Moment] = {}
+        self.held: Moment | None = None
+        self.responded = False
+
+
+class HeldResponses(RowMeasuring):
+    """What the latest stimuli of a colour are to each of its responses. Up to the time of a response one more stimulus may come. A stimulus
+    after a response of its colour is missing one."""
+
+    def stimuli(self) -> tuple[int, ...]:
+        """The kinds of the stimuli."""
+        raise NotImplementedError
+
+    def takers(self) -> dict[int, Taker]:
+        self.chains = [Chain() for _ in colours(self.values["response"])]
+        found: dict[int, Taker] = {}
+        for chain, response in zip(self.chains, colours(self.values["response"])):
+            found[response] = self._response(chain)
+        for kind in self.stimuli():
+            for chain, stimulus in zip(self.chains, colours(kind)):
+                found[stimulus] = self._stimulus(chain, kind)
+        return found
+
+    def _stimulus(self, chain: Chain, kind: int) -> Taker:
+        def take(time: int, place: int) -> None:
+            self._settle(chain, time)
+            if chain.responded:
+                self.measure.miss((time, place), "a response of its colour came before it")
+            chain.latest[kind] = time, place
+
+        return take
+
+    def _response(self, chain: Chain) -> Taker:
+        def take(time: int, place: int) -> None:
+            self._settle(chain, time)
+            chain.held = time, place
+
+        return take
+
+    def _settle(self, chain: Chain, time: int) -> None:
+        """Judges the response whose time is over."""
+        if chain.held is not None and chain.held[0] < time:
+            self.judge(chain, chain.held)
+            chain.held, chain.responded = None, True
+
+    def judge(self, chain: Chain, response: Moment) -> None:
+        """One response, by the latest stimuli of its colour."""
+        raise NotImplementedError
+
+    def waits(self, chain: Chain, response: Moment) -> bool:
+        """May a stimulus at the time of a response still make it one as asked, which it is not yet?"""
+        raise NotImplementedError
+
+    def end(self, clock: int, closed: bool) -> None:
+        for chain in self.chains:
+            if chain.held is not None and (closed or clock > chain.held[0] or not self.waits(chain, chain.held)):
+                self.judge(chain, chain.held)
 
 
 def in_turn(waiting: Fifo, sources: list[int], targets: list[int], after: int) -> list[int] | None:

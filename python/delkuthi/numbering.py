@@ -4,6 +4,7 @@ from __future__ import annotations
 from dataclasses import replace
 from typing import Iterator
 
+from .fields import COLOURED_ROLES
 from .library import FIRST_COLOURED, LAST_KIND
 from .signals import FIRST_EXTRA_KIND, is_coloured
 from .sources import TaskSource
@@ -16,9 +17,10 @@ class TooMany(Exception):
 
 def numbered(rows: list[Row], events: list[Event]) -> tuple[list[Row], list[Event]]:
     """Rows and events with kinds for those events that have a number below 0: the lowest free ones, in the order of the text.
-    An event that a Reaction names, or that has a source with a colour, gets a coloured kind; its sources without one get colour 0."""
+    An event that a row of coloured kinds names, such as a Reaction, or that has a source with a colour, gets a coloured kind; its sources
+    without one get colour 0."""
     coloured = {event.kind for event in events if any(source.colour is not None for source in event.sources)}
-    coloured |= {kind for row in rows for kind in row.kinds if any(part.role == "coloured" for part in row.type.fields)}
+    coloured |= {kind for row in rows for kind in row.kinds if row.type.has(*COLOURED_ROLES)}
     taken = {event.kind for event in events} | {kind for row in rows for kind in (*row.kinds, *(row.window or ()))}
     plain, colours = _free(taken, False), _free(taken, True)
     kinds = {kind: kind for kind in taken}

@@ -38,7 +38,7 @@ def add_options(parser: argparse.ArgumentParser) -> None:
     group.add_argument("--round", action="store_true", help="round stamps that are finer than the table's unit to the nearest")
     group.add_argument("--from-zero", action="store_true", help="count the stamps from the first one")
     group.add_argument("--as-stamped", action="store_true",
-                       help="give the monitor the stamps as they are, without the offset of the largest jitter of the table")
+                       help="give the monitor the stamps as they are, without the offset that is room for hidden points")
     group.add_argument("--until", metavar="TIME", help="the clock reached this time after the last line")
     group.add_argument("--no-close", action="store_true", help="do not close the recording at the end of the log; rows may stay open")
     group.add_argument("--from", metavar="EDGE", dest="begin",

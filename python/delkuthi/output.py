@@ -86,7 +86,7 @@ def notes(outcome: Outcome, start: bool = True) -> list[str]:
         if count:
             read.append(f"{number_of(count, word)} {said}")
     if time_format.shift and time_format.start < 2 * time_format.shift:
-        read.append(f"clock {shown(time_format.shift, time_format.unit)} ahead of the stamps (the largest jitter)")
+        read.append(f"clock {shown(time_format.shift, time_format.unit)} ahead of the stamps (room for hidden points)")
     if time_format.long and start:
         read.append(f"+ counts from {shown(time_format.stamp(time_format.start), time_format.unit)}")
     return read

@@ -1,8 +1,9 @@
 """``delkuthi propose``: a table to begin with, from what one log shows.
 
-For each event its period: a Sporadic where it keeps a period, else a Repeat where its distances are alike, else a Burst. For each event the nearest
-one before it that it follows in turn, with a Delay. For each task, interrupt routine and runnable of a scheduler trace its ExecutionTime. Values are
-the least that the log allows, with a slack. What the library does not find kept in the log is left out.
+For each event its period: a Sporadic where it keeps a period, a Pattern where it repeats groups of two to eight, else a Repeat where its distances
+are alike, else a Burst. For each event the nearest one before it that it follows in turn, with a Delay. For each task, interrupt routine and runnable
+of a scheduler trace its ExecutionTime. Values are the least that the log allows, with a slack. What the library does not find kept in the log is left
+out.
 """
 from __future__ import annotations
 
@@ -29,6 +30,8 @@ from .writing import complain, write
 LEAST, SLACK, PERIOD_SLACK = 5, "20%", Fraction(1, 100)
 #: Distances are alike if the greatest is at most this many times the least; and the largest number of events that a Burst counts.
 ALIKE, BURST = 4, 8
+#: The numbers of events in a group of a Pattern, how many groups it needs, and how many times more jitter a Sporadic has to need.
+GROUPS, TURNS, CLEARER = range(2, 9), 4, 4
 _NAME = re.compile(r"[^\W\d]\w*")
 
 
@@ -47,6 +50,8 @@ class Seen:
     #: The least distance over one place, two places, and so on.
     shortest: list[int] = field(default_factory=list)
     recent: deque[int] = field(default_factory=lambda: deque(maxlen=BURST))
+    #: By the number of events in a group, how many groups were whole, and when the next one began.
+    turns: dict[int, tuple[int, int]] = field(default_factory=dict)
     partners: set[str] = field(default_factory=set)
     #: From the last event of each of them the least and the greatest time to this event.
     latencies: dict[str, tuple[int, int]] = field(default_factory=dict)
@@ -61,6 +66,7 @@ class Seen:
         self.greatest = max(self.greatest, time - self.last if self.count else 0)
         self.first, self.order = (self.first, self.order) if self.count else (time, step)
         self.recent.append(time)
+        self.turns.update((number, (self.count // number, time)) for number in GROUPS if self.count % number == 0)
         self.count, self.last, self.step = self.count + 1, time, step
 
     @property
@@ -118,6 +124,42 @@ class Jitter:
 
 
 @dataclass
+class Groups:
+    """How far events are from the places of a pattern, of so many events in each period."""
+
+    number: int
+    period: int
+    count: int = 0
+    #: By the number of an event in its group, how long after the first period began it came, at least and at most.
+    least: dict[int, int] = field(default_factory=dict)
+    greatest: dict[int, int] = field(default_factory=dict)
+
+    def take(self, time: int) -> None:
+        """One more event."""
+        turn, place = divmod(self.count, self.number)
+        after = time - turn * self.period
+        self.least[place] = min(self.least.get(place, after), after)
+        self.greatest[place] = max(self.greatest.get(place, after), after)
+        self.count += 1
+
+    @property
+    def jitter(self) -> int:
+        """The least jitter that does."""
+        return max(self.greatest[place] - self.least[place] for place in self.least)
+
+    @property
+    def offsets(self) -> list[int]:
+        """The offsets of the events, the first being 0."""
+        return [self.least[place] - self.least[0] for place in range(self.number)]
+
+    def is_clear(self, clock: int) -> bool:
+        """Are the places at least twice the jitter apart, and is the next event not overdue?"""
+        turn, place = divmod(self.count, self.number)
+        distances = [after - before for before, after in zip(self.offsets, [*self.offsets[1:], self.period])]
+        return min(distances) > 2 * self.jitter and clock <= self.least[place] + turn * self.period + self.jitter
+
+
+@dataclass
 class Proposal:
     """A row: its text, and the comment above it."""
 
@@ -149,9 +191,14 @@ class Proposing:
         for event in self.statistics.events.values():
             if event not in enough:
                 self.notes.append(f"{event.name} came {number_of(event.count, 'time')}: too few for a row")
-        jitters = self._jitters(enough)
+        jitters, groups = self._jitters(enough), self._groups(enough)
         for event in enough:
-            yield self._period(event, jitters.get(event.name))
+            jitter = jitters.get(event.name)
+            clear = [one for one in groups[event.name] if one.is_clear(self.statistics.clock)]
+            if clear and jitter is not None and jitter.least > CLEARER * clear[0].jitter and jitter.least > event.period / 4:
+                yield self._pattern(event, clear[0])
+            else:
+                yield self._period(event, jitter)
         for event in enough:
             sources = self.statistics.sources(event, self.how.scope.cut_end)
             if sources:
@@ -166,6 +213,22 @@ class Proposing:
         for jitter in found.values():
             jitter.take(self.statistics.clock, False)
         return found
+
+    def _groups(self, events: Iterable[Seen]) -> dict[str, list[Groups]]:
+        """How each event fits groups of any number that it has enough of."""
+        found = {event.name: [Groups(number, round(Fraction(begin - event.first, turns))) for number, (turns, begin) in event.turns.items()
+                              if turns >= TURNS] for event in events}
+        for name, time in self._steps():
+            for one in found.get(name or "", ()):
+                one.take(time)
+        return found
+
+    def _pattern(self, event: Seen, groups: Groups) -> Proposal:
+        """The row for an event that repeats groups."""
+        offsets = " ".join(map(self._time, groups.offsets))
+        form = f"period {self._time(groups.period)}, jitter {self._time(self._at_most(groups.jitter))}"
+        return Proposal(f"Pattern {event.name}, {form}, minimum {self._time(self._at_least(event.shortest[0]))}, offsets {offsets}",
+                        f"{number_of(event.count, 'event')}, jitter {self._time(groups.jitter)}; {self._slack}")
 
     def _period(self, event: Seen, jitter: Jitter | None) -> Proposal:
         """The row for what one event does by itself."""

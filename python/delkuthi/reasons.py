@@ -170,10 +170,8 @@ def gap(case: Case, one: Blamed, before: Blamed, lower: int | None, upper: int |
     return plain(f"{case.event(one)} came {case.long(apart)} after {which}, at {at}: {asked}", before, one)
 
 
-def silent(case: Case, before: Blamed, due: int, limit: str) -> Reason:
-    """An event whose successor did not come in time: it is late, or there is none."""
-    places = case.row.values.get("span", 1)
-    assert isinstance(places, int)
+def silent(case: Case, before: Blamed, due: int, limit: str, places: int = 1) -> Reason:
+    """An event whose successor, so many places on, did not come in time: it is late, or there is none."""
     awaited = Blamed(before.signal, before.number + places)
 
     def say(ended: bool) -> str:

@@ -6,8 +6,8 @@ from dataclasses import dataclass, field
 from typing import Mapping
 
 from . import library as lib
-from .fields import MOST, RowType
-from .rowtypes import BY_NAME, Value
+from .fields import COLOURED_ROLES, KIND_ROLES, MOST, NUMBERS, OPERATORS, Field, RowType
+from .rowtypes import BY_NAME, Value, numbers_of
 from .signals import is_coloured, signals_of
 from .sources import Source
 from .units import exact
@@ -68,11 +68,9 @@ class Row:
         """The values of its fields, with other numbers for its kinds."""
         found = dict(self.values)
         for part in self.type.fields:
-            value = found[part.name]
-            if isinstance(value, tuple):
-                found[part.name] = tuple(kinds[kind] for kind in value)
-            elif part.role in ("kind", "coloured"):
-                found[part.name] = kinds[value]
+            if part.role in KIND_ROLES:
+                numbers = tuple(kinds[kind] for kind in numbers_of(found[part.name]))
+                found[part.name] = numbers if part.role in NUMBERS else numbers[0]
         return found
 
     @property
@@ -86,28 +84,72 @@ class Row:
         assert isinstance(value, int)
         return value
 
+    def several(self, name: str) -> tuple[int, ...]:
+        """The kinds or the offsets of a field."""
+        value = self.values[name]
+        assert isinstance(value, tuple)
+        return numbers_of(value)
+
+    def pairs(self, name: str) -> tuple[tuple[int, int], ...]:
+        """The pairs of a field."""
+        numbers = self.several(name)
+        return tuple(zip(numbers[::2], numbers[1::2]))
+
     def doubtful(self, number: int, unit: str | None = None) -> tuple[str, str] | None:
         """The name of the field that a refusal of this number (4 to 7, or 18) is about, what it has, and what it may have."""
         seen: dict[int, str] = {}
         for part in self.type.fields:
-            value = self.values[part.name]
-            for kind in _kinds(part.role, value):
-                if number == 5 and lib.LAST_KIND < kind <= 255:
-                    return part.name, f"found {kind}, the range is 0 to {lib.LAST_KIND}"
-                if number == 5 and kind in seen:
-                    return part.name, f"found {kind}, which is already in {seen[kind]}"
-                if number == 18 and is_coloured(kind) != (part.role == "coloured"):
-                    return part.name, f"found {kind}, the range is {_SORTS[part.role == 'coloured']}"
-                seen[kind] = part.name
-            if number == 4 and part.role == "kinds":
-                return part.name, f"found {len(_kinds(part.role, value))}, the range is 2 to 4"
-            if number == 6 and part.role in ("time", "limit", *MOST) and not _in_range(part.role, value):
-                if part.role in MOST:
-                    return part.name, f"found {value}, the range is 1 to {MOST[part.role]}"
-                return part.name, f"found {exact(self.number(part.name), unit)}, the range is 0 to {exact(lib.LAST_TIME, unit)}"
-        if number == 7 and self.type.bounds:
+            found = self._kind_in_doubt(number, part, seen) or self._number_in_doubt(number, part, unit)
+            if found is not None:
+                return part.name, found
+        return self._order_in_doubt(unit) if number == 7 else None
+
+    def _kind_in_doubt(self, number: int, part: Field, seen: dict[int, str]) -> str | None:
+        """What is wrong with the kinds of a field; ``seen`` has the fields of those before them."""
+        coloured = part.role in COLOURED_ROLES
+        for kind in _kinds(part.role, self.values[part.name]):
+            if number == 5 and lib.LAST_KIND < kind <= 255:
+                return f"found {kind}, the range is 0 to {lib.LAST_KIND}"
+            if number == 5 and kind in seen:
+                return f"found {kind}, which is already in {seen[kind]}"
+            if number == 18 and is_coloured(kind) != coloured:
+                return f"found {kind}, the range is {_SORTS[coloured]}"
+            seen[kind] = part.name
+        return None
+
+    def _number_in_doubt(self, number: int, part: Field, unit: str | None) -> str | None:
+        """What is wrong with how many a field has, or with a time or a count."""
+        value = self.values[part.name]
+        if number == 4 and part.role in NUMBERS and isinstance(value, tuple):
+            least, most = NUMBERS[part.role]
+            return None if least <= len(value) <= most else f"found {len(value)}, the range is {least} to {most}"
+        if number != 6 or part.role in KIND_ROLES or part.role == "operator":
+            return None
+        if part.role in MOST:
+            return None if 1 <= self.number(part.name) <= MOST[part.role] else f"found {value}, the range is 1 to {MOST[part.role]}"
+        for place, time in enumerate(numbers_of(value)):
+            unlimited = part.role == "limit" or part.role == "pairs" and place % 2
+            if time > lib.LAST_TIME and not (unlimited and time == lib.NO_LIMIT):
+                return f"found {exact(time, unit)}, the range is 0 to {exact(lib.LAST_TIME, unit)}"
+        return None
+
+    def _order_in_doubt(self, unit: str | None) -> tuple[str, str] | None:
+        """The field whose times are not in the order that is asked for, and what they are."""
+        if self.type.bounds:
             lower, upper = self.type.bounds
             return lower, f"found {exact(self.number(lower), unit)} above {exact(self.number(upper), unit)}"
+        for part in self.type.fields:
+            if part.role == "operator":
+                word, holds = OPERATORS[self.number(part.name) - 1]
+                left, right = (self.number(name) for name in ("left", "right"))
+                return None if holds(left, right) else ("left", f"found {exact(left, unit)} {word} {exact(right, unit)}")
+            for lower_time, upper_time in self.pairs(part.name) if part.role == "pairs" else ():
+                if lower_time > upper_time:
+                    return part.name, f"found {exact(lower_time, unit)} above {exact(upper_time, unit)}"
+            offsets = self.several(part.name) if part.role == "offsets" else ()
+            for before, after in zip(offsets, offsets[1:]):
+                if after <= before:
+                    return part.name, f"found {exact(after, unit)} after {exact(before, unit)}"
         return None
 
 
@@ -117,16 +159,7 @@ _SORTS = {False: f"0 to {lib.FIRST_COLOURED - 1}", True: f"{lib.FIRST_COLOURED} 
 
 def _kinds(role: str, value: Value) -> tuple[int, ...]:
     """The kinds that a field names, if it does."""
-    if role not in ("kind", "kinds", "coloured"):
-        return ()
-    return value if isinstance(value, tuple) else (value,)
-
-
-def _in_range(role: str, value: Value) -> bool:
-    assert isinstance(value, int)
-    if role in MOST:
-        return 1 <= value <= MOST[role]
-    return value <= lib.LAST_TIME or role == "limit" and value == lib.NO_LIMIT
+    return numbers_of(value) if role in KIND_ROLES else ()
 
 
 def one_line(name: str) -> bool:

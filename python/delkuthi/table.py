@@ -123,9 +123,10 @@ class Table:
 
     @property
     def jitter(self) -> int:
-        """The largest jitter of its rows; 0 if none has one."""
-        return max((value for row in self.rows for name, value in row.values.items() if name == "jitter" and isinstance(value, int)),
-                   default=0)
+        """How long before its event a hidden point of its rows may lie: the largest jitter, that of a Pattern with its first offset. 0 if
+        no row has a hidden point."""
+        return max((row.number("jitter") + (row.several("offsets")[0] if "offsets" in row.values else 0)
+                    for row in self.rows if "jitter" in row.values), default=0)
 
     def row_name(self, number: int) -> str:
         """The name of a row, in quotes; ``row 3`` if it has none."""

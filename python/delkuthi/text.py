@@ -17,11 +17,11 @@ from dataclasses import dataclass
 from typing import Any, Iterator, Protocol, Sequence
 
 from . import library as lib
-from .fields import MOST, Field, RowType
+from .fields import KIND_ROLES, MOST, NUMBERS, OPERATORS, Field, RowType
 from .library import Refused
 from .numbering import TooMany, executed_events, numbered
 from .rows import Event, Executed, Row, one_line
-from .rowtypes import BY_NAME, TYPES, Value
+from .rowtypes import BY_NAME, TYPES, Value, numbers_of
 from .signals import is_coloured
 from .source_text import GRAMMAR as SOURCES
 from .source_text import quoted, read_source, source_text
@@ -38,12 +38,13 @@ GRAMMAR = (__doc__ or "").split(".. code-block:: text\n\n")[1]
 #: What people write for a row type, and what it is here.
 _PERIODIC = "a periodic signal is a Sporadic with lower = upper, as in Sporadic EVENT, 10 ms .. 10 ms, jitter 1 ms, minimum 0 ms"
 _TYPE_WORDS = {
-    "periodic": _PERIODIC, "period": _PERIODIC, "synchronization": "events in step are a StrongSynchronization",
-    "age": "the age of data is a Reaction or a Delay here", "pattern": "a Pattern is several rows here",
+    "periodic": _PERIODIC, "period": _PERIODIC,
     "deadline": "a deadline is a Delay from 0 to it",
 }
 
 
+#: The operators in words.
+_OPERATORS = f"{', '.join(word for word, _ in OPERATORS[:-1])} or {OPERATORS[-1][0]}"
 #: The largest number of mistakes of a text that are shown at once.
 SHOWN = 20
 
@@ -110,8 +111,12 @@ def grammar() -> str:
     lines = [*(line[4:] for line in GRAMMAR.rstrip().splitlines()), *SOURCES.splitlines(), *WINDOWS.splitlines(), "form:",
              *form_lines(TYPES)]
     limited = [row_type.name for row_type in TYPES if row_type.has("limit")]
-    lines.append("A kind is an event's name or its number; KINDS are two to four of them. A time is a number, with a unit")
-    lines.append(f"after it if the table has a unit. An UPPER of {', '.join(limited[:-1])} and {limited[-1]} may be the word none.")
+    lists = [part.name.upper() for row_type in TYPES for part in row_type.fields if part.role in ("kinds", "coloured_kinds")]
+    named = list(dict.fromkeys(lists))
+    lines.append(f"A kind is an event's name or its number; {', '.join(named[:-1])} and {named[-1]} are two to four of them. A time is a")
+    lines.append(f"number, with a unit after it if the table has a unit. An UPPER of {', '.join(limited[:-1])} and {limited[-1]} may be")
+    lines.append("the word none. OFFSETS are one to eight times, each above the one before it. PAIRS are one to eight of")
+    lines.append(f"MINIMUM .. MAXIMUM, with commas between them; a MAXIMUM of them may be the word none. OPERATOR is {_OPERATORS}.")
     return "\n".join(lines) + "\n"
 
 
@@ -373,11 +378,19 @@ class _Parser:
     def value(self, line: Line, part: Field) -> Value:
         if part.role in ("kind", "coloured"):
             return self.kind(line, part.name)
-        if part.role == "kinds":
-            kinds = [self.kind(line, "kinds"), self.kind(line, "kinds")]
-            while len(kinds) < 4 and not line.ended() and not line.text.startswith(",", line.place):
-                kinds.append(self.kind(line, "kinds"))
+        if part.role in KIND_ROLES:
+            least, most = NUMBERS[part.role]
+            kinds = [self.kind(line, part.name) for _ in range(least)]
+            while len(kinds) < most and not line.ended() and not line.text.startswith((",", "->"), line.place):
+                kinds.append(self.kind(line, part.name))
             return tuple(kinds)
+        if part.role == "offsets":
+            return self.offsets(line, part)
+        if part.role == "pairs":
+            return self.pairs(line, part)
+        if part.role == "operator":
+            found = line.take(r"<=|>=|<|>|=(?!=)", _OPERATORS)
+            return 1 + [word for word, _ in OPERATORS].index(found or "")
         if part.role in MOST:
             start = line.column
             count = int(line.take(rf"{DIGITS}(?![\w.])", f"a whole number for {part.name}") or 0)
@@ -387,6 +400,29 @@ class _Parser:
         if part.role == "limit" and line.word("none"):
             return lib.NO_LIMIT
         return self.time(line, part)
+
+    def offsets(self, line: Line, part: Field) -> Value:
+        found = [self.time(line, part)]
+        while line.text[line.place : line.place + 1].isdecimal():
+            self.one_more(line, part, len(found))
+            found.append(self.time(line, part))
+        return tuple(found)
+
+    def pairs(self, line: Line, part: Field) -> Value:
+        found: list[tuple[int, int]] = []
+        while not found or line.word(","):
+            self.one_more(line, part, len(found))
+            minimum = self.time(line, Field("minimum", "time"))
+            line.demand("..")
+            maximum = lib.NO_LIMIT if line.word("none") else self.time(line, Field("maximum", "limit"))
+            found.append((minimum, maximum))
+        return tuple(found)
+
+    def one_more(self, line: Line, part: Field, number: int) -> None:
+        """An error where a field has as many as it may have, and one more follows."""
+        most = NUMBERS[part.role][1]
+        if number == most:
+            raise line.error(f"expected at most {most} {part.name}, found one more")
 
     def kind(self, line: Line, what: str) -> int:
         start = line.column
@@ -462,11 +498,16 @@ def _refusals(parser: _Parser, rows: list[Row]) -> Iterator[TextRefused]:
         place += len(data) - 1
 
 
+#: What a refusal with 7 says of rows that have no lower and upper.
+_DISORDERS = {"offsets": "each offset has to be above the one before it", "operator": "the comparison is false"}
+
+
 def _refused_at(parser: _Parser, row: Row, refusal: Refused) -> TextRefused:
     """The refusal with the line and the field that it is about, what was found there and what may stand there."""
     field, found = row.doubtful(refusal.number, parser.unit) or (None, None)
     about = f"{row.type.name}, {field}" if field else row.type.name
-    message = f"{about}: {refusal.text} (refused with {refusal.number}){f': {found}' if found else ''}"
+    disorders = [text for role, text in _DISORDERS.items() if refusal.number == 7 and row.type.has(role)]
+    message = f"{about}: {disorders[0] if disorders else refusal.text} (refused with {refusal.number}){f': {found}' if found else ''}"
     return TextRefused(parser.file, row.line, row.columns.get(field or "", 1), message, refusal, parser.sources[row.line - 1])
 
 
@@ -518,14 +559,20 @@ def row_text(table: Written, row: Row) -> str:
 
 
 def _value_text(row: Row, part: Field, names: dict[int, str], unit: str | None) -> str:
-    value = row.values[part.name]
-    if isinstance(value, tuple):
-        return " ".join(names.get(kind, str(kind)) for kind in value)
-    if part.role in ("kind", "coloured"):
-        return names.get(value, str(value))
-    if part.role == "limit" and value == lib.NO_LIMIT:
-        return "none"
-    return str(value) if part.role in MOST else exact(value, unit)
+    if part.role in KIND_ROLES:
+        return " ".join(names.get(kind, str(kind)) for kind in numbers_of(row.values[part.name]))
+    if part.role == "offsets":
+        return " ".join(exact(time, unit) for time in row.several(part.name))
+    if part.role == "pairs":
+        return ", ".join(f"{exact(minimum, unit)} .. {_limit_text(maximum, unit)}" for minimum, maximum in row.pairs(part.name))
+    value = row.number(part.name)
+    if part.role == "operator":
+        return OPERATORS[value - 1][0]
+    return str(value) if part.role in MOST else _limit_text(value, unit) if part.role == "limit" else exact(value, unit)
+
+
+def _limit_text(value: int, unit: str | None) -> str:
+    return "none" if value == lib.NO_LIMIT else exact(value, unit)
 
 
 def _quoted(name: str | None) -> str:

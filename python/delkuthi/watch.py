@@ -69,7 +69,7 @@ class Watch:
         self.table, self.say, self.spool, self._record = table, say, spool, record
         self.monitor: Monitor | Monitors = monitor_of(table)
         self.mapping = CanMapping(table)
-        # The clock is ahead of the stamps by the largest jitter, as in a log.
+        # The clock is ahead of the stamps by the room for hidden points, as in a log.
         self.time_format = TimeFormat(table.unit, table.jitter, table.jitter)
         self.keys = {source.key: signal_of(event.kind, source.colour) for event in table.events for source in event.sources
                      if isinstance(source, KeySource)}

@@ -3,7 +3,7 @@ from dataclasses import replace
 
 from hypothesis import strategies as st
 
-from delkuthi.fields import MOST
+from delkuthi.fields import COLOURED_ROLES, KIND_ROLES, MOST, NUMBERS, OPERATORS
 from delkuthi.library import FIRST_COLOURED, LAST_TIME, NO_LIMIT
 from delkuthi.rowtypes import TYPES
 from delkuthi.signals import signal
@@ -18,26 +18,36 @@ times = st.one_of(small, st.integers(0, 5000), st.integers(0, LAST_TIME), st.jus
 def rows(draw, pool=st.integers(0, 47), coloured=st.integers(48, 63), some_times=times, names=st.none()):
     """An accepted row."""
     row_type = draw(st.sampled_from(TYPES))
-    some = coloured if any(part.role == "coloured" for part in row_type.fields) else pool
-    kinds = draw(st.lists(some, min_size=4, max_size=4, unique=True))
-    values, taken = {}, 0
+    kinds = draw(st.lists(coloured if row_type.has(*COLOURED_ROLES) else pool, min_size=5, max_size=5, unique=True))
+    values = {}
     for part in row_type.fields:
-        if part.role == "kinds":
-            values[part.name] = tuple(kinds[: draw(st.integers(2, 4))])
-        elif part.role in ("kind", "coloured"):
-            values[part.name] = kinds[taken]
-            taken += 1
+        number = draw(st.integers(*NUMBERS[part.role])) if part.role in NUMBERS else 1
+        if part.role in KIND_ROLES:
+            some = tuple(kinds.pop() for _ in range(number))
+            values[part.name] = some if part.role in NUMBERS else some[0]
         elif part.role in MOST:
             values[part.name] = draw(st.integers(1, MOST[part.role] if some_times is times else 8))
+        elif part.role == "offsets":
+            values[part.name] = tuple(sorted(draw(st.lists(some_times, min_size=1, max_size=number, unique=True))))
+        elif part.role == "pairs":
+            values[part.name] = tuple(draw(limits(some_times)) for _ in range(number))
         else:
-            values[part.name] = draw(some_times)
+            values[part.name] = draw(st.integers(1, 5) if part.role == "operator" else some_times)
     if row_type.bounds:
         lower, upper = row_type.bounds
-        values[lower], values[upper] = sorted((values[lower], values[upper]))
         role = {part.name: part.role for part in row_type.fields}[upper]
-        if role == "limit" and draw(st.booleans()):
-            values[upper] = NO_LIMIT
+        values[lower], values[upper] = draw(limits(some_times, role == "limit"))
+    if row_type.has("operator"):
+        left, right = values["left"], values["right"]
+        values["operator"] = draw(st.sampled_from([number for number, (_, holds) in enumerate(OPERATORS, 1) if holds(left, right)]))
     return Row(row_type, values, draw(names))
+
+
+@st.composite
+def limits(draw, some_times, unlimited=True):
+    """A lower limit, and an upper one or none."""
+    lower, upper = sorted((draw(some_times), draw(some_times)))
+    return lower, NO_LIMIT if unlimited and draw(st.booleans()) else upper
 
 
 words = st.from_regex(r"[^\W\d]\w{0,8}", fullmatch=True)
@@ -67,13 +77,13 @@ def tables(draw, max_rows=6, some_times=times):
     return Table(several, events, draw(st.none() | st.sampled_from(list(UNITS))))
 
 
-signals = st.integers(0, 5) | st.builds(signal, st.integers(48, 51), st.integers(0, 1))
+signals = st.integers(0, 5) | st.builds(signal, st.integers(48, 52), st.integers(0, 1))
 
 
 @st.composite
 def played(draw, most=40):
     """A table of small numbers, and steps that are in order: signal or ``None``, and time."""
-    several = draw(st.lists(rows(pool=st.integers(0, 5), coloured=st.integers(48, 51), some_times=small), min_size=1, max_size=4))
+    several = draw(st.lists(rows(pool=st.integers(0, 5), coloured=st.integers(48, 52), some_times=small), min_size=1, max_size=4))
     clock, last, steps = 0, {}, []
     for kind, later in draw(st.lists(st.tuples(st.none() | signals, st.integers(0, 4)), max_size=most)):
         time = clock + later

@@ -8,11 +8,9 @@ import tracemalloc
 import pytest
 
 from delkuthi.autosar import take_over
-from delkuthi.autosar.constraints import LATER
 from delkuthi.autosar.times import FEMTOSECONDS
 from delkuthi.command import main
 from delkuthi.readers.base import LogError
-from delkuthi.rowtypes import BY_NAME
 
 from timing_files import MS, arxml, chain, element, extension, named, package, reference, runnable_event, time
 
@@ -76,7 +74,13 @@ ROWS = [
     ("SPORADIC-EVENT-TRIGGERING", [event(), time("MINIMUM-INTER-ARRIVAL-TIME", 4 * MS)],
      ['"x" Sporadic a, 0 .. none, jitter 0, minimum 4 ms'], None),
     ("CONCRETE-PATTERN-EVENT-TRIGGERING", [event(), several("OFFSETS", 0, MS), time("PATTERN-PERIOD", 9 * MS), time("PATTERN-LENGTH", MS)],
-     [], "it needs a row of the type Pattern, which the library does not have yet"),
+     ['"x" Pattern a, period 9 ms, jitter 0, minimum 0, offsets 0 1 ms'], None),
+    ("CONCRETE-PATTERN-EVENT-TRIGGERING", [event(), several("OFFSETS", 5 * MS, MS), time("PATTERN-PERIOD", 9 * MS)],
+     ['"x" Pattern a, period 9 ms, jitter 0, minimum 0, offsets 1 ms 5 ms'], None),
+    ("CONCRETE-PATTERN-EVENT-TRIGGERING", [event(), several("OFFSETS", MS, MS), time("PATTERN-PERIOD", 9 * MS)],
+     [], "Pattern, offsets: each offset has to be above the one before it (refused with 7): found 1 ms after 1 ms"),
+    ("CONCRETE-PATTERN-EVENT-TRIGGERING", [event(), several("OFFSETS", *range(9)), time("PATTERN-PERIOD", 9 * MS)],
+     [], "expected at most 8 offsets, found one more"),
     ("CONCRETE-PATTERN-EVENT-TRIGGERING", [event(), several("OFFSETS", 0, MS), time("PATTERN-PERIOD", 9 * MS), time("PATTERN-JITTER", MS)],
      [], "PATTERN-JITTER moves the start of each repetition"),
     ("CONCRETE-PATTERN-EVENT-TRIGGERING", [event(), several("OFFSETS", 3 * MS), time("PATTERN-PERIOD", 9 * MS), time("PATTERN-LENGTH", MS)],
@@ -90,8 +94,13 @@ ROWS = [
     ("BURST-PATTERN-EVENT-TRIGGERING", [event(), element("MAX-NUMBER-OF-OCCURRENCES", "65"), time("PATTERN-LENGTH", 9 * MS)], [],
      "Burst, maximum: a row has a time, span or maximum out of range (refused with 6): found 65"),
     ("BURST-PATTERN-EVENT-TRIGGERING", [event(), time("PATTERN-LENGTH", 9 * MS)], [], "it has no MAX-NUMBER-OF-OCCURRENCES"),
-    ("ARBITRARY-EVENT-TRIGGERING", [event(), several("MINIMUM-DISTANCES", MS), several("MAXIMUM-DISTANCES", 9 * MS)], [],
-     "it needs a row of the type Arbitrary"),
+    ("ARBITRARY-EVENT-TRIGGERING", [event(), several("MINIMUM-DISTANCES", MS), several("MAXIMUM-DISTANCES", 9 * MS)],
+     ['"x" Arbitrary a, 1 ms .. 9 ms'], None),
+    ("ARBITRARY-EVENT-TRIGGERING", [event(), several("MINIMUM-DISTANCES", MS, 5 * MS), several("MAXIMUM-DISTANCES", 9 * MS, 12 * MS),
+                                    element("CONFIDENCE-INTERVALS")],
+     ['"x" Arbitrary a, 1 ms .. 9 ms, 5 ms .. 12 ms'], "CONFIDENCE-INTERVALS: a table has no probabilities"),
+    ("ARBITRARY-EVENT-TRIGGERING", [event(), several("MINIMUM-DISTANCES", 9 * MS), several("MAXIMUM-DISTANCES", MS)], [],
+     "(refused with 7): found 9 ms above 1 ms"),
     ("ARBITRARY-EVENT-TRIGGERING", [event(), several("MINIMUM-DISTANCES", MS)], [], "it has 1 MINIMUM-DISTANCES and 0 MAXIMUM-DISTANCES"),
     ("LATENCY-TIMING-CONSTRAINT", [REACTION, scope(), time("MINIMUM", MS), time("MAXIMUM", 9 * MS), time("NOMINAL", 4 * MS)],
      ['"x" Delay a -> b, 1 ms .. 9 ms'], "the events have no colours, so a Delay stands for the Reaction"),
@@ -111,11 +120,13 @@ ROWS = [
     ("SYNCHRONIZATION-TIMING-CONSTRAINT", kinds(SINGLE, "a"), [], "it names 1 events"),
     ("SYNCHRONIZATION-TIMING-CONSTRAINT", kinds(SINGLE, "a", "a"), [], "it names an event twice"),
     ("SYNCHRONIZATION-TIMING-CONSTRAINT", [element("EVENT-OCCURRENCE-KIND", SINGLE), chains("ab", "ac"), RESPONSES, time("TOLERANCE", MS)],
-     ['"x" StrongSynchronization b c, tolerance 1 ms'], "OutputSynchronization, which the library does not have yet: only the responses"),
+     ['"x" StrongSynchronization b c, tolerance 1 ms'],
+     "the events have no colours, which a row of the type OutputSynchronization needs: only the responses"),
     ("SYNCHRONIZATION-TIMING-CONSTRAINT", [element("EVENT-OCCURRENCE-KIND", MULTIPLE), chains("ab", "ac"), RESPONSES, time("TOLERANCE", MS)],
      ['"x" Synchronization b c, tolerance 1 ms'], "OutputSynchronization"),
     ("SYNCHRONIZATION-TIMING-CONSTRAINT", [element("EVENT-OCCURRENCE-KIND", MULTIPLE), chains("ab", "cb"), STIMULI, time("TOLERANCE", MS)],
-     ['"x" Synchronization a c, tolerance 1 ms'], "InputSynchronization, which the library does not have yet: only the stimuli"),
+     ['"x" Synchronization a c, tolerance 1 ms'],
+     "the events have no colours, which a row of the type InputSynchronization needs: only the stimuli"),
     ("SYNCHRONIZATION-TIMING-CONSTRAINT", [element("EVENT-OCCURRENCE-KIND", SINGLE), chains("ab", "cb"), STIMULI, time("TOLERANCE", MS)],
      ['"x" Synchronization a c, tolerance 1 ms'], "InputSynchronization"),
     ("SYNCHRONIZATION-TIMING-CONSTRAINT", [chains("ab", "cb"), RESPONSES, time("TOLERANCE", MS)], [],
@@ -201,11 +212,6 @@ def test_every_code_of_time():
         20: 1e-15, 21: 1e-14, 22: 1e-13, 23: 1e-12, 24: 1e-11, 25: 1e-10, 26: 1e-9, 27: 1e-8, 28: 1e-7})
 
 
-def test_types_that_the_library_has_are_not_later_ones():
-    """A type that comes is taken out of the list."""
-    assert not {*LATER} & BY_NAME.keys()
-
-
 @pytest.mark.parametrize("times, unit", [((7_200_000 * MS,), "h"), ((7_200_000 * MS, 60_000 * MS), "min"), ((5000 * MS,), "s"), ((MS,), "ms"),
                                          ((1000,), "us"), ((MS, 1), "ns")])
 def test_the_unit_is_the_coarsest(tmp_path, times, unit):
@@ -213,17 +219,29 @@ def test_the_unit_is_the_coarsest(tmp_path, times, unit):
     assert take_over(file(tmp_path, *asked)).table().unit == unit
 
 
-def test_colours_make_a_reaction(tmp_path):
+def test_colours_make_a_reaction_and_an_age(tmp_path):
     latency = named("LATENCY-TIMING-CONSTRAINT", "x", REACTION, scope(), time("MAXIMUM", MS))
     age = named("LATENCY-TIMING-CONSTRAINT", "y", AGE, scope(), time("MAXIMUM", MS))
     (tmp_path / "events.txt").write_text(COLOURS)
     found = take_over(file(tmp_path, latency, age), str(tmp_path / "events.txt"))
-    assert '"x" Reaction a -> b, 0 .. 1 ms\n' in found.text and [entry.result for entry in found.entries] == ["taken", "left out"]
-    assert found.entries[1].notes == ["it needs a row of the type Age, which the library does not have yet"]
+    assert '"x" Reaction a -> b, 0 .. 1 ms\n' in found.text and [entry.result for entry in found.entries] == ["taken", "taken"]
+    assert '"y" Age a -> b, 0 .. 1 ms\n' in found.text
     without = named("LATENCY-TIMING-CONSTRAINT", "x", REACTION, scope())
     assert take_over(file(tmp_path, GOOD, without)).entries[1].rows == ["x"]
     with pytest.raises(LogError, match="it has no MAXIMUM, which such a row needs"):
         take_over(file(tmp_path, without), str(tmp_path / "events.txt"))
+
+
+def test_colours_make_a_synchronization_of_chains(tmp_path):
+    """Of events with colours it is asked by chains; no other synchronization has such events."""
+    (tmp_path / "events.txt").write_text(COLOURS + "event c from can 0x30 colour 1 from can 0x31 colour 2\n")
+    asked = [named("SYNCHRONIZATION-TIMING-CONSTRAINT", name, element("EVENT-OCCURRENCE-KIND", SINGLE), chains(*some), which, time("TOLERANCE", MS))
+             for name, some, which in (("x", ("ab", "ac"), RESPONSES), ("y", ("ab", "cb"), STIMULI))]
+    found = take_over(file(tmp_path, *asked), str(tmp_path / "events.txt"))
+    assert '"x" OutputSynchronization a -> b c, tolerance 1 ms\n' in found.text
+    assert '"y" InputSynchronization a c -> b, tolerance 1 ms\n' in found.text
+    assert [entry.result for entry in found.entries] == ["weaker", "weaker"]
+    assert found.entries[0].notes == ["the responses have colours, which no StrongSynchronization has: each chain is asked for by its colour"]
 
 
 def test_guarantees_are_taken_where_that_is_asked(tmp_path):

@@ -5,6 +5,7 @@ from fractions import Fraction
 import pytest
 
 from delkuthi import Monitor, Refused, Row, Table
+from delkuthi.fields import COLOURED_ROLES, KIND_ROLES, NUMBERS, OPERATORS
 from delkuthi.library import NO_LIMIT
 from delkuthi.measure import BINS, WAITING, Histogram, margin_of, measure
 from delkuthi.rowtypes import TYPES
@@ -16,31 +17,39 @@ OTHER = 9
 
 def random_row(rng, row_type):
     """A row of small numbers."""
-    values, kinds = {}, rng.sample(range(5), 4)
-    most = {"count": 8, "few": 8}
+    values, kinds = {}, list(range(48, 53)) if row_type.has(*COLOURED_ROLES) else rng.sample(range(5), 4)
     for part in row_type.fields:
-        if part.role == "kinds":
-            values[part.name] = tuple(kinds[: rng.randint(2, 4)])
-        elif part.role == "kind":
-            values[part.name] = kinds.pop()
-        elif part.role == "coloured":
-            values[part.name] = 48 + len([name for name in values if name == "stimulus"])
-        elif part.role in most:
-            values[part.name] = rng.choice([1, 1, 2, 3, rng.randint(1, most[part.role])])
+        number = rng.randint(*NUMBERS[part.role]) if part.role in NUMBERS else 1
+        if part.role in KIND_ROLES:
+            some = tuple(kinds.pop(0) for _ in range(number))
+            values[part.name] = some if part.role in NUMBERS else some[0]
+        elif part.role in ("count", "few"):
+            values[part.name] = rng.choice([1, 1, 2, 3, rng.randint(1, 8)])
+        elif part.role == "offsets":
+            values[part.name] = tuple(sorted(rng.sample(range(rng.choice([9, 9, 30])), min(number, rng.choice([2, 3, 8])))))
+        elif part.role == "pairs":
+            values[part.name] = tuple(random_limits(rng, True) for _ in range(min(number, rng.choice([2, 3, 8]))))
         else:
             values[part.name] = rng.choice([0, 0, 1, 2, 3, rng.randint(0, 30)])
     if row_type.bounds:
         lower, upper = row_type.bounds
-        values[lower], values[upper] = sorted((values[lower], values[upper]))
-        if any(part.name == upper and part.role == "limit" for part in row_type.fields) and rng.random() < 0.2:
-            values[upper] = NO_LIMIT
+        limited = any(part.name == upper and part.role == "limit" for part in row_type.fields)
+        values[lower], values[upper] = random_limits(rng, limited)
+    if row_type.has("operator"):
+        values["operator"] = rng.choice([number for number, (_, holds) in enumerate(OPERATORS, 1) if holds(values["left"], values["right"])])
     return Row(row_type, values)
+
+
+def random_limits(rng, unlimited):
+    """A lower limit, and an upper one, or sometimes none."""
+    lower, upper = sorted(rng.choice([0, 0, 1, 2, 3, rng.randint(0, 30)]) for _ in range(2))
+    return lower, NO_LIMIT if unlimited and rng.random() < 0.2 else upper
 
 
 def random_steps(rng, table, number):
     """Steps that are in order; mostly those that leave the row open, where there are such."""
-    numbers = [*table.rows[0].signals[:6], *table.rows[0].kinds, OTHER, None]
-    numbers = [one for one in numbers if one is None or one < 48 or one >= 256]
+    plain = [kind for kind in table.rows[0].kinds if kind < 48]
+    numbers = [*plain, *plain, *(signal(kind, colour) for kind in table.rows[0].kinds if kind >= 48 for colour in (0, 1)), OTHER, None]
     monitor, steps, clock = Monitor(table), [], 0
     patience, kept = rng.choice([0, 8, 20]), (0, monitor.copy())
     for _ in range(number):
@@ -67,7 +76,7 @@ def closes_well(monitor):
 
 
 def values_of(row, steps, clock):
-    """The values and margins of all instances of a row that is kept, from the definition; nothing for a type of which it is not said here."""
+    """The values and margins of all instances of a row that is kept, from the definition."""
     of = {number: [time for one, time, _ in steps if one == number] for number in row.signals}
     get = {name: value for name, value in row.values.items()}
     lower, upper = get.get("lower", get.get("minimum")), get.get("upper", get.get("maximum"))
@@ -77,9 +86,14 @@ def values_of(row, steps, clock):
         found = [min(t for t in of[get["target"]] if t >= s + lower) - s for s in of[get["source"]]]
     elif name in ("StrongDelay", "Order"):
         found = [t - s for s, t in zip(of[get["source"]], of[get["target"]])]
-    elif name in ("Repeat", "Repetition", "Burst", "Sporadic"):
+    elif name in ("Repeat", "Repetition", "Burst", "Sporadic", "Pattern"):
         times, span = of[get["event"]], get.get("span", get.get("maximum", 1))
         return [b - a for a, b in zip(times, times[span:])], None
+    elif name == "Arbitrary":
+        times = of[get["event"]]
+        margins = [margin_of(b - a, low, None if high == NO_LIMIT else high)
+                   for span, (low, high) in enumerate(get["pairs"], 1) for a, b in zip(times, times[span:])]
+        return [b - a for a, b in zip(times, times[1:])], margins
     elif name == "StrongSynchronization":
         groups = list(zip(*(of[kind] for kind in get["kinds"])))
         widths = [max(group) - min(group) for group in groups]
@@ -89,6 +103,16 @@ def values_of(row, steps, clock):
         widths = [min(end - begin for begin in times for end in times if begin <= time <= end
                       and all(any(begin <= one <= end for one in of[kind]) for kind in get["kinds"])) for time in times]
         return widths, [get["tolerance"] - width for width in widths]
+    elif name in ("OutputSynchronization", "InputSynchronization"):
+        output = name == "OutputSynchronization"
+        one, several, end = ("stimulus", "responses", 0) if output else ("response", "stimuli", -1)
+        widths = []
+        for asked, others in zip(colours(get[one]), zip(*map(colours, get[several]))):
+            ends = [of[other][end] for other in others if of[other]]
+            widths += [max(ends) - min(ends)] * len(of[asked]) if of[asked] else []
+        return widths, [get["tolerance"] - width for width in widths]
+    elif name == "Comparison":
+        return [], []
     elif name == "ExecutionTime":
         found, sign = [], {get["start"]: -1, get["stop"]: 1, get["preempt"]: 1, get["resume"]: -1}
         for one, time, _ in steps:
@@ -96,9 +120,11 @@ def values_of(row, steps, clock):
                 found.append(0)
             if one in sign:
                 found[-1] += sign[one] * time
-    elif name != "Reaction":
-        return None
+    elif name == "Age":
+        found = [time - of[stimulus][-1] for stimulus, response in zip(colours(get["stimulus"]), colours(get["response"]))
+                 for time in of[response]]
     else:
+        assert name == "Reaction"
         found = [of[response][0] - time for stimulus, response in zip(colours(get["stimulus"]), colours(get["response"]))
                  for time in of[stimulus]]
     if name == "Order":
@@ -122,15 +148,16 @@ def test_a_broken_row_has_an_instance_outside_or_missing_and_a_kept_one_none(row
             words.append(word)
             assert (word == "broken") == (found.outside + found.missing > 0), (row.values, steps, closed, word, found)
             assert found.margin is None or (found.margin < 0) == (found.outside > 0)
-            if word == "kept" and (known := values_of(row, steps, clock)):
-                values, margins = known
+            if word == "kept":
+                values, margins = values_of(row, steps, clock)
                 assert found.measured == len(values), (row.values, steps, found, values)
                 assert (found.least, found.greatest) == (min(values, default=None), max(values, default=None))
                 assert found.mean == (Fraction(sum(values), len(values)) if values else None)
                 assert sum(found.histogram.counts.values()) == len(values)
                 if margins is not None:
                     assert found.margin == min((one for one in margins if one is not None), default=None)
-    assert min(words.count(word) for word in ("kept", "broken", "open")) > 40, {word: words.count(word) for word in set(words)}
+    possible = ("kept", "open") if row_type.name == "Comparison" else ("kept", "broken", "open")
+    assert min(words.count(word) for word in possible) > 40, {word: words.count(word) for word in set(words)}
 
 
 def brute_delay(row, steps, clock):
@@ -180,8 +207,8 @@ def test_the_counts_are_those_of_brute_force_also_where_the_row_is_broken(name, 
 
 def only(row, steps, closed=True):
     """The measure of one row over steps such as ``a1 b5 t9``; the place of each is its number."""
-    signals = {"a": 0, "b": 1, "c": 2, "d": 3, "t": None, "s": signal(48, 0), "r": signal(49, 0)}
-    table = Table.from_text("event a = 0\nevent b = 1\nevent c = 2\nevent d = 3\nevent s = 48\nevent r = 49\n" + row)
+    signals = {"a": 0, "b": 1, "c": 2, "d": 3, "t": None, "s": signal(48, 0), "r": signal(49, 0), "q": signal(50, 0)}
+    table = Table.from_text("event a = 0\nevent b = 1\nevent c = 2\nevent d = 3\nevent s = 48\nevent r = 49\nevent q = 50\n" + row)
     return measure(table, [(signals[step[0]], int(step[1:]), number) for number, step in enumerate(steps.split(), 1)], closed)[0]
 
 
@@ -199,6 +226,11 @@ EXAMPLES = [
     ("ExecutionTime a -> b, preempt c, resume d, 2 .. 5", "a0 c2 d10 b13 a20 b21 b30", (3, 1, 1, 1, 5, -1, 1, 6)),
     ("Reaction s -> r, 4 .. 6", "s10 s11 r16 s20", (3, 0, 1, 5, 6, 0, 6, 3)),
     ("Repetition a span 2, 10 .. 10, jitter 5", "a5 a16 a17 a31", (2, 1, 0, 12, 15, -2, 15, 4)),
+    ("Age s -> r, 2 .. 6", "s10 s12 r15 r17 r20 s30 r33", (5, 1, 1, 3, 8, -2, 8, 5)),
+    ("OutputSynchronization s -> r q, tolerance 3", "s4 s5 r9 q14 r20 s30", (3, 2, 1, 5, 5, -2, 5, 4)),
+    ("InputSynchronization s r -> q, tolerance 3", "s4 r5 s9 q12 q15 s20", (3, 2, 1, 4, 4, -1, 4, 3)),
+    ("Pattern a, period 100, jitter 5, minimum 1, offsets 0 20 50", "a10 a32 a61 a110 a160 a212 a231", (6, 1, 0, 19, 52, -25, 50, 5)),
+    ("Arbitrary a, 5 .. 20, 15 .. none", "a10 a17 a26 a33 a38 a60 t99", (6, 2, 1, 5, 22, -3, 12, 5)),
 ]
 
 

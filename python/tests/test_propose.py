@@ -59,6 +59,29 @@ def test_periodic_events_that_are_answered(tmp_path, period, begin, jitters, lat
                 assert broken.broken, narrower
 
 
+@given(st.integers(2, 8), st.randoms(use_true_random=False), st.integers(20, 60), st.integers(0, 30), st.integers(0, 4))
+def test_a_pattern(tmp_path, number, rng, groups, begin, jitter):
+    """Groups of events at places far apart: a Pattern with the least jitter that does, where a Sporadic needs much more."""
+    offsets = [0, *sorted(rng.sample(range(40, 800, 40), number - 1))]
+    period = 1000 + 40 * rng.randint(0, 9)
+    times = [begin + period * group + offset + rng.randint(0, jitter) for group in range(groups) for offset in offsets]
+    log = written(tmp_path / "log.csv", [(time, "a") for time in times])
+    text, notes = proposed(log, Policy(), slack=Fraction(0))
+    row, = rows_of(text)
+    assert not notes and check(Table.from_text(text), log).rows[0].verdict == "kept"
+    if row.startswith("Pattern"):
+        found = int(re.search(r"jitter (\d+)", row)[1])
+        assert found <= jitter + 1 and (found == 0 or check(Table.from_text(text.replace(f"jitter {found}, ", f"jitter {found - 1}, ")), log).broken)
+        assert len(row.partition("offsets ")[2].split()) in [one for one in range(2, 9) if number % one == 0 or one == number]
+
+
+@pytest.mark.parametrize("slack, asked", [("0%", "jitter 2, minimum 19"), ("50%", "jitter 3, minimum 9")])
+def test_the_pattern_of_a_log(tmp_path, slack, asked):
+    times = [7 + 100 * group + offset + (group * 7 + offset) % 3 for group in range(9) for offset in (0, 20, 50)]
+    text, notes = proposed(written(tmp_path / "log.csv", [(time, "a") for time in times]), Policy(), slack=_slack(slack))
+    assert rows_of(text) == [f"Pattern a, period 100, {asked}, offsets 0 20 50"] and not notes
+
+
 @given(st.lists(st.integers(1, 60), min_size=2, max_size=12), st.integers(1, 40), st.integers(0, 10))
 def test_the_least_jitter(tmp_path, distances, lower, more):
     """It is the library's: one less is broken."""

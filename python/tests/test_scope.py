@@ -13,10 +13,11 @@ from delkuthi.library import NO_LIMIT
 from delkuthi.logs import Policy, Step
 from delkuthi.rowtypes import BY_NAME, TYPES
 from delkuthi.scope import Edge, Scope
-from delkuthi.signals import colours
+from delkuthi.signals import colours, signal
 from delkuthi.time_format import TimeFormat
 
 from conftest import EXAMPLES, ROOT
+from definitions import of_colour
 from test_measure import closes_well, random_row, random_steps
 
 CUT = Scope(edges="cut")
@@ -62,7 +63,7 @@ def test_no_part_of_a_log_that_keeps_a_row_breaks_it(row_type):
             measure, = measured(table, part, CUT, [found])
             assert measure.outside + measure.missing == 0, (table.rows[0].values, part, measure)
             partial += found.left_out + found.not_yet_due
-    assert partial > 10 or row_type.name in ("Burst", "Repetition", "Reaction")
+    assert partial > 10 or row_type.name in ("Burst", "Repetition", "Reaction", "OutputSynchronization", "Comparison")
 
 
 def pending(row, steps):
@@ -75,8 +76,12 @@ def pending(row, steps):
         return sum(not any(s + get["lower"] <= t <= s + last for t in of[get["target"]]) for s in of[get["source"]])
     if name in ("StrongDelay", "Order"):
         return max(len(of[get["source"]]) - len(of[get["target"]]), 0)
-    if name in ("Repeat", "Sporadic"):
-        return int(upper != NO_LIMIT and bool(of[get["event"]]))
+    if name in ("Repeat", "Sporadic", "Pattern", "Arbitrary"):
+        limited = any(limit != NO_LIMIT for _, limit in get["pairs"]) if name == "Arbitrary" else upper != NO_LIMIT
+        return int(limited and bool(of[get["event"]]))
+    if name in ("Age", "OutputSynchronization", "InputSynchronization"):
+        asking = get["stimulus" if name == "OutputSynchronization" else "response"]
+        return sum(len(of[signal(asking, colour)]) for colour in range(8) if not of_colour(row, of, colour))
     if name == "StrongSynchronization":
         return max(map(len, of.values())) - min(map(len, of.values()))
     if name == "ExecutionTime":
@@ -112,7 +117,7 @@ def test_what_is_not_yet_due_is_what_the_library_waits_for(row_type):
             closed.close()
             assert (found.not_yet_due > 0) == (monitor.row_deadline(0) is not None or closed.step(0) is not None), (row.values, steps)
             waited += found.not_yet_due > 0
-    assert waited > 10 or row_type.name in ("Burst", "Repetition")
+    assert waited > 3 or row_type.name in ("Burst", "Repetition", "Comparison")
 
 
 SMALL = [("Delay", {"source": 0, "target": 1, "lower": 0, "upper": 2}, 3), ("StrongDelay", {"source": 0, "target": 1, "lower": 1, "upper": 3}, 4),
@@ -230,7 +235,7 @@ def test_in_a_part_too_a_broken_row_has_a_violation_and_another_none(row_type):
             measure, = measured(table, steps, scope, [found])
             assert (found.broken is not None) == (measure.outside + measure.missing > 0), (table.rows[0].values, steps, scope, found, measure)
             words.add(found.broken is not None)
-    assert words == {True, False}
+    assert words == {True, False} or row_type.name == "Comparison"
 
 
 TABLE = """\

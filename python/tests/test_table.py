@@ -124,6 +124,8 @@ HINTS = [
     (UNIT + "Delay pedal -> light, 1 .. 50,5 ms", "found , (write a decimal point: 50.5)"),
     (UNIT + "Periodic pedal, 5 ms", "found Periodic (a periodic signal is a Sporadic with lower = upper"),
     (UNIT + "DelayConstraint pedal -> light, 5", "found DelayConstraint (did you mean Delay?)"),
+    (UNIT + "SynchronizationConstraint pedal light", "found SynchronizationConstraint (did you mean Synchronization?)"),
+    (UNIT + "PatternConstraint pedal, 5", "found PatternConstraint (did you mean Pattern?)"),
     (UNIT + "Delay pedal -> light, 9 ms .. 2 ms", "(refused with 7): found 9 ms above 2 ms"),
     (UNIT + "Repeat pedal span 70, 1 .. 2", "(refused with 6): found 70, the range is 1 to 64"),
     (UNIT + "Repetition pedal span 9, 1 .. 2, jitter 1", "(refused with 6): found 9, the range is 1 to 8"),
@@ -229,7 +231,7 @@ def _bytes(line):
 
 pieces = st.sampled_from(['"', "#", "\n", " ", ",", "..", "->", "=", "0", "7", "64", "1.5", "ms", "us", "none", "from", "can",
                           "csv", "key", "data", "bus", "on", "change", "0x1", "\\", "unit", "event", "a", "b", "span", "maximum",
-                          "length", "minimum", "jitter", "tolerance", *BY_NAME])
+                          "length", "minimum", "jitter", "tolerance", "period", "offsets", "<=", "<", ">=", ">", "48", "49", *BY_NAME])
 
 
 @given(st.lists(pieces, max_size=25).map(" ".join) | st.text(max_size=30))

@@ -7,7 +7,7 @@ from timing_example import EVENTS, model, trace
 
 FOLDER = EXAMPLES / "timing"
 CHECK = ["check", "timing.arxml", "drive.btf", "--events", "events.txt"]
-SUMMARY = "timing.arxml: 1 guarantee not read; --guarantees takes them\ntiming.arxml: constraints: 8 taken, 3 weaker, 5 left out\n"
+SUMMARY = "timing.arxml: 1 guarantee not read; --guarantees takes them\ntiming.arxml: constraints: 10 taken, 3 weaker, 3 left out\n"
 
 
 def test_the_files():

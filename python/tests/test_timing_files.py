@@ -41,7 +41,7 @@ def test_a_page_by_one_command(tmp_path, command):
     written(tmp_path, drive)
     status, printed, error = command("check", "timing.arxml", "drive.btf", "--json", "--html", "page.html")
     found = json.loads(printed)
-    assert status == 1 and error.splitlines()[-1] == "timing.arxml: constraints: 9 taken, 1 weaker, 4 left out"
+    assert status == 1 and error.splitlines()[-1] == "timing.arxml: constraints: 11 taken, 1 weaker, 2 left out"
     assert verdicts(found["constraints"], {row["name"]: row["verdict"] for row in found["logs"][0]["rows"]}) == drive.expected
     page = (tmp_path / "page.html").read_text(encoding="utf-8")
     for name, verdict in drive.expected.items():

@@ -199,8 +199,118 @@ def reactions(row, steps, clock, closed):
                 yield "outside", time, first, max(lower - (first - time), first - time - upper)
 
 
+def ages(row, steps, clock, closed):
+    """Each response whose latest stimulus up to its time is missing, too young or too old; each stimulus after a response."""
+    lower, upper = row.values["minimum"], row.values["maximum"]
+    for stimulus, response in zip(colours(row.values["stimulus"]), colours(row.values["response"])):
+        stimuli, responses = times_of(steps, stimulus), times_of(steps, response)
+        yield from late_stimuli(stimuli, responses)
+        for number, time in enumerate(responses):
+            before = [one for one in stimuli if one <= time][-1:]
+            suits = bool(before) and lower <= time - before[0] <= upper
+            if suits or not (closed or clock > time or lower or number):
+                continue
+            if before:
+                yield "outside", before[0], time, max(lower - (time - before[0]), time - before[0] - upper)
+            else:
+                yield "missing", time, None, None
+
+
+def times_of(steps, signal):
+    """The times of the events of a signal."""
+    return [time for one, time, _ in steps if one == signal]
+
+
+def late_stimuli(stimuli, responses):
+    """The stimuli after a response."""
+    return (("missing", time, None, None) for time in stimuli if responses and responses[0] < time)
+
+
+def outputs(row, steps, clock, closed):
+    """Each stimulus after a response of its colour, without a response of every kind, or with first responses too far apart."""
+    tolerance = row.values["tolerance"]
+    for stimulus, kinds in zip(colours(row.values["stimulus"]), zip(*map(colours, row.values["responses"]))):
+        firsts = [times[0] for times in (times_of(steps, kind) for kind in kinds) if times]
+        for time in times_of(steps, stimulus):
+            if firsts and min(firsts) < time:
+                yield "missing", time, None, None
+            elif len(firsts) == len(kinds):
+                width = max(firsts) - min(firsts)
+                if width > tolerance:
+                    yield "outside", min(firsts), max(firsts), width - tolerance
+            elif closed or firsts and clock > min(firsts) + tolerance:
+                yield "missing", time, None, None
+
+
+def inputs(row, steps, clock, closed):
+    """Each stimulus after a response of its colour; each response without a stimulus of every kind, or with latest ones too far apart."""
+    tolerance = row.values["tolerance"]
+    for kinds, response in zip(zip(*map(colours, row.values["stimuli"])), colours(row.values["response"])):
+        stimuli, responses = [times_of(steps, kind) for kind in kinds], times_of(steps, response)
+        for times in stimuli:
+            yield from late_stimuli(times, responses)
+        for number, time in enumerate(responses):
+            latest = [before[-1] for before in ([one for one in times if one <= time] for times in stimuli) if before]
+            suits = len(latest) == len(kinds) and max(latest) - min(latest) <= tolerance
+            if suits or not (closed or clock > time or number):
+                continue
+            if len(latest) < len(kinds):
+                yield "missing", time, None, None
+            else:
+                yield "outside", min(latest), max(latest), max(latest) - min(latest) - tolerance
+
+
+def patterns(row, steps, clock, closed):
+    """Each event that comes at none of the moments that are left, by all points that its group can have. One that comes too late is the one
+    with the nearest place; one that comes too early is none of them."""
+    period, jitter, minimum, offsets = (row.values[name] for name in ("period", "jitter", "minimum", "offsets"))
+    points, number, before = [], 0, 0
+    for time in times_of(steps, row.values["event"]):
+        if not points:
+            if time < offsets[0]:
+                yield "missing", time, None, None
+            points, before = [max(time - offsets[0] - late, 0) for late in range(jitter + 1)], time
+            continue
+        awaited = (number + 1) % len(offsets)
+        able = [point + (0 if awaited else period) for point in points]
+        left = [point for point in able if 0 <= time - point - offsets[awaited] <= jitter]
+        due = max(left, default=0) + offsets[(awaited + 1) % len(offsets)] + (period if awaited + 1 == len(offsets) else 0) + jitter
+        if not left or time - before < minimum or not awaited and not period or due < time:
+            yield "outside", before, time, None
+        if left:
+            points, number = left, awaited
+        elif time > max(able) + offsets[awaited] + jitter and period:
+            number = min(range(len(offsets)), key=lambda one: min(abs(time - max(able) - offsets[one] - turn * period) for turn in range(-40, 99)))
+            points = [max(time - offsets[number] - late, 0) for late in range(jitter + 1)]
+        before = time
+    if points:
+        due = max(points) + offsets[(number + 1) % len(offsets)] + (period if number + 1 == len(offsets) else 0) + jitter
+        if clock > due:
+            yield "missing", before, None, clock - due
+
+
+def distances(row, steps, clock, closed):
+    """Each event that is too close to one before it or too far from it, by the worst of the distances; and silence, by the first that is due."""
+    times, pairs = times_of(steps, row.values["event"]), row.values["pairs"]
+    for at in range(1, len(times)):
+        apart = [(places, times[at] - times[at - places], *pair) for places, pair in enumerate(pairs[:at], 1)]
+        by, places = max((max(lower - value, value - upper if upper != NO_LIMIT else -value), -places) for places, value, lower, upper in apart)
+        if by > 0:
+            yield "outside", times[at + places], times[at], by
+    due = [(times[max(len(times) - places, 0)] + upper, places) for places, (_, upper) in enumerate(pairs, 1) if times and upper != NO_LIMIT]
+    if due and clock > min(due)[0]:
+        yield "missing", times[max(len(times) - min(due)[1], 0)], None, clock - min(due)[0]
+
+
+def nothing(row, steps, clock, closed):
+    """A row without events has no violation."""
+    return ()
+
+
 BRUTE = {"Delay": delays, "StrongDelay": pairs, "Repeat": spans, "Sporadic": points, "Burst": bursts, "Order": pairs,
-         "StrongSynchronization": groups, "ExecutionTime": runs, "Reaction": reactions, "Repetition": points, "Synchronization": windows}
+         "StrongSynchronization": groups, "ExecutionTime": runs, "Reaction": reactions, "Repetition": points, "Synchronization": windows,
+         "Age": ages, "OutputSynchronization": outputs, "InputSynchronization": inputs, "Pattern": patterns, "Arbitrary": distances,
+         "Comparison": nothing}
 
 
 @pytest.mark.parametrize("row_type", TYPES, ids=lambda row_type: row_type.name)
@@ -228,7 +338,7 @@ def test_each_violation_is_one_by_the_definition(row_type):
                 places = {place: time for _, time, place in steps}
                 assert all(places[place] == time for time, place in filter(None, (one.begin, one.end)))
             seen += len(found)
-    assert seen > 100
+    assert seen > 100 or row_type.name == "Comparison"
 
 
 def test_the_files(tmp_path, capsys):

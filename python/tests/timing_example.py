@@ -28,7 +28,7 @@ def descriptions():
         named("TD-EVENT-VARIABLE-DATA-PROTOTYPE", "PedalPressed"),
         runnable_event("ReadActivated", "ReadPedal", "ACTIVATED"), runnable_event("ReadStarted", "ReadPedal", "STARTED"),
         runnable_event("ControlStarted", "Control", "STARTED"), runnable_event("LightSet", "SetLight", "TERMINATED"),
-        runnable_event("DiagnosisStarted", "Diagnose", "STARTED"),
+        runnable_event("DiagnosisStarted", "Diagnose", "STARTED"), runnable_event("StatusStarted", "SendStatus", "STARTED"),
         *(runnable_event(f"{side}LampSet", f"Set{side}Lamp", "TERMINATED") for side in ("Left", "Right", "Middle")),
         chain("PedalToLight", f"{HOME}/PedalPressed", f"{HOME}/LightSet"),
         chain("LightToLeft", f"{HOME}/LightSet", f"{HOME}/LeftLampSet"), chain("LightToRight", f"{HOME}/LightSet", f"{HOME}/RightLampSet"),
@@ -37,16 +37,16 @@ def descriptions():
 
 def requirements():
     lamps = [event_reference("SCOPE-EVENT-REF", f"{side}LampSet") for side in ("Left", "Right", "Middle")]
-    several = {name: element(name, time("MULTIDIMENSIONAL-TIME", long)) for name, long in
-               (("OFFSETS", 2 * MS), ("MINIMUM-DISTANCES", 20 * MS), ("MAXIMUM-DISTANCES", 90 * MS))}
+    several = {name: element(name, *(time("MULTIDIMENSIONAL-TIME", one * MS) for one in long)) for name, long in
+               (("OFFSETS", (2, 6, 11)), ("MINIMUM-DISTANCES", (20, 80)), ("MAXIMUM-DISTANCES", (90, 180)))}
     latency = [time("MAXIMUM", 30 * MS), reference("SCOPE-REF", f"{HOME}/PedalToLight")]
     return [
         named("PERIODIC-EVENT-TRIGGERING", "ReadPeriod", event_reference("EVENT-REF", "ReadActivated"), time("JITTER", 500 * US),
               time("MINIMUM-INTER-ARRIVAL-TIME", 9 * MS), time("PERIOD", 10 * MS)),
         named("SPORADIC-EVENT-TRIGGERING", "DiagnosisDistance", event_reference("EVENT-REF", "DiagnosisStarted"),
               time("MAXIMUM-INTER-ARRIVAL-TIME", 90 * MS), time("MINIMUM-INTER-ARRIVAL-TIME", 20 * MS)),
-        named("CONCRETE-PATTERN-EVENT-TRIGGERING", "DiagnosisPattern", event_reference("EVENT-REF", "DiagnosisStarted"), several["OFFSETS"],
-              time("PATTERN-LENGTH", 5 * MS), time("PATTERN-PERIOD", 50 * MS)),
+        named("CONCRETE-PATTERN-EVENT-TRIGGERING", "StatusPattern", event_reference("EVENT-REF", "StatusStarted"), several["OFFSETS"],
+              time("PATTERN-LENGTH", 15 * MS), time("PATTERN-PERIOD", 50 * MS)),
         named("BURST-PATTERN-EVENT-TRIGGERING", "DiagnosisBurst", event_reference("EVENT-REF", "DiagnosisStarted"),
               element("MAX-NUMBER-OF-OCCURRENCES", "3"), element("MIN-NUMBER-OF-OCCURRENCES", "1"), time("MINIMUM-INTER-ARRIVAL-TIME", 20 * MS),
               time("PATTERN-LENGTH", 80 * MS)),
@@ -110,6 +110,8 @@ def trace():
     while at < LONG:
         lines += runs(at, "Diagnose", 300 * US)
         at += rng.randint(40_000, 85_000) * US
+    for at in range(3 * MS, LONG, 50 * MS):
+        lines += [line for offset in (2, 6, 11) for line in runs(at + offset * MS, "SendStatus", 150 * US)]
     head = ["#version 2.1.5", "#creator bench", "#timeScale ns"]
     body = [f"{at},Core_1,0,{letter},{name},0,{action}" for at, letter, name, action in sorted(lines, key=lambda one: one[0]) if at <= LONG]
     return "\n".join([*head, *body, f"{LONG},Core_1,0,C,Core_1,0,idle"]) + "\n"

@@ -264,18 +264,48 @@ def gross(drive, bad):
     _executed(drive, "AskGross", "GROSS", "Gross", bad)
 
 
+def pattern(drive, bad):
+    """Groups of events at the same places of each period."""
+    period, start = drive.rng.randint(20, 50) * MS, drive.rng.randint(0, 3 * MS)
+    offsets = [number * MS for number in sorted(drive.rng.sample(range(15), drive.rng.randint(1, 8)))]
+    points = [at for group in range(drive.long // period + 1) for offset in offsets if (at := start + group * period + offset) <= drive.long]
+    if bad:
+        points[drive.rng.randrange(1, len(points) - len(offsets))] += drive.rng.randint(1, MS - 1) * drive.rng.choice([1, -1])
+    for at in points:
+        drive.run("Pattern", at, min(10 * US, drive.long - at))
+    drive.ask("CONCRETE-PATTERN-EVENT-TRIGGERING", "AskPattern", "broken" if bad else "kept", reference("EVENT-REF", drive.event("Pattern")),
+              element("OFFSETS", *(time("MULTIDIMENSIONAL-TIME", one) for one in offsets)), time("PATTERN-LENGTH", 15 * MS),
+              time("PATTERN-PERIOD", period))
+
+
+def arbitrary(drive, bad):
+    """Events from a minimum to a maximum apart, of which two short distances never follow each other."""
+    low = drive.rng.randint(2, 9) * MS
+    high = low + drive.rng.randint(1, 9) * MS
+    points, gap = [drive.rng.randint(0, high)], high
+    while points[-1] <= drive.long:
+        gap = drive.rng.randint(max(low, low + high - gap), high - 1)
+        points.append(points[-1] + gap)
+    points.pop()
+    if bad:
+        place = drive.rng.randrange(2, len(points) // 2)
+        wrong = low + high - 1 - (points[place] - points[place - 2])
+        points[place:] = [at + wrong for at in points[place:] if at + wrong <= drive.long]
+    for at in points:
+        drive.run("Arbitrary", at, min(10 * US, drive.long - at))
+    limits = {"MAXIMUM": (high, 2 * high), "MINIMUM": (low, low + high)}
+    drive.ask("ARBITRARY-EVENT-TRIGGERING", "AskArbitrary", "broken" if bad else "kept", reference("EVENT-REF", drive.event("Arbitrary")),
+              *(element(f"{name}-DISTANCES", *(time("MULTIDIMENSIONAL-TIME", one) for one in several)) for name, several in limits.items()))
+
+
 def without_rows(drive, bad):
-    """The constraints for which there are no rows, or none yet."""
-    event = reference("EVENT-REF", drive.event("Period"))
+    """The constraints for which there are no rows."""
     drive.ask("SYNCHRONIZATION-POINT-CONSTRAINT", "AskPoint", "left out")
-    drive.ask("CONCRETE-PATTERN-EVENT-TRIGGERING", "AskPattern", "left out", event, element("OFFSETS", time("MULTIDIMENSIONAL-TIME", MS)),
-              time("PATTERN-LENGTH", MS), time("PATTERN-PERIOD", 9 * MS))
-    drive.ask("ARBITRARY-EVENT-TRIGGERING", "AskArbitrary", "left out", event,
-              element("MAXIMUM-DISTANCES", time("MULTIDIMENSIONAL-TIME", 9 * MS)), element("MINIMUM-DISTANCES", time("MULTIDIMENSIONAL-TIME", MS)))
     drive.ask("AGE-CONSTRAINT", "AskAge", "left out", time("MAXIMUM", MS), reference("SCOPE-REF", drive.event("Period")))
 
 
-KINDS = (periodic, sporadic, burst, reaction, offset, strong_synchronization, synchronization, execution_order, net, gross, without_rows)
+KINDS = (periodic, sporadic, burst, reaction, offset, strong_synchronization, synchronization, execution_order, net, gross, pattern, arbitrary,
+         without_rows)
 
 
 def random_drive(seed, broken=0.5):

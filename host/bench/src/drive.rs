@@ -3,8 +3,8 @@
 
 use model::limits::stream;
 use model::types::{
-    Burst, Delay, ExecutionTime, Order, Reaction, Repeat, Repetition, Sporadic, StrongDelay, StrongSynchronization,
-    Synchronization,
+    Age, Arbitrary, Burst, Comparison, Delay, ExecutionTime, InputSynchronization, Order, OutputSynchronization,
+    Pattern, Reaction, Repeat, Repetition, Sporadic, StrongDelay, StrongSynchronization, Synchronization,
 };
 use model::{Constraint, FIRST_COLOURED, LAST_TIME, NO_LIMIT, Step};
 
@@ -242,4 +242,71 @@ pub fn dense_synchronizations() -> Table {
     let four = [0; 4].map(|lag| signals.next(lag));
     let rows = (0..32).map(|place| synchronization(&four[..2 + place % 3])).collect();
     Table { rows, signals }
+}
+
+/// How many coloured kinds are stimuli, and as many are responses.
+const CHAINS: u8 = 8;
+
+/// The signals of chains that stay open: in two colours stimuli, again and again; in two others responses, again and again, if it is
+/// so asked with stimuli before them, once.
+fn chains(signals: &mut Signals, with_stimuli: bool) {
+    let mut add = |first: u8, colours: [u8; 2], every: Option<u64>| {
+        signals.every = every;
+        let kinds = first..first + CHAINS;
+        kinds.flat_map(|kind| colours.map(|colour| stream(kind, colour))).for_each(|one| _ = signals.of_stream(one, 0));
+    };
+    add(FIRST_COLOURED, [0, 1], None);
+    if with_stimuli {
+        add(FIRST_COLOURED, [4, 5], Some(u64::MAX));
+    }
+    add(FIRST_COLOURED + CHAINS, [4, 5], None);
+}
+
+/// The stimulus or the response of a row in this place.
+fn chain_kind(place: usize, response: bool) -> u8 {
+    FIRST_COLOURED + (place % usize::from(CHAINS)) as u8 + if response { CHAINS } else { 0 }
+}
+
+/// Two to four such kinds.
+fn chain_kinds(place: usize, response: bool) -> Vec<u8> {
+    (place..place + 2 + place % 3).map(|place| chain_kind(place, response)).collect()
+}
+
+/// Events at the multiples of a period, one to eight of them.
+fn multiples(place: usize) -> impl Iterator<Item = u64> {
+    (1..=1 + place as u64 % 8).map(|number| number * PERIOD)
+}
+
+/// 32 rows of one of types 12 to 17 alone. An event of a chain concerns four rows or up to 15, one of the others one row or none.
+///
+/// # Panics
+/// Where the type is none of these.
+pub fn alone(type_byte: u8) -> Table {
+    let mut signals = Signals::default();
+    match type_byte {
+        12 | 14 => chains(&mut signals, true),
+        13 => chains(&mut signals, false),
+        _ => (0..32).for_each(|_| _ = signals.next(0)),
+    }
+    let (minimum, far) = (PERIOD - WOBBLE, LAST_TIME / 2);
+    let row = |place: usize| -> Constraint {
+        let event = place as u8;
+        let (stimulus, response) = (chain_kind(place, false), chain_kind(place + place / 8, true));
+        match type_byte {
+            12 => Age { stimulus, response, minimum: APART, maximum: far }.into(),
+            13 => OutputSynchronization { stimulus, responses: chain_kinds(place, true), tolerance: PERIOD }.into(),
+            14 => InputSynchronization { stimuli: chain_kinds(place, false), response, tolerance: PERIOD }.into(),
+            15 => {
+                let offsets: Vec<u64> = multiples(place).map(|time| time - PERIOD).collect();
+                Pattern { event, period: offsets.len() as u64 * PERIOD, jitter: WOBBLE, minimum, offsets }.into()
+            }
+            16 => {
+                let pairs = multiples(place).map(|time| (time - WOBBLE, time + WOBBLE)).collect();
+                Arbitrary { event, pairs }.into()
+            }
+            17 => Comparison { operator: 1, left: place as u64, right: PERIOD }.into(),
+            _ => panic!("no load of type {type_byte} alone"),
+        }
+    };
+    Table { rows: (0..32).map(row).collect(), signals }
 }

@@ -1,6 +1,9 @@
 //! The lines that are printed: a sort of calls over a table.
 
-use crate::load::{Load, dense, dense_full, dense_synchronizations, sparse, sparse_full, sparse_synchronizations};
+use crate::load::{
+    self, Load, dense, dense_full, dense_synchronizations, sparse, sparse_full, sparse_synchronizations,
+};
+use crate::plain::LAST_TYPE;
 
 /// What the calls of a line are.
 #[derive(Clone, Copy, Debug, PartialEq, Eq)]
@@ -21,45 +24,54 @@ pub enum Sort {
     Crowding,
 }
 
-/// A line: which calls, over how many rows of the sparse or the dense table, or over Synchronizations alone.
+/// A line: which calls, over how many rows of the sparse or the dense table, or over rows of one type alone.
 #[derive(Clone, Copy, Debug)]
 pub struct Line {
     pub sort: Sort,
-    alone: bool,
+    alone: Option<u8>,
     dense: bool,
     rows: usize,
 }
 
+/// The type of which there is a sparse and a dense table; of later ones there is one table.
+const SYNCHRONIZATION: u8 = 11;
 /// How many rows a whole table has.
 const WHOLE: usize = 32;
 
 /// The lines over whole tables of the first edition: the same loads in each release.
 pub fn lines() -> Vec<Line> {
     let sorts = [Sort::Steps, Sort::Withdrawing, Sort::Records, Sort::Ticks, Sort::Full, Sort::Refused, Sort::Crowding];
-    sorts.into_iter().flat_map(|sort| sparse_and_dense(sort, false)).collect()
+    sorts.into_iter().flat_map(|sort| sparse_and_dense(sort, None)).collect()
 }
 
-/// The lines over whole tables of Synchronizations, which the second edition has.
+/// The lines over whole tables of one type alone, which the second edition has.
 pub fn second_edition() -> Vec<Line> {
     let sorts = [Sort::Steps, Sort::Withdrawing, Sort::Records];
-    sorts.into_iter().flat_map(|sort| sparse_and_dense(sort, true)).collect()
+    let synchronizations = sorts.into_iter().flat_map(|sort| sparse_and_dense(sort, Some(SYNCHRONIZATION)));
+    let others = SYNCHRONIZATION + 1..=LAST_TYPE;
+    let line = |type_byte| Line { sort: Sort::Steps, alone: Some(type_byte), dense: false, rows: WHOLE };
+    synchronizations.chain(others.map(line)).collect()
 }
 
-fn sparse_and_dense(sort: Sort, alone: bool) -> [Line; 2] {
+fn sparse_and_dense(sort: Sort, alone: Option<u8>) -> [Line; 2] {
     [false, true].map(|dense| Line { sort, alone, dense, rows: WHOLE })
 }
 
 /// The lines over tables of more and more rows: events.
 pub fn sizes() -> Vec<Line> {
-    let sizes = |dense| [1, 2, 4, 8, 16].map(|rows| Line { sort: Sort::Steps, alone: false, dense, rows });
+    let sizes = |dense| [1, 2, 4, 8, 16].map(|rows| Line { sort: Sort::Steps, alone: None, dense, rows });
     [false, true].into_iter().flat_map(sizes).collect()
 }
 
 impl Line {
     /// What is measured, in a few words.
     pub fn what(&self) -> String {
-        let rows = if self.alone { "Synchronization, " } else { "" };
-        let table = format!("{rows}{}", if self.dense { "dense" } else { "sparse" });
+        let shape = if self.dense { "dense" } else { "sparse" };
+        let table = match self.alone {
+            None => shape.to_string(),
+            Some(SYNCHRONIZATION) => format!("Synchronization, {shape}"),
+            Some(later) => load::alone(later, 0).name,
+        };
         match self.sort {
             Sort::Steps if self.rows == 1 => format!("steps, {table}, 1 row"),
             Sort::Steps if self.rows < WHOLE => format!("steps, {table}, {} rows", self.rows),
@@ -75,11 +87,12 @@ impl Line {
 
     /// The calls: this many of those that count.
     pub fn load(&self, calls: usize) -> Load {
-        let events = match (self.alone, self.dense) {
-            (false, false) => sparse,
-            (false, true) => dense,
-            (true, false) => sparse_synchronizations,
-            (true, true) => dense_synchronizations,
+        let events = |calls: usize| match (self.alone, self.dense) {
+            (None, false) => sparse(calls),
+            (None, true) => dense(calls),
+            (Some(SYNCHRONIZATION), false) => sparse_synchronizations(calls),
+            (Some(SYNCHRONIZATION), true) => dense_synchronizations(calls),
+            (Some(later), _) => load::alone(later, calls),
         };
         let full = if self.dense { dense_full } else { sparse_full };
         match self.sort {

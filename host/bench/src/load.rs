@@ -77,6 +77,12 @@ pub fn dense_synchronizations(events: usize) -> Load {
     Load::new("Synchronization, dense", drive::dense_synchronizations(), events)
 }
 
+/// This many events over rows of one of types 12 to 17 alone.
+pub fn alone(type_byte: u8, events: usize) -> Load {
+    let table = drive::alone(type_byte);
+    Load::new(table.rows[0].name(), table, events)
+}
+
 /// This many events over the sparse table, from the point where 64 wait.
 pub fn sparse_full(events: usize) -> Load {
     Load::full("sparse", drive::sparse(true), events)

@@ -38,7 +38,7 @@ fn thirty_two_rows_of_all_types_of_the_first_edition() {
 fn thirty_two_rows_of_the_type_of_the_second_edition() {
     for load in alone(10) {
         let numbers: BTreeSet<usize> = load.rows.iter().map(|row| row.kinds().len()).collect();
-        assert!(load.rows.len() == 32 && load.rows.iter().all(|row| row.type_byte() == LAST_TYPE), "{}", load.name);
+        assert!(load.rows.len() == 32 && load.rows.iter().all(|row| row.type_byte() == 11), "{}", load.name);
         assert_eq!((numbers, load.table()[0]), (BTreeSet::from([2, 3, 4]), LAST_EDITION));
     }
 }
@@ -59,6 +59,22 @@ fn every_row_hears_events() {
     }
 }
 
+/// The rows of types 12 to 17 alone stay open, in the plain monitor for now where the library does not have them.
+#[test]
+fn rows_of_later_types_stay_open() {
+    for load in (12..=17).map(|type_byte| bench::load::alone(type_byte, 10_000)) {
+        let mut plain = Plain::new(&load.rows);
+        load.steps.iter().for_each(|step| assert_eq!(plain.step(*step), Ok(()), "{}: {step}", load.name));
+        assert!(
+            plain.verdicts().iter().all(|verdict| *verdict == Verdict::Open),
+            "{}: {:?}",
+            load.name,
+            plain.verdicts()
+        );
+        assert_eq!(load.rows.len(), 32);
+    }
+}
+
 #[test]
 fn both_monitors_agree_and_rows_stay_open() {
     all_lines().iter().for_each(|line| agree(&line.load(10_000)));
@@ -66,9 +82,10 @@ fn both_monitors_agree_and_rows_stay_open() {
 
 #[test]
 fn every_line_has_its_own_name_and_as_many_calls_as_asked() {
-    assert_eq!((lines().len(), sizes().len(), second_edition().len()), (14, 10, 6));
+    let later = usize::from(LAST_TYPE) - 11;
+    assert_eq!((lines().len(), sizes().len(), second_edition().len()), (14, 10, 6 + later));
     let names: BTreeSet<String> = all_lines().iter().map(|line| line.what()).collect();
-    assert_eq!(names.len(), 30, "{names:?}");
+    assert_eq!(names.len(), 30 + later, "{names:?}");
     all_lines().iter().for_each(|line| assert_eq!(line.load(10_000).number(), 10_000, "{}", line.what()));
 }
 

@@ -3,16 +3,17 @@
 use bench::plain::{LAST_EDITION, LAST_TYPE, Plain};
 use model::random::Random;
 use model::random::calls::{Play, calls};
+use model::random::one_row;
 use model::random::seen::Seen;
 use model::random::tables::any_table_in;
 use model::types::{Burst, Delay, Repeat, Repetition, StrongDelay, StrongSynchronization, Synchronization};
-use model::{Answer, Constraint, Monitor, Step};
+use model::{Answer, Constraint, Monitor, Step, Verdict};
 
 #[test]
 fn lists_of_calls_beside_the_model() {
     let mut random = Random::new(601);
     let mut seen = Seen::default();
-    for _ in 0..1_500 {
+    for _ in 0..3_000 {
         let rows = any_table_in(LAST_EDITION, &mut random);
         let mut plain = Plain::new(&rows);
         let mut play = Play::new(random.fork(), &rows, 150);
@@ -189,4 +190,33 @@ fn sixty_four_wait_again() {
     (1..=64).for_each(|time| assert_eq!(beside.step(source(time)), Ok(())));
     assert_eq!(beside.withdraw(), Ok(()));
     assert_eq!((beside.step(source(64)), beside.step(source(65))), (Ok(()), Err(12)));
+}
+
+/// Rows of types 12 to 17 that stay open for long, and break in every way there is; steps are withdrawn and given again.
+#[test]
+fn one_row_of_each_later_type() {
+    let mut random = Random::new(605);
+    for type_byte in one_row::FIRST..=LAST_TYPE {
+        let mut ways = one_row::SeenWays::default();
+        for _ in 0..4_000 {
+            let row = one_row::row(&mut random, type_byte);
+            let mut beside = Beside::new(std::slice::from_ref(&row));
+            let length = *random.pick(&[1, 2, 4, 8, 16, 30]);
+            while beside.left.monitor.verdict(0) == Ok(Verdict::Open) && beside.plain.count() < length + 10 {
+                let before = beside.left.monitor.recorded().clone();
+                let step = one_row::next_step(&mut random, &row, &before, before.count() >= length);
+                assert_eq!(beside.step(step), Ok(()));
+                if random.chance(15) {
+                    assert_eq!((beside.withdraw(), beside.step(step)), (Ok(()), Ok(())));
+                }
+                if matches!(beside.left.monitor.verdict(0), Ok(Verdict::Broken(_))) {
+                    ways.way(&row, &before, step);
+                }
+            }
+            let _ = beside.step(Step::Close);
+        }
+        if type_byte != 16 {
+            ways.demand_all(type_byte);
+        }
+    }
 }

@@ -2,7 +2,7 @@
 
 use delkuthi::Row;
 use model::Constraint;
-use model::types::{self, Field};
+use model::types;
 
 /// The row as the Rust crate has it.
 pub fn row_of(row: &Constraint) -> Row<'_> {
@@ -35,6 +35,22 @@ pub fn row_of(row: &Constraint) -> Row<'_> {
         Constraint::Synchronization(types::Synchronization { ref kinds, tolerance }) => {
             Row::Synchronization { kinds, tolerance }
         }
+        Constraint::Age(types::Age { stimulus, response, minimum, maximum }) => {
+            Row::Age { stimulus, response, minimum, maximum }
+        }
+        Constraint::OutputSynchronization(types::OutputSynchronization { stimulus, ref responses, tolerance }) => {
+            Row::OutputSynchronization { stimulus, responses, tolerance }
+        }
+        Constraint::InputSynchronization(types::InputSynchronization { ref stimuli, response, tolerance }) => {
+            Row::InputSynchronization { stimuli, response, tolerance }
+        }
+        Constraint::Pattern(types::Pattern { event, period, jitter, minimum, ref offsets }) => {
+            Row::Pattern { event, period, jitter, minimum, offsets }
+        }
+        Constraint::Arbitrary(types::Arbitrary { event, ref pairs }) => Row::Arbitrary { event, pairs },
+        Constraint::Comparison(types::Comparison { operator, left, right }) => {
+            Row::Comparison { operator, left, right }
+        }
     }
     // end rows
 }
@@ -54,12 +70,10 @@ pub fn refused_row(rows: &[Constraint]) -> Option<usize> {
     delkuthi::write_table(&rows, &mut [0; delkuthi::TABLE_LIMIT]).err().and_then(|refusal| refusal.row())
 }
 
-/// The row as `host/c/make_table.c` reads it: its type, five bytes and four times.
+/// The row as `host/c/make_table.c` reads it: its type, how many bytes and times it has, and these.
 pub fn numbers_of(row: &Constraint) -> String {
-    let bytes: Vec<u8> = row.fields().iter().filter(|field| field.time().is_none()).flat_map(Field::bytes).collect();
-    let times = row.times();
-    let byte = |i| bytes.get(i).copied().unwrap_or(0).to_string();
-    let time = |i| times.get(i).copied().unwrap_or(0).to_string();
-    let numbers: Vec<String> = (0..5).map(byte).chain((0..4).map(time)).collect();
-    format!("{} {}\n", row.type_byte(), numbers.join(" "))
+    let (body, times) = (row.body(), row.times());
+    let bytes = &body[1..body.len() - 8 * times.len()];
+    let numbers = bytes.iter().map(ToString::to_string).chain(times.iter().map(ToString::to_string));
+    format!("{} {} {} {}\n", body[0], bytes.len(), times.len(), numbers.collect::<Vec<String>>().join(" "))
 }

@@ -110,7 +110,7 @@ fn play(examples: impl IntoIterator<Item = Example>, run: impl Fn(&[PathBuf; 2])
 fn the_loop_in_the_header_is_the_one_that_runs() {
     let header = fs::read_to_string(root().join("include/delkuthi.h")).expect("the header");
     let host = fs::read_to_string(root().join("host/c/bench_loop.c")).expect("the bench loop");
-    let start = header.find("#include \"delkuthi.h\"").expect("the example in the header");
+    let start = header.find("\n#define DELKUTHI_EDITION 2\n#include").expect("the example in the header");
     let end = start + header[start..].find("\n */").expect("the end of the comment");
     assert!(header[start..end].contains("int bench(") && host.contains(&header[start..end]));
 }
@@ -308,7 +308,7 @@ fn tables_made_in_c() {
     let (mut given, mut expected) = (String::new(), String::new());
     for turn in 0..1_500 {
         let rows = if turn % 3 == 0 { any_table(&mut random) } else { damaged_rows(&mut random) };
-        let length = if turn % 2 == 0 { 1_200 } else { random.place(600) };
+        let length = if turn % 2 == 0 { delkuthi::TABLE_LIMIT } else { random.place(600) };
         let (tables, printed) = made(&rows, length, &mut seen);
         given += &tables;
         expected += &printed;

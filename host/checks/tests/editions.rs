@@ -3,14 +3,15 @@
 
 use checks::editions::{FORMS, Form};
 use delkuthi::{Monitor, TABLE_LIMIT, WORDS};
+use model::limits::SHORT_ROW;
 use model::random::Random;
 use model::random::recordings::recording;
 use model::random::seen::Seen;
 use model::random::tables::{Scale, any_table, any_table_in, damaged_rows, damaged_table, row_of_type, table};
 use model::types::{delay, order};
 use model::{
-    Constraint, NEWEST_EDITION, Refusal, TYPES, edition_of, read_table_up_to, recording_bytes, refused_row_in,
-    table_bytes_in, write_table_in,
+    Constraint, NEWEST_EDITION, Refusal, TYPES, edition_of, read_table_up_to, recording_bytes, refused_short_in,
+    short_body, table_bytes_in, write_short_in,
 };
 
 /// A recording for the rows: 0@10, tick 14.
@@ -68,23 +69,21 @@ fn known(type_byte: u8, edition: u8) -> bool {
     TYPES.contains(&type_byte) && (type_byte <= 10 || edition == 2)
 }
 
-/// The 34 bytes of a row for the writer.
-fn raw(row: &Constraint) -> Vec<u8> {
-    let mut body = table_bytes_in(1, std::slice::from_ref(row)).split_off(3);
-    body.resize(34, 0);
-    body
+/// Can the row be given by value?
+fn is_short(row: &Constraint) -> bool {
+    row.body().len() <= SHORT_ROW
 }
 
 /// What the writer of a form answers, and leaves in a buffer, is what the model's does.
 fn compare_writer(form: &Form, rows: &[Constraint], length: usize, seen: &mut Seen) {
-    let bodies: Vec<u8> = rows.iter().flat_map(raw).collect();
+    let bodies: Vec<u8> = rows.iter().flat_map(short_body).collect();
     let (mut one, mut other) = (vec![0xA5; length], vec![0xA5; length]);
     let answer = form.write(&bodies, &mut one);
-    let expected = write_table_in(form.newest, rows, &mut other);
+    let expected = write_short_in(form.newest, rows, &mut other);
     assert_eq!(answer.map_err(|refusal| refusal.number), expected, "{rows:?}");
     assert_eq!(one, other, "{rows:?}");
     if let Err(Refusal { number, place }) = answer {
-        assert_eq!((number != 16).then_some(place), refused_row_in(form.newest, rows), "{rows:?}");
+        assert_eq!((number != 16).then_some(place), refused_short_in(form.newest, rows), "{rows:?}");
         seen.refusal(number);
     }
 }
@@ -96,13 +95,13 @@ fn every_type_byte_to_the_writers() {
         for like in TYPES {
             let row = row_of_type(&mut random, like, Scale::Small, &[0, 1, 2, 3]);
             for type_byte in 0..=255 {
-                let mut bodies = [raw(&order()), raw(&row)].concat();
+                let mut bodies = [short_body(&order()), short_body(&row)].concat();
                 bodies[34] = type_byte;
                 let mut buffer = [0; TABLE_LIMIT];
                 let answer = form.write(&bodies, &mut buffer).map_err(|Refusal { number, place }| (number, place));
                 if !known(type_byte, form.newest) {
                     assert_eq!(answer, Err((4, 1)), "type {type_byte}");
-                } else if type_byte == like {
+                } else if type_byte == like && is_short(&row) {
                     let table = table_bytes_in(form.newest, &[order(), row.clone()]);
                     assert_eq!((answer, &buffer[..table.len()]), (Ok(table.len()), &table[..]));
                 }
@@ -131,12 +130,14 @@ fn there_and_back_in_each_edition() {
     let mut random = Random::new(1104);
     for form in &FORMS {
         for _ in 0..2_000 {
-            let rows = any_table(&mut random);
+            let mut rows = any_table(&mut random);
+            rows.retain(is_short);
             if edition_of(&rows) > form.newest {
                 continue;
             }
             let mut buffer = [0; TABLE_LIMIT];
-            let written = form.write(&rows.iter().flat_map(raw).collect::<Vec<u8>>(), &mut buffer).expect("a table");
+            let written =
+                form.write(&rows.iter().flat_map(short_body).collect::<Vec<u8>>(), &mut buffer).expect("a table");
             assert_eq!(buffer[..written], table_bytes_in(form.newest, &rows));
             assert_eq!(read_table_up_to(form.newest, &buffer[..written]), Ok(rows));
             assert_eq!(refused(form, &buffer[..written]), None);

@@ -48,6 +48,9 @@ fn by_definitions() -> BTreeMap<String, u64> {
         ("NEWEST_EDITION", last_types().len() as u64),
         ("FIRST_EDITION_TYPES", last_types()[0]),
         ("TABLE_LIMIT", table_limit()),
+        ("LONGEST_ROW", longest_row()),
+        // the first forms, unless the host asks for the second ones
+        ("EDITION", 1),
         ("OPEN", definition(LENT_DEFINED, "wordOf (some Verdict.Open)")),
         ("KEPT", definition(LENT_DEFINED, "wordOf (some Verdict.Kept)")),
         ("BROKEN", definition(LENT_DEFINED, "wordOf (some (Verdict.Broken n))")),
@@ -71,9 +74,10 @@ fn list_of_types(name: &str) -> Vec<u64> {
     list.split(" ∷ ").filter_map(|one| one.parse().ok()).collect()
 }
 
-/// The bytes of the longest row, by the list of lengths.
+/// The bytes of the longest row, by the lists of lengths, of entries and of their numbers.
 fn longest_row() -> u64 {
-    list_of_types("lengths").into_iter().max().expect("a length")
+    let entries = list_of_types("entrySizes").into_iter().zip(list_of_types("mostCounts")).map(|(size, n)| size * n);
+    list_of_types("lengths").into_iter().zip(entries).map(|(length, entries)| length + entries).max().expect("a length")
 }
 
 /// The last type of each edition of the table, from the first on.

@@ -20,6 +20,12 @@ enum At {
 
 impl Refusal {
     pub(crate) const NO_ROW: Refusal = Refusal { number: 15, at: None };
+    pub(crate) const NO_ROOM: Refusal = Refusal { number: 16, at: None };
+
+    /// The refusal of a row of a list of rows.
+    pub(crate) fn of_row(number: u8, row: usize) -> Refusal {
+        Refusal { number, at: Some(At::Row(row)) }
+    }
 
     /// Decodes the answer of a call that reads a table or records: the place in their bytes, times 256, plus the number.
     pub(crate) fn of_bytes(answer: u64) -> Result<(), Refusal> {

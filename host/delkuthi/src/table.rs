@@ -1,12 +1,13 @@
 //! Rows, by the names of their fields, and the table writer.
 
 use crate::ffi;
+use crate::monitor::Monitor;
 use crate::refusal::Refusal;
 
-/// The length of the longest table: a version byte, and for each of 32 rows a length field and at most 34 bytes.
-pub const TABLE_LIMIT: usize = 1153;
+/// The length of the longest table: a version byte, and for each of 32 rows a length field and at most 131 bytes.
+pub const TABLE_LIMIT: usize = 1 + crate::ROW_LIMIT * (2 + LONGEST);
 // begin no limit: made by release/row-types.py
-/// The upper of a Delay, Repeat or Sporadic that has no upper limit.
+/// The upper of a Delay, Repeat or Sporadic, or a maximum of an Arbitrary, that has no upper limit.
 pub const NO_LIMIT: u64 = u64::MAX;
 // end no limit
 
@@ -17,7 +18,9 @@ pub const NEWEST_EDITION: u8 = 2;
 const FIRST_EDITION_TYPES: u8 = 10;
 // end first edition
 
-/// The bytes of a row for the writer: as many as the longest row has. The rest are 0.
+/// The bytes of the longest row.
+const LONGEST: usize = 131;
+/// The bytes of a row for the writer of rows that are not longer. The rest are 0.
 const ROW_SIZE: usize = 34;
 /// How many rows the writer reads at most: the 33rd is refused.
 const ASKED: usize = crate::ROW_LIMIT + 1;
@@ -49,76 +52,161 @@ pub enum Row<'a> {
     Repetition { event: u8, span: u8, lower: u64, upper: u64, jitter: u64 },
     /// Each event of the kinds, 2 to 4 of them, lies in a window of `tolerance` in which every kind has an event.
     Synchronization { kinds: &'a [u8], tolerance: u64 },
+    /// The latest stimulus of a colour comes `minimum` to `maximum` before each response of that colour.
+    Age { stimulus: u8, response: u8, minimum: u64, maximum: u64 },
+    /// The first responses of a colour that has a stimulus, of all 2 to 4 kinds, are at most `tolerance` apart and not before a stimulus.
+    OutputSynchronization { stimulus: u8, responses: &'a [u8], tolerance: u64 },
+    /// The latest stimuli of a colour that has a response, of all 2 to 4 kinds, are at most `tolerance` apart and not after a response.
+    InputSynchronization { stimuli: &'a [u8], response: u8, tolerance: u64 },
+    /// Each event is 0 to `jitter` after one of 1 to 8 `offsets` from a hidden start, all of them again after each `period`.
+    Pattern { event: u8, period: u64, jitter: u64, minimum: u64, offsets: &'a [u64] },
+    /// In each 2, 3 and so on up to 9 consecutive events the last comes as long after the first as the pair for their number says.
+    Arbitrary { event: u8, pairs: &'a [(u64, u64)] },
+    /// `left` and `right` compare as `operator` says: 1 is <=, 2 is <, 3 is >=, 4 is >, 5 is =.
+    Comparison { operator: u8, left: u64, right: u64 },
     // end rows
 }
 
 /// Writes the table of some rows, in the lowest edition that has all their types. Returns the number of bytes written. Bytes
 /// behind the table stay as they were. A refusal writes nothing.
 ///
+/// A table with a Pattern or an Arbitrary takes 45 KiB of stack.
+///
 /// # Errors
 /// 3 to 7 and 18, with the first row concerned ([`Refusal::row`]); 16 a buffer too short.
 pub fn write_table(rows: &[Row], table: &mut [u8]) -> Result<usize, Refusal> {
-    let mut bodies = [0; ROW_SIZE * ASKED];
-    for (body, row) in bodies.chunks_exact_mut(ROW_SIZE).zip(rows) {
-        body.copy_from_slice(&row.body());
-    }
     let asked = &rows[..rows.len().min(ASKED)];
+    if asked.iter().any(Row::is_long) {
+        return write_long_rows(asked, table);
+    }
+    let mut bodies = [0; ROW_SIZE * ASKED];
+    for (body, row) in bodies.chunks_exact_mut(ROW_SIZE).zip(asked) {
+        body.copy_from_slice(&row.body().bytes[..ROW_SIZE]);
+    }
     let bytes = &bodies[..asked.len() * ROW_SIZE];
     let writer = if asked.iter().all(|row| row.edition() == 1) { ffi::delkuthi_table } else { ffi::delkuthi_table_2 };
     // SAFETY: the pointers and lengths are slices', and the table's memory is not that of the rows.
     Refusal::of_writer(unsafe { writer(bytes.as_ptr(), bytes.len(), table.as_mut_ptr(), table.len()) })
 }
 
+/// The same for rows of any length: the table is written aside, and a fresh monitor asks its questions.
+fn write_long_rows(rows: &[Row], table: &mut [u8]) -> Result<usize, Refusal> {
+    let mut made = [0; TABLE_LIMIT + 2 + LONGEST];
+    made[0] = NEWEST_EDITION;
+    let mut length = 1;
+    for row in rows {
+        let Body { bytes, length: size } = row.body();
+        made[length..length + 2].copy_from_slice(&(size as u16).to_be_bytes());
+        made[length + 2..length + 2 + size].copy_from_slice(&bytes[..size]);
+        length += 2 + size;
+    }
+    Monitor::fresh(&made[..length]).map_err(|refusal| {
+        let before = |row: &Row| 2 + row.body().length as u64;
+        let ends = rows.iter().scan(1, |end, row| Some(core::mem::replace(end, *end + before(row))));
+        let place = refusal.place().unwrap_or(0);
+        Refusal::of_row(refusal.number(), ends.take_while(|begin| *begin < place).count())
+    })?;
+    let Some(place) = table.get_mut(..length) else { return Err(Refusal::NO_ROOM) };
+    place.copy_from_slice(&made[..length]);
+    Ok(length)
+}
+
 impl Row<'_> {
     /// The first edition that has the row's type. A table with such a row has this edition or a later one.
     pub fn edition(&self) -> u8 {
-        if self.body()[0] <= FIRST_EDITION_TYPES { 1 } else { 2 }
+        if self.body().bytes[0] <= FIRST_EDITION_TYPES { 1 } else { 2 }
     }
 
-    /// The row's type byte and fields, as many bytes as the longest row has.
-    fn body(&self) -> [u8; ROW_SIZE] {
+    /// Is it of a type whose rows may have more than 34 bytes?
+    fn is_long(&self) -> bool {
+        // begin long rows: made by release/row-types.py
+        matches!(self, Row::Pattern { .. } | Row::Arbitrary { .. })
+        // end long rows
+    }
+
+    /// The row's type byte and fields.
+    fn body(&self) -> Body {
         // begin bodies: made by release/row-types.py
         match *self {
-            Row::Delay { source, target, lower, upper } => body(&[1, source, target], &[lower, upper]),
-            Row::StrongDelay { source, target, lower, upper } => body(&[2, source, target], &[lower, upper]),
-            Row::Repeat { event, span, lower, upper } => body(&[3, event, span], &[lower, upper]),
+            Row::Delay { source, target, lower, upper } => Body::of(&[1, source, target]).times(&[lower, upper]),
+            Row::StrongDelay { source, target, lower, upper } => Body::of(&[2, source, target]).times(&[lower, upper]),
+            Row::Repeat { event, span, lower, upper } => Body::of(&[3, event, span]).times(&[lower, upper]),
             Row::Sporadic { event, lower, upper, jitter, minimum } => {
-                body(&[4, event], &[lower, upper, jitter, minimum])
+                Body::of(&[4, event]).times(&[lower, upper, jitter, minimum])
             }
-            Row::Burst { event, maximum, length, minimum } => body(&[5, event, maximum], &[length, minimum]),
-            Row::Order { source, target } => body(&[6, source, target], &[]),
+            Row::Burst { event, maximum, length, minimum } => Body::of(&[5, event, maximum]).times(&[length, minimum]),
+            Row::Order { source, target } => Body::of(&[6, source, target]),
             Row::StrongSynchronization { kinds, tolerance } => {
-                let n = kinds.len().min(4);
-                let mut bytes = [7, kinds.len().min(255) as u8, 0, 0, 0, 0];
-                bytes[2..2 + n].copy_from_slice(&kinds[..n]);
-                body(&bytes[..2 + n], &[tolerance])
+                Body::of(&[7, number(kinds)]).kinds(kinds).times(&[tolerance])
             }
             Row::ExecutionTime { start, stop, preempt, resume, lower, upper } => {
-                body(&[8, start, stop, preempt, resume], &[lower, upper])
+                Body::of(&[8, start, stop, preempt, resume]).times(&[lower, upper])
             }
             Row::Reaction { stimulus, response, minimum, maximum } => {
-                body(&[9, stimulus, response], &[minimum, maximum])
+                Body::of(&[9, stimulus, response]).times(&[minimum, maximum])
             }
-            Row::Repetition { event, span, lower, upper, jitter } => body(&[10, event, span], &[lower, upper, jitter]),
+            Row::Repetition { event, span, lower, upper, jitter } => {
+                Body::of(&[10, event, span]).times(&[lower, upper, jitter])
+            }
             Row::Synchronization { kinds, tolerance } => {
-                let n = kinds.len().min(4);
-                let mut bytes = [11, kinds.len().min(255) as u8, 0, 0, 0, 0];
-                bytes[2..2 + n].copy_from_slice(&kinds[..n]);
-                body(&bytes[..2 + n], &[tolerance])
+                Body::of(&[11, number(kinds)]).kinds(kinds).times(&[tolerance])
             }
+            Row::Age { stimulus, response, minimum, maximum } => {
+                Body::of(&[12, stimulus, response]).times(&[minimum, maximum])
+            }
+            Row::OutputSynchronization { stimulus, responses, tolerance } => {
+                Body::of(&[13, number(responses), stimulus]).kinds(responses).times(&[tolerance])
+            }
+            Row::InputSynchronization { stimuli, response, tolerance } => {
+                Body::of(&[14, number(stimuli)]).kinds(stimuli).bytes(&[response]).times(&[tolerance])
+            }
+            Row::Pattern { event, period, jitter, minimum, offsets } => {
+                Body::of(&[15, number(offsets), event]).times(&[period, jitter, minimum]).times(offsets)
+            }
+            Row::Arbitrary { event, pairs } => Body::of(&[16, number(pairs), event]).pairs(pairs),
+            Row::Comparison { operator, left, right } => Body::of(&[17, operator]).times(&[left, right]),
         }
         // end bodies
     }
 }
 
-/// Bytes, then times, the most significant byte first, then zeros.
-fn body(bytes: &[u8], times: &[u64]) -> [u8; ROW_SIZE] {
-    let mut body = [0; ROW_SIZE];
-    body[..bytes.len()].copy_from_slice(bytes);
-    for (place, time) in body[bytes.len()..].chunks_exact_mut(8).zip(times) {
-        place.copy_from_slice(&time.to_be_bytes());
+/// The n of a list: if it is too long for a byte, a number that is refused as well.
+fn number<T>(list: &[T]) -> u8 {
+    list.len().min(255) as u8
+}
+
+/// The bytes of a row, and how many there are. The rest are 0.
+struct Body {
+    bytes: [u8; LONGEST],
+    length: usize,
+}
+
+impl Body {
+    /// The type, and what stands behind it.
+    fn of(bytes: &[u8]) -> Body {
+        Body { bytes: [0; LONGEST], length: 0 }.bytes(bytes)
     }
-    body
+
+    fn bytes(mut self, bytes: &[u8]) -> Body {
+        self.bytes[self.length..self.length + bytes.len()].copy_from_slice(bytes);
+        self.length += bytes.len();
+        self
+    }
+
+    /// The kinds of a list, at most as many as a row may have.
+    fn kinds(self, kinds: &[u8]) -> Body {
+        self.bytes(&kinds[..kinds.len().min(4)])
+    }
+
+    /// Times, the most significant byte first, at most as many as a row may have in a list.
+    fn times(self, times: &[u64]) -> Body {
+        times.iter().take(8).fold(self, |body, time| body.bytes(&time.to_be_bytes()))
+    }
+
+    /// Pairs of times, at most as many as a row may have.
+    fn pairs(self, pairs: &[(u64, u64)]) -> Body {
+        pairs.iter().take(8).fold(self, |body, (minimum, maximum)| body.times(&[*minimum, *maximum]))
+    }
 }
 
 /// The name of a row type, as a page has it, and as `delkuthi_type_text` of the header gives it.

@@ -4,8 +4,11 @@ use crate::contract::ROOM;
 use crate::vector::Vector;
 use model::contract::text;
 use model::notation::steps;
+use model::types::{age, arbitrary, comparison, input_synchronization, output_synchronization, pattern};
 use model::types::{delay, order, repeat, strong_delay};
-use model::{Constraint, LAST_COUNT, LAST_TIME, RECORD_LIMIT, Step, recording_bytes, table_bytes};
+use model::{
+    Constraint, LAST_COUNT, LAST_TIME, NO_LIMIT, RECORD_LIMIT, Step, recording_bytes, table_bytes, table_bytes_in,
+};
 
 /// All of them.
 pub fn vectors() -> Vec<Vector> {
@@ -68,12 +71,18 @@ fn late_stamps_refused() -> Vector {
     vector
 }
 
-/// The rows that the contract writes in hexadecimal (§4.12 to §4.14), with a version byte in front of them.
+/// The rows that the contract writes in hexadecimal (§4.12 to §4.18), with a version byte in front of them.
 fn tables_of_the_contract() -> Vec<Vec<u8>> {
     let rows = [
         (1, "0015 08 00 01 02 03 0000000000000002 0000000000000005"),
         (1, "001B 0A 00 02 000000000000000A 000000000000000A 0000000000000005"),
         (2, "000C 0B 02 00 01 0000000000000002"),
+        (2, "0013 0C 30 31 0000000000000002 0000000000000004"),
+        (2, "000D 0D 02 30 31 32 0000000000000002"),
+        (2, "000D 0E 02 30 31 32 0000000000000002"),
+        (2, "002B 0F 02 00 000000000000000A 0000000000000001 0000000000000000 0000000000000000 0000000000000003"),
+        (2, "0023 10 02 00 0000000000000000 0000000000000004 0000000000000000 0000000000000006"),
+        (2, "0012 11 01 0000000000000003 0000000000000005"),
     ];
     let contract = text();
     let table = |(edition, row)| {
@@ -104,6 +113,23 @@ fn odd_tables() -> Vec<Vec<u8>> {
         [(4, 1), (4, 47), (4, 48), (4, 63), (4, 64), (5, 0), (5, 255)].map(|(place, byte)| changed(place, byte)),
     );
     made.extend([(6, 15), (6, 16), (13, 4), (14, 15), (14, 16), (14, 255)].map(|(place, byte)| changed(place, byte)));
+    made.extend(odd_rows().iter().map(|row| table_bytes_in(2, &[order(), row.clone()])));
+    made
+}
+
+/// Rows of types 12 to 17 at the edge of each question: n, operator, sort of kinds, times, order.
+fn odd_rows() -> Vec<Constraint> {
+    let mut made = vec![age(5, 4), age(0, LAST_TIME), age(0, LAST_TIME + 1), age(0, NO_LIMIT)];
+    made.extend((0..=6).flat_map(|n| [output_synchronization(n, 2), input_synchronization(n, 2)]));
+    made.extend([0, 1, 8, 9].map(|n| pattern(9, 1, 0, &(0..n).collect::<Vec<u64>>())));
+    made.extend([[3, 2], [3, 3], [2, 3], [0, LAST_TIME], [0, LAST_TIME + 1]].map(|offsets| pattern(9, 1, 0, &offsets)));
+    made.extend([0, 1, 8, 9].map(|n| arbitrary(&vec![(1, 5); n])));
+    made.extend(
+        [(5, 4), (5, 5), (0, NO_LIMIT), (NO_LIMIT, NO_LIMIT), (0, NO_LIMIT - 1)].map(|pair| arbitrary(&[(0, 9), pair])),
+    );
+    made.extend(
+        (0..=6).flat_map(|operator| [(3, 3), (3, 5), (5, 3)].map(|(left, right)| comparison(operator, left, right))),
+    );
     made
 }
 

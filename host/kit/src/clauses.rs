@@ -46,6 +46,10 @@ pub const RULES: &[(&str, &str)] = &[
     ("4.12", "fresh, type 8"),
     ("4.13", "fresh, type 10"),
     ("4.14", "fresh, type 11"),
+    ("4.15", "fresh, type 12"),
+    ("4.16", "fresh, type 14"),
+    ("4.17", "fresh, type 16"),
+    ("4.18", "fresh, type 17"),
     ("5.1.3", "broken by another step, type 1"),
     ("5.1.5", "open 1, broken 1"),
     ("5.2.4", "open 2, broken 2"),
@@ -57,6 +61,8 @@ pub const RULES: &[(&str, &str)] = &[
     ("5.10.5", "open 10, broken 10"),
     ("5.11.1", "open 11, kept 11"),
     ("5.11.6", "open 11, broken 11"),
+    ("5.12.4", "open 12, broken 12"),
+    ("5.15.8", "open 15, broken 15"),
     ("6.1", "waits 1"),
     ("6.2", "waits 2"),
     ("6.3", "waits 7"),
@@ -168,6 +174,8 @@ pub const RULES: &[(&str, &str)] = &[
     ("16.5", "edition 2 refused"),
     ("16.6", "form 1, form 2, edition 1"),
     ("16.7", "table written 2"),
+    ("16.9", "edition 2"),
+    ("16.10", "not: about versions to come"),
 ];
 
 /// How a clause is covered.

@@ -7,9 +7,11 @@ use model::contract::Asked;
 use model::random::calls::calls;
 use model::random::recordings::{damaged_recording, recording, refused_recording};
 use model::random::tables::{Scale, any_table, damaged_rows, damaged_table, pool, row_of_type, table};
-use model::random::{Random, executions, repetitions};
+use model::random::{Random, executions, one_row, repetitions};
 use model::types::repeat;
-use model::{Constraint, Monitor, NO_LIMIT, Step, TYPES, edition_of, recording_bytes, table_bytes, table_bytes_in};
+use model::{
+    Constraint, Monitor, NO_LIMIT, Step, TYPES, Verdict, edition_of, recording_bytes, table_bytes, table_bytes_in,
+};
 
 const SEED: u64 = 2026;
 
@@ -22,6 +24,9 @@ pub fn vectors() -> Vec<Vector> {
     }
     made.extend((0..90).map(|_| execution(&mut random)));
     made.extend((0..90).map(|_| repetition(&mut random)));
+    for number in TYPES.into_iter().filter(|number| *number >= one_row::FIRST) {
+        made.extend((0..90).map(|_| alone(&mut random, number)));
+    }
     made.extend((0..320).map(|_| mixed(&mut random)));
     made.extend((0..200).map(|_| damaged(&mut random)));
     made.extend((0..140).map(|_| joined(&mut random)));
@@ -78,6 +83,21 @@ fn repetition(random: &mut Random) -> Vector {
         let _ = model.step(step);
     }
     closed(random, &model, "random, repetitions")
+}
+
+/// A row of types 12 to 17 that stays open for some steps, and is then broken, mostly.
+fn alone(random: &mut Random, number: u8) -> Vector {
+    let row = one_row::row(random, number);
+    let mut model = Monitor::fresh(std::slice::from_ref(&row)).expect("an accepted row");
+    let wrong_at = random.below(30);
+    for _ in 0..12 + random.place(16) {
+        let wrong = model.count() >= wrong_at && model.verdict(0) == Ok(Verdict::Open);
+        let step = one_row::next_step(random, &row, model.recorded(), wrong);
+        if step != Step::Close {
+            let _ = model.step(step);
+        }
+    }
+    closed(random, &model, &format!("random, type {number} alone"))
 }
 
 /// The steps that a model took, and mostly a close.

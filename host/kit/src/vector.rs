@@ -5,9 +5,9 @@ use crate::bytes::{put_bytes, put_number, put_text, put_way};
 use model::join::{Input, join};
 use model::recording::{put_record, read_record};
 use model::{
-    Constraint, Monitor, NEWEST_EDITION, NO_LIMIT, Refusal, Stamped, Step, Verdict, edition_of, page_text,
-    read_table_up_to, refused_row_in, report_of, report_text_up_to, shortest_stretch_up_to, stamped_up_to,
-    table_bytes_in, write_table_in,
+    Constraint, Monitor, NEWEST_EDITION, NO_LIMIT, Refusal, Stamped, Step, Verdict, page_text, read_table_up_to,
+    refused_short_in, report_of, report_text_up_to, short_body, shortest_stretch_up_to, stamped_up_to, table_bytes_in,
+    write_short_in,
 };
 use std::collections::BTreeSet;
 
@@ -387,11 +387,11 @@ impl Vector {
     pub fn write(&mut self, edition: u8, rows: &[Constraint], room: usize) {
         self.item(Item::Write);
         self.bytes.push(edition);
-        let bodies: Vec<u8> = rows.iter().flat_map(body).collect();
+        let bodies: Vec<u8> = rows.iter().flat_map(short_body).collect();
         put_bytes(&mut self.bytes, &bodies);
         put_number(&mut self.bytes, room as u64);
         let mut buffer = vec![0; room];
-        match write_table_in(edition, rows, &mut buffer) {
+        match write_short_in(edition, rows, &mut buffer) {
             Ok(length) => {
                 put_number(&mut self.bytes, 256 * length as u64);
                 put_text(&mut self.bytes, &buffer[..length]);
@@ -400,7 +400,7 @@ impl Vector {
                 assert!(read == rows && table_bytes_in(edition, &read) == buffer[..length]);
             }
             Err(number) => {
-                let row = if number == 16 { 0 } else { refused_row_in(edition, rows).expect("a refused row") };
+                let row = if number == 16 { 0 } else { refused_short_in(edition, rows).expect("a refused row") };
                 put_number(&mut self.bytes, 256 * row as u64 + u64::from(number));
                 put_text(&mut self.bytes, b"");
                 self.refused(number);
@@ -521,13 +521,6 @@ fn put_row(bytes: &mut Vec<u8>, row: usize, verdict: Verdict, waiting: u64, dead
     }
     put_number(bytes, waiting);
     put_number(bytes, deadline.wrapping_add(1));
-}
-
-/// The 34 bytes of a row for the table writer.
-fn body(row: &Constraint) -> Vec<u8> {
-    let mut body = table_bytes_in(edition_of(std::slice::from_ref(row)), std::slice::from_ref(row)).split_off(3);
-    body.resize(34, 0);
-    body
 }
 
 /// The monitor that a report leaves: none if the table is refused (§7.22).

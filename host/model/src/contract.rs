@@ -1,7 +1,7 @@
 //! `docs/CONTRACT.md` as data: its clauses, and its examples to be executed.
 
 use crate::notation::steps;
-use crate::types::Given;
+use crate::types::{Given, LAST_TYPE};
 use crate::{Constraint, NO_LIMIT, Step, recording_bytes};
 use std::collections::HashMap;
 use std::fs;
@@ -25,7 +25,23 @@ pub struct Clause {
 
 /// The clauses of the contract, in its order.
 pub fn clauses(text: &str) -> Vec<Clause> {
+    every_clause(text).into_iter().filter(|clause| is_ready(&clause.number)).collect()
+}
+
+/// The same with those that are about types that the library does not have.
+pub fn every_clause(text: &str) -> Vec<Clause> {
     text.lines().filter_map(clause).collect()
+}
+
+/// The last type of a row in a clause that is not in section 5 and is about types of the second edition.
+const ABOUT: [(&str, u8); 7] =
+    [("4.15", 12), ("4.16", 14), ("4.17", 16), ("4.18", 17), ("16.9", 17), ("16.10", 17), ("16.11", 17)];
+
+/// Is it about types that the library has, or about none? In section 5 the second number is the type's.
+fn is_ready(clause: &str) -> bool {
+    let in_section_5 = clause.strip_prefix("5.").and_then(|rest| rest.split('.').next()?.parse::<u8>().ok());
+    let about = ABOUT.iter().find(|(one, _)| *one == clause).map(|(_, last)| *last);
+    in_section_5.or(about).is_none_or(|last| last <= LAST_TYPE)
 }
 
 /// The clause that a line begins, if it begins one.
@@ -62,7 +78,8 @@ pub fn every_block(text: &str) -> Vec<Block<'_>> {
             under = Some(clause.number);
         }
     }
-    blocks.retain(|block| !block.sort.is_empty());
+    let is_ready = |clause: &Option<String>| clause.as_ref().is_none_or(|clause| is_ready(clause));
+    blocks.retain(|block| !block.sort.is_empty() && is_ready(&block.clause));
     blocks
 }
 
@@ -124,6 +141,11 @@ impl Words<'_> {
 }
 
 impl Given for Words<'_> {
+    /// The list itself says how long it is.
+    fn number(&mut self) -> Option<()> {
+        Some(())
+    }
+
     fn byte(&mut self, name: &str) -> Option<u8> {
         self.time(name).and_then(|value| u8::try_from(value).ok())
     }
@@ -134,6 +156,16 @@ impl Given for Words<'_> {
 
     fn kinds(&mut self, name: &str) -> Option<Vec<u8>> {
         self.0.get(name)?.iter().map(|kind| u8::try_from(*kind).ok()).collect()
+    }
+
+    fn times(&mut self, name: &str) -> Option<Vec<u64>> {
+        self.0.get(name).cloned()
+    }
+
+    /// The lower and the upper of the first pair, of the second, and so on.
+    fn pairs(&mut self, name: &str) -> Option<Vec<(u64, u64)>> {
+        let pair = |pair: &[u64]| Some((pair[0], *pair.get(1)?));
+        self.0.get(name)?.chunks(2).map(pair).collect()
     }
 }
 
@@ -265,13 +297,16 @@ pub fn files(text: &str) -> Vec<(Vec<u8>, Vec<u8>, String)> {
     blocks(text, "file").iter().map(|lines| file(lines)).collect()
 }
 
-/// The file in the lines of a block.
+/// The file in the lines of a block. Its bytes may take several lines, all but the first of which are indented.
 ///
 /// # Panics
 /// Where they are none.
 pub fn file(lines: &[&str]) -> (Vec<u8>, Vec<u8>, String) {
-    let report = lines[2..].iter().map(|line| format!("{line}\n")).collect();
-    (bytes(lines[0], "table"), bytes(lines[1], "recording"), report)
+    let long = |from: usize| lines[from + 1..].iter().take_while(|line| line.starts_with(' ')).count() + 1;
+    let (table, rest) = lines.split_at(long(0));
+    let (recording, report) = rest.split_at(long(table.len()));
+    let report = report.iter().map(|line| format!("{line}\n")).collect();
+    (bytes(&table.concat(), "table"), bytes(&recording.concat(), "recording"), report)
 }
 
 /// "table 01 0003": the bytes in hexadecimal after a name.

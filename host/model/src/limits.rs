@@ -20,6 +20,8 @@ pub const NO_LIMIT: u64 = u64::MAX;
 pub const NEWEST_EDITION: u8 = 2;
 /// How many rows a table has at most (§4.2).
 pub const ROW_LIMIT: usize = 32;
+/// How many bytes a row has that is given by value (§11.5).
+pub const SHORT_ROW: usize = 34;
 /// How large spans and maxima are at most (§4.6).
 pub const SPAN_LIMIT: u8 = 64;
 /// How large the span of a Repetition is at most (§4.6).

@@ -30,6 +30,12 @@ pub fn spans_apart(span: u8, lower: u64, upper: u64, events: &[u64]) -> bool {
     events.windows(span + 1).all(|consecutive| apart(lower, upper, consecutive[0], consecutive[span]))
 }
 
+/// Are the events that have none span places after them at most upper before the clock, where upper may be the mark?
+pub fn not_silent(span: u8, upper: u64, events: &[u64], clock: u64) -> bool {
+    let last = events.len().saturating_sub(usize::from(span));
+    events[last..].iter().all(|event| not_later(upper, *event, clock))
+}
+
 /// Are neighbours at least minimum apart?
 pub fn at_least_apart(minimum: u64, events: &[u64]) -> bool {
     spans_apart(1, minimum, NO_LIMIT, events)

@@ -21,10 +21,16 @@ pub fn ask(number: u8, yes: bool) -> Answer {
 
 /// Questions 3 to 7 and 18, row by row, as fresh and the table writer put them (§9.7), of a table of this edition (§16.4).
 pub fn rows_questions(edition: u8, rows: &[Constraint]) -> Answer {
+    rows_questions_within(usize::MAX, edition, rows)
+}
+
+/// The same of rows that are given in this many bytes each (§11.5).
+pub fn rows_questions_within(room: usize, edition: u8, rows: &[Constraint]) -> Answer {
     for (before, row) in rows.iter().enumerate() {
         ask(3, before < ROW_LIMIT)?;
-        // the type of a row is known, and it has no length
-        ask(4, row.edition() <= edition && row.fields().iter().all(Field::number_of_kinds_fits))?;
+        // the type of a row is known, and its own length is the right one
+        let known = row.edition() <= edition && row.fields().iter().all(Field::number_fits);
+        ask(4, known && row.body().len() <= room)?;
         fields_questions(row)?;
     }
     Ok(())
@@ -35,7 +41,7 @@ pub fn fields_questions(row: &Constraint) -> Answer {
     ask(5, kinds_fit(&row.kinds()))?;
     ask(18, row.fields().iter().all(Field::sort_fits))?;
     ask(6, row.fields().iter().all(Field::in_range))?;
-    ask(7, row.as_type().bounds().is_none_or(|(lower, upper)| lower <= upper))
+    ask(7, row.as_type().in_order())
 }
 
 /// Question 5 (§8.5).

@@ -2,6 +2,7 @@
 
 pub mod calls;
 pub mod executions;
+pub mod one_row;
 pub mod recordings;
 pub mod repetitions;
 pub mod script;

@@ -3,14 +3,13 @@
 //! The newest edition that a call takes is 1 for the calls of the first edition and 2 for their second forms. The functions that do
 //! not say it are the second forms, on tables of the edition that their rows need.
 
-use crate::limits::{NEWEST_EDITION, ROW_LIMIT};
-use crate::questions::{Refusal, ask, fields_questions, rows_questions};
+use crate::limits::{NEWEST_EDITION, ROW_LIMIT, SHORT_ROW};
+use crate::questions::{Refusal, ask, fields_questions, rows_questions, rows_questions_within};
 use crate::types::{Constraint, Field, Given};
 
 /// A row's bytes (§4.3), whatever stands in the fields.
 fn row_bytes(row: &Constraint) -> Vec<u8> {
-    let fields = row.fields();
-    with_length(&std::iter::once(row.type_byte()).chain(fields.iter().flat_map(Field::bytes)).collect::<Vec<u8>>())
+    with_length(&row.body())
 }
 
 /// A length field of two bytes, the most significant first (§4.1), and these bytes behind it.
@@ -37,7 +36,16 @@ pub fn edition_of(rows: &[Constraint]) -> u8 {
 /// Writes the table in an edition and answers the number of bytes written, or the number of the refusal: questions 3 to 7 and 18,
 /// then 16 (§9.7, §9.8, §16.4).
 pub fn write_table_in(edition: u8, rows: &[Constraint], buffer: &mut [u8]) -> Result<usize, u8> {
-    rows_questions(edition, rows)?;
+    write_within(usize::MAX, edition, rows, buffer)
+}
+
+/// The same of rows that are given by value, in 34 bytes each (§11.5).
+pub fn write_short_in(edition: u8, rows: &[Constraint], buffer: &mut [u8]) -> Result<usize, u8> {
+    write_within(SHORT_ROW, edition, rows, buffer)
+}
+
+fn write_within(room: usize, edition: u8, rows: &[Constraint], buffer: &mut [u8]) -> Result<usize, u8> {
+    rows_questions_within(room, edition, rows)?;
     let bytes = table_bytes_in(edition, rows);
     ask(16, bytes.len() <= buffer.len())?;
     buffer[..bytes.len()].copy_from_slice(&bytes);
@@ -52,6 +60,18 @@ pub fn write_table(rows: &[Constraint], buffer: &mut [u8]) -> Result<usize, u8> 
 /// The number of the first row that is refused, as the writer of an edition puts its questions row by row (§11.5).
 pub fn refused_row_in(edition: u8, rows: &[Constraint]) -> Option<usize> {
     (0..rows.len()).find(|row| rows_questions(edition, &rows[..=*row]).is_err())
+}
+
+/// The same of rows that are given in 34 bytes each.
+pub fn refused_short_in(edition: u8, rows: &[Constraint]) -> Option<usize> {
+    (0..rows.len()).find(|row| rows_questions_within(SHORT_ROW, edition, &rows[..=*row]).is_err())
+}
+
+/// The 34 bytes of a row, of which those past its end do not count (§11.5).
+pub fn short_body(row: &Constraint) -> Vec<u8> {
+    let mut body = row.body();
+    body.resize(SHORT_ROW, 0);
+    body
 }
 
 /// The same in the edition that the rows need.
@@ -99,25 +119,44 @@ pub(crate) fn body_at_start(bytes: &[u8]) -> Option<&[u8]> {
 
 /// Question 4 (§8.4) but for the edition: the row that a body stands for, if it is one of a type's, neither shorter nor longer.
 fn row_of(body: &[u8]) -> Option<Constraint> {
-    let (number, mut left) = body.split_first()?;
-    let row = Constraint::read(*number, &mut left)?;
-    (left.is_empty() && row.fields().iter().all(Field::number_of_kinds_fits)).then_some(row)
+    let (number, left) = body.split_first()?;
+    let mut given = Body { n: 0, left };
+    let row = Constraint::read(*number, &mut given)?;
+    (given.left.is_empty() && row.fields().iter().all(Field::number_fits)).then_some(row)
 }
 
-/// The bytes of a row's fields, one after the other (§4.4).
-impl Given for &[u8] {
+/// The bytes of a row's fields, one after the other (§4.4), and the n that stands before them.
+struct Body<'a> {
+    n: u8,
+    left: &'a [u8],
+}
+
+impl Given for Body<'_> {
+    fn number(&mut self) -> Option<()> {
+        self.n = self.byte("n")?;
+        Some(())
+    }
+
     fn byte(&mut self, _name: &str) -> Option<u8> {
-        self.split_off_first().copied()
+        self.left.split_off_first().copied()
     }
 
     fn time(&mut self, _name: &str) -> Option<u64> {
-        let (bytes, left) = self.split_first_chunk::<8>()?;
-        *self = left;
+        let (bytes, left) = self.left.split_first_chunk::<8>()?;
+        self.left = left;
         Some(u64::from_be_bytes(*bytes))
     }
 
     fn kinds(&mut self, name: &str) -> Option<Vec<u8>> {
-        (0..self.byte("n")?).map(|_| self.byte(name)).collect()
+        (0..self.n).map(|_| self.byte(name)).collect()
+    }
+
+    fn times(&mut self, name: &str) -> Option<Vec<u64>> {
+        (0..self.n).map(|_| self.time(name)).collect()
+    }
+
+    fn pairs(&mut self, name: &str) -> Option<Vec<(u64, u64)>> {
+        (0..self.n).map(|_| Some((self.time(name)?, self.time(name)?))).collect()
     }
 }
 

@@ -2,10 +2,16 @@
 
 // begin modules: made by release/row-types.py
 
+mod age;
+mod arbitrary;
 mod burst;
+mod comparison;
 mod delay;
 mod execution_time;
+mod input_synchronization;
 mod order;
+mod output_synchronization;
+mod pattern;
 mod reaction;
 mod repeat;
 mod repetition;
@@ -14,10 +20,16 @@ mod strong_delay;
 mod strong_synchronization;
 mod synchronization;
 
+pub use age::{Age, age};
+pub use arbitrary::{Arbitrary, arbitrary};
 pub use burst::{Burst, burst};
+pub use comparison::{Comparison, comparison};
 pub use delay::{Delay, delay};
 pub use execution_time::{ExecutionTime, Executions, Part, execution_time};
+pub use input_synchronization::{InputSynchronization, input_synchronization};
 pub use order::{Order, order};
+pub use output_synchronization::{OutputSynchronization, output_synchronization};
+pub use pattern::{Pattern, pattern};
 pub use reaction::{Reaction, reaction};
 pub use repeat::{Repeat, repeat};
 pub use repetition::{Repetition, repetition};
@@ -29,7 +41,7 @@ pub use synchronization::{Synchronization, synchronization};
 // end modules
 
 use crate::continuation::Event;
-use crate::limits::{FIRST_COLOURED, LAST_COLOUR, LAST_TIME, NO_LIMIT, stream};
+use crate::limits::{FIRST_COLOURED, LAST_COLOUR, LAST_TIME, NEWEST_EDITION, NO_LIMIT, stream};
 use crate::random::Random;
 use crate::random::tables::Draw;
 use crate::steps::{Events, History};
@@ -59,6 +71,7 @@ macro_rules! row_type {
 
         impl $crate::types::Fields for $name {
             fn read(given: &mut dyn $crate::types::Given) -> Option<$name> {
+                $(row_type!(@number $role, given);)*
                 Some($name { $($field: row_type!(@read $role, given, stringify!($field))?,)* })
             }
 
@@ -74,13 +87,27 @@ macro_rules! row_type {
     (@type Time) => { u64 };
     (@type Limit) => { u64 };
     (@type Kinds) => { Vec<u8> };
+    (@type Coloureds) => { Vec<u8> };
+    (@type Offsets) => { Vec<u64> };
+    (@type Pairs) => { Vec<(u64, u64)> };
     (@type $byte:ident) => { u8 };
+    (@number Kinds, $given:expr) => { $given.number()? };
+    (@number Coloureds, $given:expr) => { $given.number()? };
+    (@number Offsets, $given:expr) => { $given.number()? };
+    (@number Pairs, $given:expr) => { $given.number()? };
+    (@number $role:ident, $given:expr) => {};
     (@read Time, $given:expr, $name:expr) => { $given.time($name) };
     (@read Limit, $given:expr, $name:expr) => { $given.time($name) };
     (@read Kinds, $given:expr, $name:expr) => { $given.kinds($name) };
+    (@read Coloureds, $given:expr, $name:expr) => { $given.kinds($name) };
+    (@read Offsets, $given:expr, $name:expr) => { $given.times($name) };
+    (@read Pairs, $given:expr, $name:expr) => { $given.pairs($name) };
     (@read $byte:ident, $given:expr, $name:expr) => { $given.byte($name) };
     (@field Count($most:expr), $value:expr) => { $crate::types::Field::Count { value: $value, most: $most } };
     (@field Kinds, $value:expr) => { $crate::types::Field::Kinds($value.clone()) };
+    (@field Coloureds, $value:expr) => { $crate::types::Field::Coloureds($value.clone()) };
+    (@field Offsets, $value:expr) => { $crate::types::Field::Offsets($value.clone()) };
+    (@field Pairs, $value:expr) => { $crate::types::Field::Pairs($value.clone()) };
     (@field $role:ident, $value:expr) => { $crate::types::Field::$role($value) };
     (@bounds) => { None };
     (@bounds $lower:expr, $upper:expr) => { Some(($lower, $upper)) };
@@ -92,6 +119,11 @@ pub(crate) use row_type;
 pub trait RowType: Fields {
     /// Is the definition true of all these events together, at the clock that they close at (section 5)?
     fn meets(&self, events: &dyn Events) -> bool;
+
+    /// Question 7: is what has an order in order (§8.7)? In most types these are the two bounds, if there are such.
+    fn in_order(&self) -> bool {
+        self.bounds().is_none_or(|(lower, upper)| lower <= upper)
+    }
 
     /// How many wait, if the row is open: in most types nothing (§6.4).
     fn waiting(&self, _recorded: &History) -> usize {
@@ -136,12 +168,18 @@ pub trait RowType: Fields {
 
 /// What the fields of a row are read from: bytes, or words with the fields' names.
 pub trait Given {
+    /// The n of the row's list, before all fields (§4.5), if it is given.
+    fn number(&mut self) -> Option<()>;
     /// The field of this name, of one byte.
     fn byte(&mut self, name: &str) -> Option<u8>;
     /// The time of this name.
     fn time(&mut self, name: &str) -> Option<u64>;
     /// The kinds of this name, any number of them.
     fn kinds(&mut self, name: &str) -> Option<Vec<u8>>;
+    /// The times of this name, any number of them.
+    fn times(&mut self, name: &str) -> Option<Vec<u64>>;
+    /// The pairs of times of this name, any number of them.
+    fn pairs(&mut self, name: &str) -> Option<Vec<(u64, u64)>>;
 }
 
 /// Streams, and whether events of theirs are as is asked.
@@ -157,14 +195,22 @@ pub enum Field {
     Kind(u8),
     /// A coloured kind.
     Coloured(u8),
-    /// Two to four plain kinds; their number stands before them.
+    /// Two to four plain kinds.
     Kinds(Vec<u8>),
+    /// Two to four coloured kinds.
+    Coloureds(Vec<u8>),
     /// A number from 1 to `most`.
     Count { value: u8, most: u8 },
+    /// One of the five operators of a comparison.
+    Operator(u8),
     /// A time.
     Time(u64),
     /// A time, or the mark for no upper limit (§4.7).
     Limit(u64),
+    /// One to eight times.
+    Offsets(Vec<u64>),
+    /// One to eight pairs of a time and a limit.
+    Pairs(Vec<(u64, u64)>),
 }
 
 impl Field {
@@ -172,60 +218,80 @@ impl Field {
     pub fn kinds(&self) -> Vec<u8> {
         match self {
             Field::Kind(kind) | Field::Coloured(kind) => vec![*kind],
-            Field::Kinds(kinds) => kinds.clone(),
-            Field::Count { .. } | Field::Time(_) | Field::Limit(_) => Vec::new(),
+            Field::Kinds(kinds) | Field::Coloureds(kinds) => kinds.clone(),
+            _ => Vec::new(),
         }
+    }
+
+    /// Whether its kinds are to be coloured.
+    fn is_coloured(&self) -> bool {
+        matches!(self, Field::Coloured(_) | Field::Coloureds(_))
     }
 
     /// The streams of its kinds: of a coloured one those of each colour.
     pub fn streams(&self) -> Vec<u8> {
+        let colours = |kind: u8| (0..=LAST_COLOUR).map(move |colour| stream(kind, colour));
+        if self.is_coloured() { self.kinds().into_iter().flat_map(colours).collect() } else { self.kinds() }
+    }
+
+    /// The times in it, the mark too.
+    pub fn times(&self) -> Vec<u64> {
         match self {
-            Field::Coloured(kind) => (0..=LAST_COLOUR).map(|colour| stream(*kind, colour)).collect(),
-            _ => self.kinds(),
+            Field::Time(time) | Field::Limit(time) => vec![*time],
+            Field::Offsets(times) => times.clone(),
+            Field::Pairs(pairs) => pairs.iter().flat_map(|(lower, upper)| [*lower, *upper]).collect(),
+            _ => Vec::new(),
         }
     }
 
-    /// The time in it, the mark too.
-    pub fn time(&self) -> Option<u64> {
+    /// The length of the list in it, if it has one.
+    pub fn number(&self) -> Option<usize> {
         match self {
-            Field::Time(time) | Field::Limit(time) => Some(*time),
+            Field::Kinds(kinds) | Field::Coloureds(kinds) => Some(kinds.len()),
+            Field::Offsets(times) => Some(times.len()),
+            Field::Pairs(pairs) => Some(pairs.len()),
             _ => None,
         }
     }
 
-    /// Question 4 but for the length: is the number of kinds in range (§8.4)?
-    pub fn number_of_kinds_fits(&self) -> bool {
-        !matches!(self, Field::Kinds(kinds) if !(2..=4).contains(&kinds.len()))
+    /// Question 4 but for type and length: is n, or the operator, in range (§8.4)?
+    pub fn number_fits(&self) -> bool {
+        match self {
+            Field::Kinds(kinds) | Field::Coloureds(kinds) => (2..=4).contains(&kinds.len()),
+            Field::Offsets(times) => (1..=8).contains(&times.len()),
+            Field::Pairs(pairs) => (1..=8).contains(&pairs.len()),
+            Field::Operator(operator) => (1..=5).contains(operator),
+            _ => true,
+        }
     }
 
     /// Question 18: are its kinds of the right sort (§8.18)?
     pub fn sort_fits(&self) -> bool {
-        let coloured = matches!(self, Field::Coloured(_));
-        self.kinds().iter().all(|kind| (*kind >= FIRST_COLOURED) == coloured)
+        self.kinds().iter().all(|kind| (*kind >= FIRST_COLOURED) == self.is_coloured())
     }
 
     /// Question 6: is it in range (§8.6)?
     pub fn in_range(&self) -> bool {
+        let is_time = |time: &u64| *time <= LAST_TIME;
+        let is_limit = |time: &u64| is_time(time) || *time == NO_LIMIT;
         match self {
-            Field::Kind(_) | Field::Coloured(_) | Field::Kinds(_) => true,
             Field::Count { value, most } => (1..=*most).contains(value),
-            Field::Time(time) => *time <= LAST_TIME,
-            Field::Limit(time) => *time <= LAST_TIME || *time == NO_LIMIT,
+            Field::Time(time) => is_time(time),
+            Field::Limit(time) => is_limit(time),
+            Field::Offsets(times) => times.iter().all(is_time),
+            Field::Pairs(pairs) => pairs.iter().all(|(lower, upper)| is_time(lower) && is_limit(upper)),
+            _ => true,
         }
     }
 
-    /// Its bytes (§4.4).
-    ///
-    /// # Panics
-    /// Where there are more kinds than a byte can say.
+    /// Its bytes (§4.4). The n of a list is not among them.
     pub fn bytes(&self) -> Vec<u8> {
         match self {
-            Field::Kind(byte) | Field::Coloured(byte) | Field::Count { value: byte, .. } => vec![*byte],
-            Field::Kinds(kinds) => {
-                let number = u8::try_from(kinds.len()).expect("a number of one byte");
-                std::iter::once(number).chain(kinds.iter().copied()).collect()
+            Field::Kind(byte) | Field::Coloured(byte) | Field::Count { value: byte, .. } | Field::Operator(byte) => {
+                vec![*byte]
             }
-            Field::Time(time) | Field::Limit(time) => time.to_be_bytes().to_vec(),
+            Field::Kinds(kinds) | Field::Coloureds(kinds) => kinds.clone(),
+            _ => self.times().into_iter().flat_map(u64::to_be_bytes).collect(),
         }
     }
 }
@@ -241,13 +307,11 @@ macro_rules! row_types {
             $(#[doc = concat!("Type ", $number, ".")] $name($name),)*
         }
 
-        /// The numbers of the types (§4.5).
-        pub const TYPES: [u8; [$($number),*].len()] = [$($number),*];
-
         /// The numbers of the types that an edition of the table has (§16.2).
         pub fn types_in(edition: u8) -> Vec<u8> {
             let first = [$(($number, $edition)),*];
-            first.into_iter().filter(|(_, first)| *first <= edition).map(|(number, _)| number).collect()
+            let known = first.into_iter().filter(|(number, first)| *first <= edition && *number <= LAST_TYPE);
+            known.map(|(number, _)| number).collect()
         }
 
         impl Constraint {
@@ -258,7 +322,10 @@ macro_rules! row_types {
 
             /// The first edition of the table that has its type (§16.2).
             pub fn edition(&self) -> u8 {
-                match self { $(Constraint::$name(_) => $edition,)* }
+                match self {
+                    $(Constraint::$name(_) if $number > LAST_TYPE => NEWEST_EDITION + 1,
+                    Constraint::$name(_) => $edition,)*
+                }
             }
 
             /// The name of its type in TADL2, without "Constraint".
@@ -306,6 +373,21 @@ macro_rules! row_types {
     };
 }
 
+/// The last type that the library has. The model has more: with the feature `every_type` they are types of the newest edition,
+/// without it they are of none.
+pub const LAST_TYPE: u8 = if cfg!(feature = "every_type") { 17 } else { 11 };
+
+/// The numbers of the types (§4.5).
+pub const TYPES: [u8; LAST_TYPE as usize] = {
+    let mut types = [0; LAST_TYPE as usize];
+    let mut place = 0;
+    while place < types.len() {
+        types[place] = place as u8 + 1;
+        place += 1;
+    }
+    types
+};
+
 row_types! {
     // begin list: made by release/row-types.py
     1 => Delay from 1,
@@ -319,6 +401,12 @@ row_types! {
     9 => Reaction from 1,
     10 => Repetition from 1,
     11 => Synchronization from 2,
+    12 => Age from 2,
+    13 => OutputSynchronization from 2,
+    14 => InputSynchronization from 2,
+    15 => Pattern from 2,
+    16 => Arbitrary from 2,
+    17 => Comparison from 2,
     // end list
 }
 
@@ -338,9 +426,20 @@ impl Constraint {
         self.fields().iter().flat_map(Field::streams).collect()
     }
 
-    /// The fields that are times, in their order.
+    /// The times in the fields, in their order.
     pub fn times(&self) -> Vec<u64> {
-        self.fields().iter().filter_map(Field::time).collect()
+        self.fields().iter().flat_map(Field::times).collect()
+    }
+
+    /// The row's bytes behind its length field: the type, the n if it has one, the fields (§4.3, §4.5).
+    ///
+    /// # Panics
+    /// Where a list is longer than a byte can say.
+    pub fn body(&self) -> Vec<u8> {
+        let fields = self.fields();
+        let number = |field: &Field| field.number().map(|number| u8::try_from(number).expect("a number of one byte"));
+        let first = std::iter::once(self.type_byte()).chain(fields.iter().find_map(number));
+        first.chain(fields.iter().flat_map(Field::bytes)).collect()
     }
 
     /// How many wait in the row, if it is open (§6.1 to §6.4).

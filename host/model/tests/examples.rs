@@ -3,9 +3,11 @@
 mod common;
 
 use common::{delay, fresh, verdicts};
+use model::contract;
 use model::examples::examples;
 use model::search::open_by_search;
-use model::{Constraint, History, Step, Verdict};
+use model::{Constraint, History, Step, TYPES, Verdict, report_text};
+use std::collections::BTreeSet;
 
 /// What the row reads by the definitions alone (§2.4 to §2.6).
 fn by_search(row: &Constraint, steps: &[Step]) -> Verdict {
@@ -53,4 +55,37 @@ fn example_13() {
     assert_eq!((verdicts(&monitor).as_str(), monitor.recorded().count()), ("open", 66));
     assert_eq!(monitor.close(), Ok(()));
     assert_eq!(verdicts(&monitor), "kept");
+}
+
+/// Every example of the contract; those of the second edition's types by search too.
+#[test]
+fn the_contracts_examples() {
+    let mut types = BTreeSet::new();
+    for contract::Example { rows, recordings } in contract::examples(&contract::text()) {
+        types.extend(rows.iter().map(Constraint::type_byte));
+        for recording in recordings {
+            let mut monitor = fresh(&rows);
+            for (step, expected) in recording {
+                let answer = match step {
+                    Some(step) => monitor.step(step),
+                    None => monitor.withdraw(),
+                };
+                let read = verdicts(&monitor).replace(", ", "/");
+                let told = answer.map_or_else(|number| format!("refused {number}"), |()| read);
+                assert_eq!(expected.as_ref().unwrap_or(&told), &told, "{rows:?}: {step:?}");
+                for (row, verdict) in rows.iter().zip(monitor.verdicts()).filter(|(row, _)| row.type_byte() > 11) {
+                    assert_eq!(by_search(row, monitor.steps()), verdict, "{row:?}: {step:?}");
+                }
+            }
+        }
+    }
+    assert_eq!(types, BTreeSet::from(TYPES));
+}
+
+/// Every file of the contract.
+#[test]
+fn the_contracts_files() {
+    for (table, recording, report) in contract::files(&contract::text()) {
+        assert_eq!(report_text(&table, &recording), report, "{table:02x?}");
+    }
 }

@@ -296,6 +296,7 @@ fn reads(row: &Constraint, accepted: &[Step]) -> Verdict {
 fn too_many_places(row: &Constraint) -> bool {
     match row {
         Constraint::ExecutionTime(ExecutionTime { lower, .. }) => *lower > 1,
+        Constraint::OutputSynchronization(_) | Constraint::InputSynchronization(_) => row.kinds().len() > 4,
         row => row.kinds().len() > 2,
     }
 }
@@ -304,7 +305,7 @@ fn too_many_places(row: &Constraint) -> bool {
 fn lists_of_calls_by_the_definitions_alone() {
     let mut random = Random::new(3);
     let mut seen = Seen::default();
-    for _ in 0..1_500 {
+    for _ in 0..4_000 {
         let rows: Vec<Constraint> = (0..2).map(|_| row(&mut random, Scale::Small, &[0, 1, 2, 3])).collect();
         if rows.iter().any(too_many_places) {
             continue;

@@ -12,10 +12,8 @@ from .times import LeftOut, whole_number
 
 #: An event of a row: the path of one that the file describes, or what happens to a runnable.
 EventOf = Union[str, TaskSource]
-#: What a field of a row has: an event, several, a time in nanoseconds or a count, several of them, or no limit.
-Field = Union[EventOf, tuple[EventOf, ...], tuple[int, ...], int, None]
-#: The types that a constraint may need and that the library does not have yet. One that comes is a name less here.
-LATER = ("Age", "OutputSynchronization", "InputSynchronization", "Pattern", "Arbitrary")
+#: What a field of a row has: an event, several, a time in nanoseconds or a count, several of them or pairs of them, or no limit.
+Field = Union[EventOf, tuple[EventOf, ...], tuple[int, ...], tuple[tuple[int, int], ...], int, None]
 #: The largest number of events in a synchronization.
 _TOGETHER = 4
 
@@ -41,9 +39,7 @@ class Taken:
 
 
 def row(type_name: str, **values: Field) -> RowOf:
-    """A row of a type; left out if the library has no such type yet."""
-    if type_name in LATER:
-        raise LeftOut(f"it needs a row of the type {type_name}, which the library does not have yet")
+    """A row of a type."""
     return RowOf(type_name, values)
 
 
@@ -54,7 +50,7 @@ def taken(model: Model, part: Part, coloured: Callable[[str], bool]) -> Taken:
         if (found := node.child(name)) is not None:
             raise LeftOut(f"{why.format(found.text)} ({name}), which a table cannot say")
     unread = unknown_fields(model.unknown, node, CONSTRAINTS[node.name])
-    result = _LATENCIES[node.name](model, node, coloured) if node.name in _LATENCIES else _OTHERS[node.name](model, node)
+    result = _CHAINS[node.name](model, node, coloured) if node.name in _CHAINS else _OTHERS[node.name](model, node)
     result.weaker += [f"{name} is unknown" for name in dict.fromkeys(unread)]
     return result
 
@@ -95,7 +91,7 @@ def _concrete_pattern(model: Model, node: Node) -> Taken:
         raise LeftOut("PATTERN-LENGTH has to be at least the greatest of the OFFSETS, and with PATTERN-JITTER less than PATTERN-PERIOD")
     if jitter:
         raise LeftOut("PATTERN-JITTER moves the start of each repetition, while the jitter of a Pattern moves each event")
-    return Taken([row("Pattern", event=event, period=period, jitter=0, minimum=0, offsets=tuple(offsets))])
+    return Taken([row("Pattern", event=event, period=period, jitter=0, minimum=0, offsets=tuple(sorted(offsets)))])
 
 
 #: What is said of every Burst, by section 2.2.3 of the comparison.
@@ -118,7 +114,7 @@ def _arbitrary(model: Model, node: Node) -> Taken:
     event, minima, maxima = model.event(node, "EVENT-REF"), times_of(node, "MINIMUM-DISTANCES"), times_of(node, "MAXIMUM-DISTANCES")
     if not minima or len(minima) != len(maxima):
         raise LeftOut(f"it has {len(minima)} MINIMUM-DISTANCES and {len(maxima)} MAXIMUM-DISTANCES, as many of both are needed")
-    found = Taken([row("Arbitrary", event=event, minima=tuple(minima), maxima=tuple(maxima))])
+    found = Taken([row("Arbitrary", event=event, pairs=tuple(zip(minima, maxima)))])
     if node.child("CONFIDENCE-INTERVALS") is not None:
         found.weaker.append("CONFIDENCE-INTERVALS: a table has no probabilities")
     return found
@@ -152,7 +148,7 @@ def _age(model: Model, node: Node, coloured: Callable[[str], bool]) -> Taken:
 _SINGLE, _MULTIPLE = ("SINGLE-OCCURRENCE", "SINGLE-OCCURRENCES"), ("MULTIPLE-OCCURRENCES", "MULTIPLE-OCCURRENCE")
 
 
-def _synchronization(model: Model, node: Node) -> Taken:
+def _synchronization(model: Model, node: Node, coloured: Callable[[str], bool]) -> Taken:
     """By the attributes, as table 2.2 of the comparison has it."""
     tolerance = _needed(node, "TOLERANCE", time_of(node, "TOLERANCE"))
     kind, chains = node.value("EVENT-OCCURRENCE-KIND"), node.child("SCOPE-REFS")
@@ -165,14 +161,15 @@ def _synchronization(model: Model, node: Node) -> Taken:
         named = [model.resolved(one, model.events, "an event") for one in events.children]
         return _together(named, kind in _SINGLE, tolerance, [] if kind else [_NO_KIND])
     assert chains is not None
-    return _of_chains(node, [model.ends(model.resolved(one, model.chains, "a chain")) for one in chains.children], kind, tolerance)
+    ends = [model.ends(model.resolved(one, model.chains, "a chain")) for one in chains.children]
+    return _of_chains(node, ends, kind, tolerance, all(coloured(event) for chain in ends for event in chain))
 
 
 _NO_KIND = "EVENT-OCCURRENCE-KIND is missing, so the weaker of its two meanings is asked"
 
 
-def _of_chains(node: Node, chains: list[tuple[str, str]], kind: str, tolerance: int) -> Taken:
-    """The synchronization of the responses, or of the stimuli, of chains: a row about the chains, and one about these events alone."""
+def _of_chains(node: Node, chains: list[tuple[str, str]], kind: str, tolerance: int, coloured: bool) -> Taken:
+    """The synchronization of the responses, or of the stimuli, of chains: by their colours if they have such, else of these events alone."""
     which = node.value("SYNCHRONIZATION-CONSTRAINT-TYPE")
     if which not in ("RESPONSE-SYNCHRONIZATION", "STIMULUS-SYNCHRONIZATION"):
         raise LeftOut(f"its SYNCHRONIZATION-CONSTRAINT-TYPE is {which or 'missing'}, and not RESPONSE- or STIMULUS-SYNCHRONIZATION")
@@ -180,15 +177,17 @@ def _of_chains(node: Node, chains: list[tuple[str, str]], kind: str, tolerance: 
     shared, several = ({chain[0 if output else 1] for chain in chains}, [chain[1 if output else 0] for chain in chains])
     if len(shared) > 1:
         raise LeftOut(f"the chains do not have one {'stimulus' if output else 'response'} in common")
+    type_name, one, many = ("OutputSynchronization", "stimulus", "responses") if output else ("InputSynchronization", "response", "stimuli")
     # Table 2.2 has a Synchronization for single stimuli too.
     found = _together(several, output and kind in _SINGLE, tolerance, [] if kind else [_NO_KIND])
-    type_name, one, many = ("OutputSynchronization", "stimulus", "responses") if output else ("InputSynchronization", "response", "stimuli")
-    try:
-        values: dict[str, Field] = {one: shared.pop(), many: tuple(several), "tolerance": tolerance}
-        found.rows.append(replace(row(type_name, **values), suffix=f" ({type_name})"))
-    except LeftOut as reason:
-        found.weaker.append(f"{reason}: only the {many} are asked to come together")
-    return found
+    plain = found.rows[0].type
+    if not coloured:
+        found.weaker.append(f"the events have no colours, which a row of the type {type_name} needs: only the {many} are asked to come together")
+        return found
+    if len(several) > _TOGETHER:
+        raise LeftOut(f"it names {len(several)} chains, and a row of the type {type_name} has at most {_TOGETHER}")
+    values: dict[str, Field] = {one: shared.pop(), many: tuple(several), "tolerance": tolerance}
+    return Taken([row(type_name, **values)], [], [f"the {many} have colours, which no {plain} has: each chain is asked for by its colour"])
 
 
 def _together(events: list[str], single: bool, tolerance: int, weaker: list[str]) -> Taken:
@@ -268,9 +267,10 @@ def _execution_time(model: Model, node: Node) -> Taken:
 
 _OTHERS: dict[str, Callable[[Model, Node], Taken]] = {
     "PERIODIC-EVENT-TRIGGERING": _periodic, "SPORADIC-EVENT-TRIGGERING": _sporadic, "CONCRETE-PATTERN-EVENT-TRIGGERING": _concrete_pattern,
-    "BURST-PATTERN-EVENT-TRIGGERING": _burst, "ARBITRARY-EVENT-TRIGGERING": _arbitrary, "SYNCHRONIZATION-TIMING-CONSTRAINT": _synchronization,
+    "BURST-PATTERN-EVENT-TRIGGERING": _burst, "ARBITRARY-EVENT-TRIGGERING": _arbitrary,
     "SYNCHRONIZATION-POINT-CONSTRAINT": _synchronization_point, "OFFSET-TIMING-CONSTRAINT": _offset,
     "EXECUTION-ORDER-CONSTRAINT": _execution_order, "EXECUTION-TIME-CONSTRAINT": _execution_time,
 }
 #: Those whose row depends on whether events have colours.
-_LATENCIES: dict[str, Callable[[Model, Node, Callable[[str], bool]], Taken]] = {"LATENCY-TIMING-CONSTRAINT": _latency, "AGE-CONSTRAINT": _age}
+_CHAINS: dict[str, Callable[[Model, Node, Callable[[str], bool]], Taken]] = {
+    "LATENCY-TIMING-CONSTRAINT": _latency, "AGE-CONSTRAINT": _age, "SYNCHRONIZATION-TIMING-CONSTRAINT": _synchronization}

@@ -4,8 +4,9 @@ from __future__ import annotations
 from collections import Counter
 from dataclasses import asdict, dataclass, field
 from pathlib import Path
-from typing import Iterable, Sequence
+from typing import Iterable, Iterator, Sequence
 
+from ..fields import KIND_ROLES, MOST
 from ..readers.base import LogError, ending
 from ..rowtypes import BY_NAME
 from ..source_text import quoted, source_text
@@ -228,7 +229,9 @@ class _Composer:
         if value is None:
             return "none"
         if isinstance(value, tuple):
-            return " ".join(self._value(one, "kind" if role == "kinds" else "time") for one in value)
+            between, one_role = (", ", role) if role == "pairs" else (" ", "kind" if role in KIND_ROLES else "time")
+            return between.join(f"{exact(one[0], 'ns')} .. {exact(one[1], 'ns')}" if isinstance(one, tuple) else self._value(one, one_role)
+                                for one in value)
         if isinstance(value, int):
             return exact(value, "ns") if role in ("time", "limit") else str(value)
         return self._names[value]
@@ -252,6 +255,15 @@ def _events_of(value: Field) -> list[EventOf]:
 
 def _unit(rows: list[RowOf]) -> str:
     """The coarsest unit in which all times of some rows are whole."""
-    times = [one for row in rows for part in BY_NAME[row.type].fields if part.role not in ("count", "few")
-             for value in [row.values.get(part.name)] for one in (value if isinstance(value, tuple) else (value,)) if isinstance(one, int)]
+    values = [row.values.get(part.name) for row in rows for part in BY_NAME[row.type].fields if part.role not in MOST]
+    times = [time for value in values for time in _times_of(value)]
     return max((unit for unit in UNITS if all(time % UNITS[unit] == 0 for time in times)), key=lambda unit: UNITS[unit])
+
+
+def _times_of(value: Field) -> Iterator[int]:
+    """The times among the values of a field."""
+    if isinstance(value, int):
+        yield value
+    elif isinstance(value, tuple):
+        for one in value:
+            yield from one if isinstance(one, tuple) else [one] if isinstance(one, int) else []

@@ -49,7 +49,7 @@ class Policy:
       (``sort``), lines of one stamp in their order.
     - ``round``: a stamp that is not a whole number of the table's unit is an error, or counts as the nearest one.
     - ``from_zero``: the first stamp counts as 0, and the others from there.
-    - ``as_stamped``: the monitor's clock is the stamps', not ahead of them by the largest jitter of the table.
+    - ``as_stamped``: the monitor's clock is the stamps', not ahead of them by the room for hidden points.
     - ``until``: the clock goes on to this stamp, in the table's unit, after the last line.
     - ``close``: the end of the log is the end of the recording; else rows that are not broken stay open.
     - ``time_column`` and the others: what the columns of a sheet are called, where they have not the usual names.

@@ -27,7 +27,7 @@ def reason(case: Case) -> Reason | None:
             return gap(case, one, before, None, upper)
     first = max(len(times) - span, 0)
     if upper != NO_LIMIT and first < len(times) and case.clock > times[first] + upper:
-        return silent(case, Blamed(kind, first), times[first] + upper, f", at most {case.long(upper)} is asked")
+        return silent(case, Blamed(kind, first), times[first] + upper, f", at most {case.long(upper)} is asked", span)
     return None
 
 

@@ -2,6 +2,7 @@
 //! concerns. It keeps the same waiting sources and gives the same answers and verdicts as the proved one; it can withdraw the last
 //! step, for which each row keeps the few numbers that an event changes.
 
+mod later;
 pub mod report;
 mod ring;
 mod rule;

@@ -1,5 +1,6 @@
 //! A row's constraint with what it keeps of the events so far, changed in place.
 
+use super::later::{self, Later};
 use super::ring::{Ends, Ring};
 use model::limits::stream;
 use model::types::{
@@ -9,7 +10,7 @@ use model::types::{
 use model::{Constraint, NO_LIMIT};
 
 /// The last type that the plain monitor has, and the edition of the table that ends with it.
-pub const LAST_TYPE: u8 = 11;
+pub const LAST_TYPE: u8 = model::types::LAST_TYPE;
 pub const LAST_EDITION: u8 = 2;
 
 /// No time: later than all.
@@ -40,6 +41,8 @@ pub enum Rule {
     Repetition { span: u64, lower: u64, upper: u64, jitter: u64, places: Ring },
     /// The first time that is too late for a window with the last event of each kind, and the oldest event in no full window.
     Synchronization { kinds: [u8; 4], tolerance: u64, over: [u64; 4], owed: u64 },
+    /// Types 12 to 17.
+    Later(Later),
 }
 
 /// What an event changes of a rule, as it was before: of each type only its own part counts.
@@ -50,6 +53,7 @@ pub struct Before {
     counts: [u8; 4],
     phase: Phase,
     colour: Colour,
+    later: later::Before,
 }
 
 /// What an event leaves of a row that is still open: the last clock at which it is open if none of its events comes, and
@@ -86,7 +90,7 @@ impl Rule {
     /// The rule before any event.
     ///
     /// # Panics
-    /// If the row is of a type behind [`LAST_TYPE`].
+    /// If the row's type has no rule.
     pub fn new(row: &Constraint) -> Rule {
         match *row {
             Constraint::Delay(Delay { source, lower, upper, .. }) => {
@@ -119,8 +123,7 @@ impl Rule {
                 let kinds = four(list);
                 Rule::Synchronization { kinds, tolerance, over: kinds.map(over_before), owed: NEVER }
             }
-            #[allow(unreachable_patterns, reason = "where no type is of a later edition")]
-            ref later => panic!("type {} is of a later edition", later.type_byte()),
+            ref later => Rule::Later(Later::new(later).expect("a type that has a rule")),
         }
     }
 
@@ -187,6 +190,7 @@ impl Rule {
             Rule::Sporadic { .. } => self.sporadic_event(time, before),
             Rule::ExecutionTime { .. } => self.execution_event(kind, time, before),
             Rule::Repetition { .. } => self.repetition_event(time, before),
+            Rule::Later(rule) => rule.event(kind, time, &mut before.later).map(|due| Left { due, full: false }),
         }
     }
 
@@ -212,6 +216,7 @@ impl Rule {
             Rule::Reaction { colours, .. } => colours[usize::from(stream % 8)] = before.colour,
             Rule::Repetition { places, .. } => places.restore(before.ends),
             Rule::Synchronization { kinds, over, owed, .. } => (over[place(kinds, stream)], *owed) = (first, second),
+            Rule::Later(rule) => rule.withdraw(stream, &before.later),
         }
     }
 
@@ -295,6 +300,7 @@ impl Rule {
             Rule::Synchronization { owed, .. } => *owed == NEVER,
             Rule::ExecutionTime { phase, .. } => *phase == Phase::Idle,
             Rule::Reaction { colours, .. } => !colours.iter().any(|colour| matches!(colour, Colour::Waits { .. })),
+            Rule::Later(rule) => rule.kept(),
             Rule::Repeat { .. } | Rule::Sporadic { .. } | Rule::Repetition { .. } => true,
         }
     }

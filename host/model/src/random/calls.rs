@@ -129,11 +129,12 @@ impl Play {
         }
     }
 
-    /// A row of the table, of those not broken where there is one.
+    /// A row of the table that has kinds, of those not broken where there is one.
     fn some_row(&mut self) -> Option<Constraint> {
         let Play { random, monitor, .. } = self;
         let open = open_rows(monitor);
-        let rows = if open.is_empty() { monitor.rows().iter().collect() } else { open };
+        let mut rows = if open.is_empty() { monitor.rows().iter().collect() } else { open };
+        rows.retain(|row| !row.kinds().is_empty());
         if rows.is_empty() { None } else { Some((*random.pick(&rows)).clone()) }
     }
 

@@ -6,7 +6,9 @@ use super::calls::calls;
 use super::recordings::{damaged_recording, recording};
 use super::tables::{any_table, damaged_rows, damaged_table};
 use crate::types::repeat;
-use crate::{Constraint, LAST_TIME, NO_LIMIT, Step, edition_of, recording_bytes, table_bytes, table_bytes_in};
+use crate::{
+    Constraint, LAST_TIME, NO_LIMIT, Step, edition_of, recording_bytes, short_body, table_bytes, table_bytes_in,
+};
 
 /// Bytes in hexadecimal; "-" where there are none.
 fn hex(bytes: &[u8]) -> String {
@@ -62,15 +64,8 @@ fn put_texts(random: &mut Random, rows: &[Constraint], script: &mut Vec<String>)
         script.push(format!("{call}{} {} {} {room}", any_form(random), hex(&table), hex(&taken)));
     }
     let rows = if random.chance(50) { any_table(random) } else { damaged_rows(random) };
-    let bodies: Vec<u8> = rows.iter().flat_map(raw).collect();
+    let bodies: Vec<u8> = rows.iter().flat_map(short_body).collect();
     script.push(format!("table{} {} {}", any_form(random), hex(&bodies), random.place(1_300)));
-}
-
-/// The 34 bytes of a row for the table writer: its body, and zeros behind it.
-fn raw(row: &Constraint) -> Vec<u8> {
-    let mut body = table_bytes(std::slice::from_ref(row)).split_off(3);
-    body.resize(34, 0);
-    body
 }
 
 /// Events of some kinds at rising times, with a tick now and then.

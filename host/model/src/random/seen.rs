@@ -68,7 +68,7 @@ impl Seen {
         assert!(missing.is_empty(), "refusals never seen: {missing:?}, of {:?}", self.refusals);
     }
 
-    /// Fails the test if a row type was never open, never kept or never broken.
+    /// Fails the test if a row type was never open, never kept or never broken; but a Comparison is never broken.
     ///
     /// # Panics
     /// With the counts by type.
@@ -81,21 +81,22 @@ impl Seen {
     /// # Panics
     /// With the counts by type.
     pub fn demand_verdicts_of(&self, types: impl IntoIterator<Item = u8>) {
-        let seen = |kind| self.verdicts.get(&kind).is_some_and(|counts| counts.iter().all(|count| *count > 0));
+        // a Comparison is true before any step
+        let all = |kind| if kind == 17 { 0..2 } else { 0..3 };
+        let seen =
+            |kind| self.verdicts.get(&kind).is_some_and(|counts| counts[all(kind)].iter().all(|count| *count > 0));
         assert!(types.into_iter().all(seen), "open, kept, broken by type: {:?}", self.verdicts);
     }
 
-    /// Fails the test if silence never broke a Repeat or a Sporadic, at a tick and at an event of another kind, or never
-    /// left one kept at the last moment; or if it ever did that to a Burst or a Repetition.
+    /// Fails the test if silence never broke a Repeat, a Sporadic, a Pattern or an Arbitrary, at a tick and at an event of another
+    /// kind, or never left one kept at the last moment; or if it ever did that to a Burst, a Repetition or a Comparison.
     ///
     /// # Panics
     /// With the counts by type.
     pub fn demand_silences(&self) {
-        let seen = |kind| self.silences.get(&kind).is_some_and(|counts| counts.iter().all(|count| *count > 0));
-        assert!(
-            seen(3) && seen(4) && !self.silences.contains_key(&5) && !self.silences.contains_key(&10),
-            "by silence: {:?}",
-            self.silences
-        );
+        let seen = |kind: &u8| self.silences.get(kind).is_some_and(|counts| counts.iter().all(|count| *count > 0));
+        let never = |kind: &u8| !self.silences.contains_key(kind);
+        let silent = [3, 4, 15, 16].into_iter().filter(|kind| TYPES.contains(kind)).all(|kind| seen(&kind));
+        assert!(silent && [5, 10, 17].iter().all(never), "by silence: {:?}", self.silences);
     }
 }

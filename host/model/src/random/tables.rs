@@ -99,6 +99,13 @@ impl Draw<'_> {
     pub fn different(&mut self, number: usize) -> Vec<u8> {
         different(self.random, self.pool, number)
     }
+
+    /// Different coloured kinds, at most 16: mostly the first ones, so that rows share them.
+    pub fn coloured(&mut self, number: usize) -> Vec<u8> {
+        let last = if self.random.chance(70) { FIRST_COLOURED + number as u8 } else { LAST_KIND };
+        let coloured: Vec<u8> = (FIRST_COLOURED..=last).collect();
+        different(self.random, &coloured, number)
+    }
 }
 
 /// A row of this type, accepted, with plain kinds of the pool (at least 4).

@@ -2,10 +2,10 @@
 
 use super::{Constraint, Demand, RowType, row_type};
 use crate::continuation::Event;
-use crate::limits::{FIRST_COLOURED, LAST_COLOUR, LAST_KIND, stream};
+use crate::limits::{LAST_COLOUR, stream};
 use crate::meets::between;
 use crate::random::Random;
-use crate::random::tables::{Draw, different, odd_kind, odd_time};
+use crate::random::tables::{Draw, odd_kind, odd_time};
 use crate::steps::{Events, History};
 
 row_type! {
@@ -58,11 +58,8 @@ impl RowType for Reaction {
         (0..=LAST_COLOUR).map(of_colour).collect()
     }
 
-    /// Mostly of the first coloured kinds, so that rows share them.
     fn random(draw: &mut Draw) -> Reaction {
-        let last = if draw.random.chance(70) { FIRST_COLOURED + 2 } else { LAST_KIND };
-        let coloured: Vec<u8> = (FIRST_COLOURED..=last).collect();
-        let kinds = different(draw.random, &coloured, 2);
+        let kinds = draw.coloured(2);
         let (minimum, maximum) = draw.bounds;
         Reaction { stimulus: kinds[0], response: kinds[1], minimum, maximum }
     }

@@ -2,7 +2,7 @@
 
 use super::{Constraint, RowType, row_type};
 use crate::limits::SPAN_LIMIT;
-use crate::meets::{not_later, spans_apart};
+use crate::meets::{not_silent, spans_apart};
 use crate::random::Random;
 use crate::random::tables::{Draw, odd_kind, odd_span, odd_time};
 use crate::steps::Events;
@@ -13,19 +13,11 @@ row_type! {
     lower <= upper
 }
 
-impl Repeat {
-    /// Are the events that have none span places after them at most upper before the clock?
-    fn not_silent(&self, events: &[u64], clock: u64) -> bool {
-        let has_none = |(place, _): &(usize, &u64)| place + usize::from(self.span) >= events.len();
-        events.iter().enumerate().filter(has_none).all(|(_, event)| not_later(self.upper, *event, clock))
-    }
-}
-
 impl RowType for Repeat {
     /// Events span places apart are lower to upper apart, and those without such a one are not silent for too long.
     fn meets(&self, events: &dyn Events) -> bool {
         let (times, clock) = (events.times(self.event), events.clock());
-        spans_apart(self.span, self.lower, self.upper, times) && self.not_silent(times, clock)
+        spans_apart(self.span, self.lower, self.upper, times) && not_silent(self.span, self.upper, times, clock)
     }
 
     fn random(draw: &mut Draw) -> Repeat {

@@ -17,8 +17,8 @@ pub use Rattle.constraint.specs.Report.{EachReads, ReportOfUpTo, Reports, Repor
 pub use Rattle.constraint.specs.Report.{row-reads}
 pub use Rattle.constraint.specs.Run.{Left, Request, asks, done, stepFor}
 pub use Rattle.constraint.specs.Stamps.{AnswersStampsUpTo, RepeatRow, not-asked, stampsQuestions}
-pub use Rattle.constraint.specs.Table.{ReadsRows, ReadsTableUpTo, TableRead, bodyAt, rowBytes, rowThen, table-of, table-refused, writerQuestions}
-pub use Rattle.constraint.specs.{Accepted.Accepted, Bytes.Bytes, Limits.lastCount, Limits.rowLimit, Promise.ReadsRow, Promise.no-row, Promise.row}
+pub use Rattle.constraint.specs.Table.{ReadsRows, ReadsTableUpTo, TableRead, bodyAt, rowBody, rowBytes, rowThen, table-of, table-refused, writerQuestions}
+pub use Rattle.constraint.specs.{Accepted.Accepted, Accepted.rowQuestionsIn, Bytes.Bytes, Limits.lastCount, Limits.rowLimit, Promise.ReadsRow, Promise.no-row, Promise.row}
 pub use Rattle.constraint.specs.{Questions.Question, Steps.Step, Steps.at, Steps.close, Types.lastType, Types.typeOf, declared.Answer.Answer}
 pub use Rattle.constraint.specs.{declared.Answer.the-variants.Refused, declared.Answer.the-variants.Taken, declared.Call.Call}
 pub use Rattle.constraint.specs.{Constraint.Constraint, Constraint.Repeat, declared.JoinAnswer.JoinAnswer}
@@ -52,8 +52,8 @@ pub use Rattle.recording.specs.{Record.CallAt, declared.CallRead.CallRead}
 pub use Rattle.row.proofs.{EveryType.every-type-exact, Steps.fits-reads}
 pub use Rattle.row.specs.declared.Row.{Row}
 pub use Rattle.stamps.proofs.{Agreement.order-once, Agreement.stampedOf, Agreement.stamps-agree, Answers.within}
-pub use Rattle.table.proofs.{AcceptedRows.read-accepted, RoundTripCode.raw-read, Bodies.row-length, ReadUnique.reads-once, RawRoundTrip.raw-write}
-pub use Rattle.table.proofs.{BodyUnique.body-short}
+pub use Rattle.table.proofs.{AcceptedRows.read-accepted, RoundTripCode.raw-read, ReadUnique.reads-once, RawRoundTrip.raw-write}
+pub use Rattle.table_row.proofs.{Accepting.write-then-read as write-back, Judging.row-bytes-long, Lines.known-short}
 pub use Rattle.table.specs.Raw.{FirstRefused, RawRows, WritesRaw, all-read, rawSize, stopped-at}
 pub use Rattle.table.specs.{Writing.Writes, Writing.answerIn, declared.ReadAnswer.ReadAnswer, declared.WriteAnswer.WriteAnswer}
 pub use Rattle.text.proofs.Reports.{closed-append, closed-length, copied-reports, refused-length, reportLimit, rows-more}

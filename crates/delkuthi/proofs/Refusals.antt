@@ -1,8 +1,8 @@
 -- A refusal of the table writer has a number from 1 to 127, as each of its questions has; and a table that is written is short.
 use Rattle.delkuthi.proofs.Names.{Constraint, FirstRefused, Judged, List, MakesTableIn, Question, Refused, Taken, WriteAnswer, Writes}
-use Rattle.delkuthi.proofs.Names.{WritesRaw, [], _*_, _+_, _<_, _∷_, _≡_, _≤_, all-read, answerIn, arith, body-short, judged-parts, length}
-use Rattle.delkuthi.proofs.Names.{length-append, never, refl, row-length, rowBytes, rows-room, rows-then, rowsBytes, rowsQuestions, stopped-at}
-use Rattle.delkuthi.proofs.Names.{subst, tableBytesIn, tableNumber, writerQuestions, ℕ}
+use Rattle.delkuthi.proofs.Names.{WritesRaw, [], _*_, _+_, _<_, _∷_, _≡_, _≤_, all-read, answerIn, arith, at, judged-all, judged-parts, known-short, length}
+use Rattle.delkuthi.proofs.Names.{length-append, never, refl, row-bytes-long, rowBody, rowBytes, rowQuestionsIn, rows-room, rows-then, rowsBytes, rowsQuestions, stopped-at}
+use Rattle.delkuthi.proofs.Names.{subst, tableBytesIn, tableNumber, write-back, writerQuestions, ℕ}
 use Rattle.delkuthi.proofs.RecordNumbers.{Short, number-short, rows-short, short?}
 
 writer-number : {edition : ℕ} (rows : List Constraint) (before after : List ℕ) (r : WriteAnswer) (n : ℕ) → r ≡ WriteAnswer.Refused n
@@ -21,26 +21,42 @@ raw-number {edition} bytes before after r n e (stopped-at rows m raw more judged
     let same : m ≡ n = cc in
     subst Short same (number-short _ m (rows-short edition 0 rows _ refl) judged)
 
-rows-length : (rows : List Constraint) → length (rowsBytes rows) ≤ 40 * length rows
-unfolding rowsBytes
-rows-length [] = omega arith
-rows-length (c ∷ rows) = omega (arith, length-append (rowBytes c) (rowsBytes rows), row-length c, body-short c, rows-length rows)
+-- a row that is accepted is short
+body-short : (edition : ℕ) (c : Constraint) → Judged (rowQuestionsIn edition c) Taken → length (rowBody c) ≤ 162
+body-short edition c judged =
+    let fits = write-back edition c judged .shape-fits in
+    omega (arith, fits .length-right, known-short edition (at (rowBody c) 0) (at (rowBody c) 1) (fits .known))
 
-table-short : (edition : ℕ) (rows : List Constraint) → length (tableBytesIn edition rows) ≤ 1 + 40 * length rows
+rows-length : (edition i : ℕ) (rows : List Constraint) → Judged (rowsQuestions edition i rows []) Taken
+    → length (rowsBytes rows) ≤ 164 * length rows
+unfolding rowsBytes rowsQuestions
+rows-length edition i [] judged = omega arith
+rows-length edition i (c ∷ rows) judged =
+    let parts = judged-parts (rowQuestionsIn edition c) (rowsQuestions edition (i + 1) rows []) (judged-all 3 _ _ judged .1) in
+    omega (
+      arith,
+      length-append (rowBytes c) (rowsBytes rows),
+      row-bytes-long c,
+      body-short edition c (parts .0),
+      rows-length edition (i + 1) rows (parts .1),
+    )
+
+table-short : (edition : ℕ) (rows : List Constraint) → Judged (rowsQuestions edition 0 rows []) Taken
+    → length (tableBytesIn edition rows) ≤ 1 + 164 * length rows
 unfolding tableBytesIn
-table-short edition rows = omega (arith, rows-length rows)
+table-short edition rows judged = omega (arith, rows-length edition 0 rows judged)
 
 writer-short : {edition : ℕ} (rows : List Constraint) (before after : List ℕ) (r : WriteAnswer) (n : ℕ) → r ≡ WriteAnswer.Written n
     → Writes edition rows before r after
-    → n ≤ 1281
+    → n ≤ 5249
 writer-short {edition} rows before after r n e writes =
     let judged = subst (λ (w : WriteAnswer). Judged (writerQuestions edition rows before) (answerIn w)) e (writes .judged) in
     let parts = judged-parts (rowsQuestions edition 0 rows []) _
     (subst (λ (qs : List Question). Judged qs Taken) (rows-then edition 0 rows _) judged) in
-    omega (arith, rows-room edition 0 rows (omega arith) (parts .0), table-short edition rows, writes .counted n e)
+    omega (arith, rows-room edition 0 rows (omega arith) (parts .0), table-short edition rows (parts .0), writes .counted n e)
 
 pub raw-short : {edition : ℕ} (bytes before after : List ℕ) (r : WriteAnswer) (n : ℕ) → r ≡ WriteAnswer.Written n
-    → WritesRaw edition bytes before r after → n ≤ 1281
+    → WritesRaw edition bytes before r after → n ≤ 5249
 raw-short bytes before after r n e (all-read rows raw past writes) = writer-short rows before _ _ n e writes
 raw-short bytes before after r n e (stopped-at rows m raw more judged) = never (cc)
 

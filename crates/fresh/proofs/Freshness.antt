@@ -2,7 +2,7 @@
 -- other among the entries, where there is room for them, and nothing waits in a row but the words that a Reaction has from the start.
 use Rattle.fresh.proofs.Names.{Accepted, RowUndo, Bool, Constraint, Each, Indexes, Lent, List, List·getD-append, Monitor, RestZero, HintSound}
 use Rattle.fresh.proofs.Names.{Row}
-use Rattle.fresh.proofs.Names.{RowsPut, Parameters, Shaped, SoundNumbers, SoundRows, Words, [], _%_, _++_, _+_, _-_, _<_, _∙_, _∷_, _≡_, _≤_}
+use Rattle.fresh.proofs.Names.{RowsPut, Parameters, Shaped, SoundNumbers, Words, [], _%_, _++_, _+_, _-_, _<_, _∙_, _∷_, _≡_, _≤_}
 use Rattle.fresh.proofs.Names.{accepted-few}
 use Rattle.fresh.proofs.Names.{accepted-sound, after, ap, ap₂, arith, at, concerns, concerns-none, cond, each-append, each-cons, each-none}
 use Rattle.fresh.proofs.Names.{endOf, endsTo, entryIn, false, filler, freshLent, getD, getD-append-add, getD-at, heldRows, isOf, keptAt}
@@ -10,13 +10,12 @@ use Rattle.fresh.proofs.Names.{length}
 use Rattle.fresh.proofs.Names.{length-append, length-map, length-replicate, listedTo, ltb, ltb-false, ltb-true, map, monitorOf}
 use Rattle.fresh.proofs.Names.{namedRows, noRowUndo, noEvent, noRow, noWords, numbers, packed, padded, play, refl, replicate, rest-zero-fresh}
 use Rattle.fresh.proofs.Names.{rowAt}
-use Rattle.fresh.proofs.Names.{rowCount, rowLimit, rowNamed, rowOf, rowsOfKind, set, split, startOf, subst, subst₂, suc, sym, take, take-at}
+use Rattle.fresh.proofs.Names.{rowCount, rowLimit, rowNamed, rowOf, rowsOfKind, set, sound-place, split, startOf, subst, subst₂, suc, sym, take, take-at}
 use Rattle.fresh.proofs.Names.{take-length, take-suc, taken-few, true, waitingLimit, withLists, words-few, wordsOfLent, zero, ℕ}
 use Rattle.fresh.proofs.Packing.{packed-at, packed-length}
 use Rattle.fresh.proofs.Padding.{padded-next}
 use Rattle.fresh.proofs.{Lists.shaped-lists, Lists.words-known, Totals.listed-few}
 use Rattle.row_type.specs.Parameters as Rules
-use Rattle.row.proofs.Exact as Exact
 
 -- ---- the lists of the first kinds
 
@@ -143,17 +142,12 @@ parameters-is : (c : Constraint) → rowOf c .parameters ≡ Rules.parametersOf 
 unfolding rowOf
 parameters-is c = refl
 
-row-sound : (rows : List Constraint) → SoundRows rows → (i : ℕ) → i < length rows → Exact.Sound (getD rows i filler)
-row-sound [] sound i there = absurd (omega (arith, there))
-row-sound (c ∷ rows) sound zero there = sound .0
-row-sound (c ∷ rows) sound (suc i) there = row-sound rows (sound .1) i (omega (arith, there))
-
 -- a tick and the close concern none
 none-ticks : (rows : List Constraint) → Accepted rows → (i : ℕ) → i < length rows → isOf (after rows []) noEvent i ≡ false
 none-ticks rows accepted i there =
     ap (λ (r : Row). concerns (r .parameters) noEvent) (row-is rows i)
     ∙ ap (λ (parameters : Parameters). concerns parameters noEvent) (parameters-is (getD rows i filler))
-    ∙ concerns-none (getD rows i filler) (row-sound rows (accepted-sound rows accepted) i there .kinds-fit)
+    ∙ concerns-none (getD rows i filler) (sound-place rows (accepted-sound rows accepted) i there)
 
 -- nothing waits but the words that a row has from the start
 row-few : (c : Constraint) → rowOf c .now .len ≤ waitingLimit

@@ -10,11 +10,11 @@ pub use Rattle.constraint.proofs.Library.{ltb-false, ltb-true, map, needs, now,
 pub use Rattle.constraint.proofs.Library.{set-at, subst, subst₂, suc, sym, take, take-all, take-append-le, take-at, take-length, take-set-le}
 pub use Rattle.constraint.proofs.Library.{take-set-lt, take-suc, take-suc-set, true, zero, ℕ}
 pub use Rattle.constraint.proofs.Lists.{Each, each-append, each-cons, each-none, split}
-pub use Rattle.constraint.proofs.{Judged.never, Lengths.last-listed, Lengths.length-short}
+pub use Rattle.constraint.proofs.{Accepted.row-accepted, Judged.judged-all, Judged.never}
 pub use Rattle.constraint.specs.Table.{ReadsRows, ReadsTableUpTo, ShapeFits, TableRead, bodyAt, lengthAt, no-more, row-refused, row-taken, rowThen}
 pub use Rattle.constraint.specs.Table.{table-of, table-refused, version-refused, version-taken}
 pub use Rattle.constraint.specs.{Accepted.Accepted, Limits.rowLimit, Limits.waitingLimit, Questions.Question, Records.filler, Steps.among, Steps.at}
-pub use Rattle.constraint.specs.{declared.Answer.the-variants.Refused, declared.Answer.the-variants.Taken, declared.Constraint.Constraint}
+pub use Rattle.constraint.specs.{declared.Answer.the-variants.Refused, declared.Answer.the-variants.Taken, Constraint.Constraint, Types.Known, Types.TypeKnown, Types.countOf, Types.typeOf}
 pub use Rattle.fresh.specs.Fresh.{BeginsUpTo, ListsLie, RowsBehind, RowsLie, RowsPut, begun, freshLent, noWords, refused, twoIn, withLists}
 pub use Rattle.in_place.proofs.{Blocks.last-written, Blocks.row-lies, Parts.entries-read, Parts.half-read, Parts.half-written, Parts.numbers-read}
 pub use Rattle.in_place.specs.Contract.{Indexes, HintSound, SoundNumbers, isOf, namedRows, numbers, rowsOfKind}
@@ -22,11 +22,13 @@ pub use Rattle.in_place.specs.Layout.{Lent, Shaped, Words, endOf, halves, heldR
 pub use Rattle.in_place.specs.Steps.{rowCount}
 pub use Rattle.row_type.proofs.FitsRow.{words-few}
 pub use Rattle.row_type.specs.{Words.parametersAt, declared.Parameters.Parameters}
-pub use Rattle.monitor.proofs.{Demand.accepted-few, Demand.accepted-sound, FittingRows.SoundRows}
+pub use Rattle.monitor.proofs.{Demand.accepted-few, Demand.accepted-sound, FittingRows.sound-place}
 pub use Rattle.monitor.specs.{Machine.noRow, declared.Monitor.Monitor}
 pub use Rattle.row.proofs.{SlotsUsed.taken-few, UndoComplete.rest-zero-fresh, OwnKinds.concerns-none}
 pub use Rattle.row.specs.{Machine.concerns, Machine.noEvent, Stored.RestZero, Undo.noRowUndo, declared.RowUndo.RowUndo, declared.Row.Row}
-pub use Rattle.table.proofs.{Places.place-taken, Scanning.scan-start, Scanning.scan-step}
+pub use Rattle.table.proofs.{AcceptedRows.rows-accepted, Places.place-taken, Scanning.row-there, Scanning.scan-start, Scanning.scan-step}
+pub use Rattle.table_row.proofs.Lines.{known-short}
+pub use Rattle.table_row.specs.Records.{rowIn}
 pub use Rattle.table.specs.{Scan.PlacedAt, declared.scan.Placed.Placed}
 unfoldable pub use Rattle.constraint.specs.{Promise.play, Questions.Judged, Table.placeQuestions}
 unfoldable pub use Rattle.fresh.specs.Fresh.{endsTo, entered, listedTo, packed, padded}

@@ -1,18 +1,16 @@
--- The refusal of a table has a number above 0 and a place close to the start: each of the rows before it, at most 32, has at most 36 bytes.
+-- The refusal of a table has a number above 0 and a place close to the start: each of the rows before it, at most 32, has at most 164 bytes.
 use Rattle.fresh.proofs.Names.{Constraint, Judged, List, Question, ReadsRows, ReadsTableUpTo, Refused, ShapeFits, TableRead, Taken, [], _*_}
-use Rattle.fresh.proofs.Names.{_+_, _-_, _<_, _∷_, _≡_, _≤_, arith, at, bodyAt, drop, inl, inr, last-listed, length, length-drop, length-short}
+use Rattle.fresh.proofs.Names.{_+_, _-_, _<_, _∷_, _≡_, _≤_, arith, at, bodyAt, drop, inl, inr, known-short, length, length-drop}
 use Rattle.fresh.proofs.Names.{length-take-le, lengthAt, never, no-more, place-taken, placeQuestions, row-refused, row-taken, rowLimit}
 use Rattle.fresh.proofs.Names.{rowThen, table-of, table-refused, version-refused, version-taken, ℕ}
 
 -- a body of fitting shape is short
-shape-short : (edition : ℕ) (body : List ℕ) → ShapeFits edition body → length body ≤ 34
-shape-short edition body fits =
-    rw (fits .length-right) (length-short (at body 0) (at body 1) (omega (arith, fits .type-known .1, last-listed edition))
-    (λ has. fits .n-known has .1))
+shape-short : (edition : ℕ) (body : List ℕ) → ShapeFits edition body → length body ≤ 162
+shape-short edition body fits = rw (fits .length-right) (known-short edition (at body 0) (at body 1) (fits .known))
 
--- a row that is taken has at most 36 bytes
+-- a row that is taken has at most 164 bytes
 row-short : (edition : ℕ) (bytes : List ℕ) (i place : ℕ) (c : Constraint) → Judged (placeQuestions edition bytes i place c) Taken
-    → (i < rowLimit) × (lengthAt bytes place ≤ 34)
+    → (i < rowLimit) × (lengthAt bytes place ≤ 162)
 row-short edition bytes i place c judged =
     let taken = place-taken edition bytes i place c judged in
     let body = length-take-le (lengthAt bytes place) (drop (place + 2) bytes) (omega (arith, length-drop (place + 2) bytes)) in
@@ -38,9 +36,9 @@ row-number edition bytes i place n c judged =
 -- a refusal from a place on, with i rows before
 abbrev SmallBehind : ℕ → ℕ → TableRead → Type 0
 SmallBehind i start (table-of rows) = Unit {0}
-SmallBehind i start (table-refused n place) = (0 < n) × (place ≤ start + 36 * (rowLimit - i))
+SmallBehind i start (table-refused n place) = (0 < n) × (place ≤ start + 164 * (rowLimit - i))
 
-small-more : (i start size : ℕ) (c : Constraint) (later : TableRead) → i < rowLimit → size ≤ 34
+small-more : (i start size : ℕ) (c : Constraint) (later : TableRead) → i < rowLimit → size ≤ 162
     → SmallBehind (i + 1) (start + 2 + size) later → SmallBehind i start (rowThen c later)
 small-more i start size c (table-of rows) room short small = tt
 small-more i start size c (table-refused n place) room short small = (small .0, omega (arith, small .1))
@@ -52,6 +50,6 @@ rows-small {edition} bytes (row-taken {i} {place} {later} c there at-c judged re
     let short = row-short edition bytes i place c judged in
     small-more i place (lengthAt bytes place) c later (short .0) (short .1) (rows-small bytes reads)
 
-pub refused-small : {newest : ℕ} (bytes : List ℕ) (n place : ℕ) → ReadsTableUpTo newest bytes (table-refused n place) → (0 < n) × (place ≤ 1153)
+pub refused-small : {newest : ℕ} (bytes : List ℕ) (n place : ℕ) → ReadsTableUpTo newest bytes (table-refused n place) → (0 < n) × (place ≤ 5249)
 refused-small bytes n place (version-refused one) = (omega arith, omega arith)
 refused-small bytes n place (version-taken one reads) = rows-small bytes reads

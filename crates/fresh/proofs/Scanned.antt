@@ -3,6 +3,7 @@ use Rattle.fresh.proofs.Names.{Constraint, List, Monitor, Placed, Place
 use Rattle.fresh.proofs.Names.{_≤_, ap, arith, drop, drop-of-length-le, eqb, eqb-false, eqb-true, filler, getD, getD-set-other, getD-set-same}
 use Rattle.fresh.proofs.Names.{keptAt, length, length-set, ltb, ltb-false, ltb-true, never, no-more, refl, row-refused, row-taken, rowAt}
 use Rattle.fresh.proofs.Names.{scan-step, set, split, subst, suc, sym, table-of, table-refused, zero, ℕ}
+use Rattle.fresh.proofs.Names.{Known, TypeKnown, countOf, judged-all, row-accepted, row-there, rowIn, rows-accepted, typeOf}
 use Rattle.row.specs.Stored as Stored
 
 -- ---- read
@@ -22,9 +23,9 @@ getD-past (c ∷ rows) (suc i) past = getD-past rows i (omega (arith, past))
 
 pub scan-next : {edition : ℕ} (bytes : List ℕ) (rows : List Constraint) (i place : ℕ) (r : Placed)
     → ReadsRows edition bytes i place (table-of (drop i rows))
-    → PlacedAt bytes place r → (r .row ≡ getD rows i filler) × ReadsRows edition bytes (i + 1) (r .next) (table-of (drop (i + 1) rows))
+    → PlacedAt bytes place r → (rowIn (r .row) ≡ getD rows i filler) × ReadsRows edition bytes (i + 1) (r .next) (table-of (drop (i + 1) rows))
 scan-next {edition} bytes rows i place r reads placed =
-    split (ltb i (length rows)) (λ _. (r .row ≡ getD rows i filler) × ReadsRows edition bytes (i + 1) (r .next) (table-of (drop (i + 1) rows)))
+    split (ltb i (length rows)) (λ _. (rowIn (r .row) ≡ getD rows i filler) × ReadsRows edition bytes (i + 1) (r .next) (table-of (drop (i + 1) rows)))
     (λ e. scan-step bytes rows i place filler r (ltb-true i (length rows) e) reads placed)
     (λ e.
     let past : length rows ≤ i = ltb-false i (length rows) e in
@@ -34,6 +35,19 @@ scan-next {edition} bytes rows i place r reads placed =
       subst (λ (later : List Constraint). ReadsRows edition bytes (i + 1) (r .next) (table-of later))
           (sym (drop-of-length-le rows {i = i + 1} (omega (arith, past)))) (no-more (omega (arith, end, read .1))),
     ))
+
+-- each row of a table is of a known type, and so is the filler
+pub row-known : {edition : ℕ} (bytes : List ℕ) (rows : List Constraint) → ReadsRows edition bytes 0 1 (table-of rows) → (i : ℕ)
+    → Known (getD rows i filler)
+row-known {edition} bytes rows reads i =
+    split (ltb i (length rows)) (λ _. Known (getD rows i filler))
+    (λ e. let c = getD rows i filler in (
+      edition,
+      judged-all 4 (TypeKnown edition (typeOf c) (countOf c)) _
+          (row-accepted edition 0 rows (rows-accepted bytes reads) i c (row-there rows i filler (ltb-true i (length rows) e))) .0,
+    ))
+    (λ e. subst Known (sym (getD-past rows i (ltb-false i (length rows) e)))
+    (1, record { type-known = (omega arith, omega arith); n-known = λ has. never (cc) }))
 
 -- ---- stored
 

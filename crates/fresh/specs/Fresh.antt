@@ -9,7 +9,7 @@ use Rattle.constraint.specs.Limits.{rowLimit}
 use Rattle.constraint.specs.Accepted.{Accepted}
 use Rattle.constraint.specs.Table.{ReadsRows, ReadsTableUpTo, table-of, table-refused}
 use Rattle.constraint.specs.Steps.{at}
-use Rattle.constraint.specs.declared.Constraint.{Constraint}
+use Rattle.constraint.specs.Constraint.{Constraint}
 use Rattle.table.specs.Scan.{Counted}
 use Rattle.row.specs.Stored as Stored
 use Rattle.monitor.specs.Contract.{after}
@@ -109,6 +109,10 @@ pub record RowsPut (entry : Words) (m : Monitor) (n : ℕ) (exit : Words) : Type
 -- the rows that stand behind the version byte
 abbrev pub RowsBehind : List ℕ → List Constraint → Type 0
 RowsBehind bytes rows = ReadsRows (at bytes 0) bytes 0 1 (table-of rows)
+
+-- the bytes hold a table
+abbrev pub HoldsRows : List ℕ → Type 0
+HoldsRows bytes = (rows : List Constraint) × RowsBehind bytes rows
 
 -- the rows of the table that the bytes hold
 abbrev pub StoresRows : List ℕ → Words → Words → Type 0

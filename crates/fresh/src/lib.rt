@@ -16,7 +16,7 @@ ghost use lib.ListN.{length, set, replicate};
 ghost use Rattle.in_place.specs.Layout.{Lent, wordsOfLent, Shaped};
 ghost use Rattle.in_place.specs.Steps.{Updates};
 ghost use Rattle.in_place.specs.Contract.{numbers, isOf};
-ghost use Rattle.fresh.specs.Fresh.{withLists, entered, oneIf, BeginsUpTo, Validates, noWords, StoresRows, StoresAll, Enters, Enlists};
+ghost use Rattle.fresh.specs.Fresh.{withLists, entered, oneIf, BeginsUpTo, Validates, noWords, HoldsRows, StoresRows, StoresAll, Enters, Enlists};
 
 // The result of validating a table's bytes: the answer, 0 or 256 times the place plus the number of the refusal; and the number of rows.
 pub struct Validated {
@@ -56,14 +56,14 @@ fn clear(blocks: &mut [[[u64; 64]; 2]])
 // Stores each row of an accepted table in its state before any step. After the last row the reader gives the filler row, which fills the other
 // places.
 fn put_rows(m: &mut Words, table: &[u8])
+    requires { ⌜ HoldsRows (now table) ⌝ }
     ensures { λ _. ⌜ StoresRows (now (table .entry)) (now (m .entry)) (now (m .exit)) ⌝ }
 {
     let mut place = 1;
     let mut i = 0;
     while i < 32 {
         let placed = scan::row_at(table, place);
-        let row = placed.row;
-        stored::begin(&mut m[i], row);
+        stored::begin(&mut m[i], placed.row.tag, &placed.row.values);
         place = placed.next;
         i += 1;
     }
@@ -71,6 +71,7 @@ fn put_rows(m: &mut Words, table: &[u8])
 
 // Stores every word of a monitor over the n rows of a table, except the lists, which stay 0.
 fn begin(m: &mut Words, table: &[u8], n: usize)
+    requires { ⌜ HoldsRows (now table) ⌝ }
     ensures { λ _. ⌜ StoresAll (now (table .entry)) n (now (m .exit)) ⌝ }
 {
     clear(m);

@@ -4,6 +4,12 @@ use Rattle.fresh.proofs.Names.{now, packed, refused, scan-start, subst,
 use Rattle.fresh.proofs.{Freshness.fresh-indexes, Freshness.fresh-shaped, fresh.Statement.statement}
 use Rattle.fresh.proofs.fresh.Tie as tie
 
+begin-requires : tie.Need-begin-requires
+begin-requires c κs =
+    let t = c .before in let a = t .before .before .before .args in
+    let counted = t .before .validate .ensures .accepted (t .if1 .taken) in
+    (counted .rows, scan-start (now (a .table)) (counted .rows) (counted .reads))
+
 enlist-requires : tie.Need-enlist-requires
 enlist-requires c κs =
     let t = c .before .before .before in
@@ -31,4 +37,4 @@ returns-2 c =
     (refused (refusal .question) (refusal .place) (refusal .reads) (refusal .above) (refusal .below))
 
 pub fresh-spec : {M : Type 1} → statement M
-fresh-spec = tie.close (tie.spec (λ c κs. search needs) (λ c κs. search needs) enlist-requires returns returns-2)
+fresh-spec = tie.close (tie.spec (λ c κs. search needs) begin-requires enlist-requires returns returns-2)

@@ -9,7 +9,7 @@ refusal : (c : tie.After-answer)
     (table-refused (c .answer .given .0 .0) (c .answer .given .0 .1 .0))
 refusal c = (rw (c .answer .given .1) at (c .before .before .validate .ensures)) .0
 
-small : (c : tie.After-answer) → (0 < c .answer .given .0 .0) × (c .answer .given .0 .1 .0 ≤ 1153)
+small : (c : tie.After-answer) → (0 < c .answer .given .0 .0) × (c .answer .given .0 .1 .0 ≤ 5249)
 small c = refused-small (now (c .before .before .before .before .args .table)) _ _ (refusal c)
 
 returns : tie.Need-returns

@@ -19,21 +19,21 @@ row-is c = c .before .before .before .row-numbered .ensures .found (counted c .r
 
 returns-2 : tie.Need-returns-2
 returns-2 c =
-    let at-pass = c .before .before in let at-row = at-pass .before in let seen = at-row .before in
+    let at-pass = c .before .before in let at-row = at-pass .before in let seen = at-row .before .before in
     let a = seen .before .before .before .before .before .before .args in
     answer-recording (now (a .table)) (now (a .recording)) (a .row) (a .late) _ (counted seen .reads) _ _ (row-is seen)
     (at-row .row-of .result) (at-row .row-of .ensures) (at-pass .pass .result) (at-pass .pass .ensures) (c .if1 .taken)
 
 returns-3 : tie.Need-returns-3
 returns-3 c =
-    let at-pass = c .before .before .before .before in let at-row = at-pass .before in let seen = at-row .before in
+    let at-pass = c .before .before .before .before in let at-row = at-pass .before in let seen = at-row .before .before in
     let a = seen .before .before .before .before .before .before .args in
     answer-row (now (a .table)) (now (a .recording)) (a .row) (a .late) _ (counted seen .reads) _ _ (row-is seen) (at-row .row-of .result)
     (at-row .row-of .ensures) (at-pass .pass .result) (at-pass .pass .ensures) (omega (arith, c .before .before .if1 .left)) (c .if2 .taken)
 
 returns-4 : tie.Need-returns-4
 returns-4 c =
-    let at-pass = c .before .before .before .before .before in let at-row = at-pass .before in let seen = at-row .before in
+    let at-pass = c .before .before .before .before .before in let at-row = at-pass .before in let seen = at-row .before .before in
     let a = seen .before .before .before .before .before .before .args in
     answer-range (now (a .table)) (now (a .recording)) (a .row) (a .late) _ (counted seen .reads) _ _ (row-is seen) (at-row .row-of .result)
     (at-row .row-of .ensures)
@@ -42,7 +42,7 @@ returns-4 c =
 
 returns-5 : tie.Need-returns-5
 returns-5 c =
-    let at-pass = c .before .before .before .before .before in let at-row = at-pass .before in let seen = at-row .before in
+    let at-pass = c .before .before .before .before .before in let at-row = at-pass .before in let seen = at-row .before .before in
     let a = seen .before .before .before .before .before .before .args in
     answer-reads (now (a .table)) (now (a .recording)) (a .row) (a .late) _ (counted seen .reads) _ _ (row-is seen) (at-row .row-of .result)
     (at-row .row-of .ensures)

@@ -34,7 +34,7 @@ row-known c there =
 
 ask-row-requires : tie.Need-ask-row-requires
 ask-row-requires c κs =
-    let passed = c .before .before in let at-enum = passed .before .before .before .before .before .before in
+    let passed = c .before .before .before in let at-enum = passed .before .before .before .before .before .before in
     (omega (arith, passed .if2 .left), λ there. row-known at-enum there)
 
 returns-2 : tie.Need-returns-2
@@ -50,7 +50,7 @@ returns-3 c =
 
 returns-4 : tie.Need-returns-4
 returns-4 c =
-    let passed = c .before .before .before in let at-gather = passed .before .before .before in
+    let passed = c .before .before .before .before in let at-gather = passed .before .before .before in
     let at-enum = at-gather .before .before .before in let begun = at-enum .before .before .before .before .before .before in
     let taken = at-gather .gather .ensures .taken (omega (arith, passed .before .if1 .left)) in
     let rows = counted at-enum .rows in

@@ -1,5 +1,6 @@
 -- The code is that of the reader's answer.
-use Rattle.constraint.proofs.{Library.needs, Library.now, Library.sym, Rows.rows-length}
+use Rattle.constraint.proofs.Library.{needs, now, sym}
+use Rattle.table_row.proofs.Tables.{rows-length}
 use Rattle.table.proofs.Answers.{reads-as}
 use Rattle.table_ffi.proofs.table_read.Statement.{statement}
 use Rattle.table_ffi.proofs.table_read.Tie as tie

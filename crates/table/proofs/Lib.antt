@@ -12,5 +12,6 @@ pub mod Written
 pub mod Answers
 pub mod RoundTripCode
 pub mod Scanning
+pub mod Appending
 pub mod RawRows
 pub mod RawRoundTrip

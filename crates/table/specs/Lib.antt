@@ -4,3 +4,4 @@ pub mod Writing
 pub mod Rows
 pub mod Raw
 pub mod Scan
+pub mod Appending

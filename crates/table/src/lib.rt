@@ -1,4 +1,5 @@
 // The table's bytes: reads rows from a file's bytes, and writes them to the caller's buffer.
+pub mod append;
 pub mod raw;
 mod reader;
 pub mod scan;

@@ -8,7 +8,7 @@ use Rattle.constraint.specs.Table.{lengthAt}
 use Rattle.constraint.specs.Recording.{callAt, RecordAt, VersionKnown, recordQuestions}
 use Rattle.constraint.specs.Run.{asks, Left, leftBy}
 use Rattle.constraint.specs.declared.Answer.the-variants.{Taken, Refused}
-use Rattle.constraint.specs.declared.Constraint.{Constraint}
+use Rattle.constraint.specs.Constraint.{Constraint}
 use Rattle.in_place.specs.Contract.{Takes}
 use Rattle.table.specs.declared.ReadAnswer.{ReadAnswer}
 use Rattle.delkuthi.specs.Host.{Memory}

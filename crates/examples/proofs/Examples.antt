@@ -34,6 +34,9 @@ use Rattle.delay_order.specs.Order.{changesTo, decideOrder}
 use Rattle.synchronizations.specs.StrongSynchronization.{decideStrongSynchronization}
 use Rattle.execution.specs.ExecutionTime.{whileIdle, whileRunning, whilePreempted, decideExecutionTime}
 use Rattle.event_chain.specs.Reaction.{dueBut, decideReaction}
+use Rattle.event_chain.specs.Age.{dueAge, decideAge}
+use Rattle.event_chain.specs.Coloured.{decideWords, dueWords, leastOf, mostOf}
+use Rattle.examples.specs.Vectors.{ages, output-synchronizations, input-synchronizations}
 use Rattle.repetition.specs.Repetition.{placed, decideRepetition}
 use Rattle.synchronizations.specs.Synchronization.{decideSynchronization}
 use Rattle.examples.specs.Vectors.{unlimited-delays, silences, execution-times, repetitions, long-clocks, reactions, synchronizations}
@@ -110,6 +113,13 @@ unfolding allCompute computes playOf sameAnswers isVerdict play rowOf brokenRow 
     decideSynchronization
 all-computed = (refl, refl, refl, refl, refl, refl, refl, refl)
 
+-- rows with words for each colour
+chains-computed : (allCompute ages ≡ true) × (allCompute output-synchronizations ≡ true) × (allCompute input-synchronizations ≡ true)
+unfolding allCompute computes playOf sameAnswers isVerdict play rowOf brokenRow applied changedRow rowStep rowVerdict ring pushRing putRing putBack
+    movesBy stepPlace savedBy backRow rowWithout keptWithout monitorOf mapFirst zipFirst anyFirst takenCall stepOf withdrawn withdrawOf verdictOf
+    dueAge decideAge decideWords dueWords leastOf mostOf
+chains-computed = (refl, refl, refl)
+
 -- ---- so each reads by the definitions what the machine computes
 
 only-row : (c : Constraint) (steps : List Step) (v : Verdict) → ReadsRow (c ∷ []) steps 0 (some v) → Reads c steps v
@@ -162,6 +172,18 @@ long-clocks-hold = all-read long-clocks (all-computed .5)
 -- §5.9.1 to §5.9.7
 pub reactions-hold : AllRead reactions
 reactions-hold = all-read reactions (all-computed .6)
+
+-- §5.12
+pub ages-hold : AllRead ages
+ages-hold = all-read ages (chains-computed .0)
+
+-- §5.13
+pub output-synchronizations-hold : AllRead output-synchronizations
+output-synchronizations-hold = all-read output-synchronizations (chains-computed .1)
+
+-- §5.14
+pub input-synchronizations-hold : AllRead input-synchronizations
+input-synchronizations-hold = all-read input-synchronizations (chains-computed .2)
 
 -- §5.11 to §5.11.5
 pub synchronizations-hold : AllRead synchronizations

@@ -1,5 +1,5 @@
--- Further examples that the contract shows beside its clauses, of Delays without an upper limit, of signals that stop, of ExecutionTime, of
--- Reaction, of Repetition, of Synchronization and of long clocks: calls that are all taken, and what the row reads after them.
+-- Further examples that the contract shows beside its clauses, of Delays without an upper limit, of signals that stop, of long clocks, and of the
+-- types from ExecutionTime on: calls that are all taken, and what the row reads after them.
 use Prim.Native.Nat.{ℕ, zero, suc, _+_, _-_, _^_}
 use mathlib.Core.List.{List, [], _∷_, _++_}
 use lib.ListN.{replicate}
@@ -10,7 +10,8 @@ use Rattle.constraint.specs.declared.Answer.the-variants.{Taken, Refused}
 use Rattle.constraint.specs.declared.Call.{Call}
 use Rattle.constraint.specs.declared.Call.the-variants.{Event, ColouredEvent, Tick, Close}
 use Rattle.constraint.specs.Constraint.{Constraint}
-use Rattle.constraint.specs.Constraint.{Delay, Repeat, Sporadic, Burst, ExecutionTime, Reaction, Repetition, Synchronization}
+use Rattle.constraint.specs.Constraint.{Delay, Repeat, Sporadic, Burst, ExecutionTime, Reaction, Repetition, Synchronization, Age}
+use Rattle.constraint.specs.Constraint.{OutputSynchronization, InputSynchronization}
 use Rattle.constraint.specs.declared.Verdict.the-variants.{Open, Kept, Broken}
 
 -- §5.1.6, §5.1.7; CR 1: Delays without an upper limit
@@ -220,6 +221,117 @@ reactions =
     ∷ reads (Reaction 48 49 1 3) (ColouredEvent 49 0 5 ∷ ColouredEvent 48 0 5 ∷ []) (Broken 2)
     -- colours do not disturb each other
     ∷ reads (Reaction 48 49 4 6) (ColouredEvent 48 0 10 ∷ ColouredEvent 48 1 11 ∷ ColouredEvent 49 1 15 ∷ ColouredEvent 49 0 16 ∷ Close ∷ []) Kept
+    ∷ []
+
+-- §5.12: Ages
+abbrev pub ages : List Example
+ages =
+    -- both ends of the interval, and one moment before and after it
+    reads (Age 48 49 2 4) (ColouredEvent 48 1 10 ∷ ColouredEvent 49 1 12 ∷ Close ∷ []) Kept
+    ∷ reads (Age 48 49 2 4) (ColouredEvent 48 1 10 ∷ ColouredEvent 49 1 14 ∷ Close ∷ []) Kept
+    ∷ reads (Age 48 49 2 4) (ColouredEvent 48 1 10 ∷ ColouredEvent 49 1 11 ∷ []) (Broken 2)
+    ∷ reads (Age 48 49 2 4) (ColouredEvent 48 1 10 ∷ ColouredEvent 49 1 15 ∷ []) (Broken 2)
+    -- a response without a stimulus of its colour
+    ∷ reads (Age 48 49 2 4) (ColouredEvent 49 1 5 ∷ []) (Broken 1)
+    ∷ reads (Age 48 49 2 4) (ColouredEvent 48 2 3 ∷ ColouredEvent 49 1 5 ∷ []) (Broken 2)
+    -- the latest stimulus counts
+    ∷ reads (Age 48 49 2 4) (ColouredEvent 48 1 10 ∷ ColouredEvent 48 1 12 ∷ ColouredEvent 49 1 14 ∷ Close ∷ []) Kept
+    ∷ reads (Age 48 49 2 4) (ColouredEvent 48 1 10 ∷ ColouredEvent 48 1 12 ∷ ColouredEvent 49 1 13 ∷ []) (Broken 3)
+    -- several responses, and a stimulus after a response
+    ∷ reads (Age 48 49 2 4) (ColouredEvent 48 1 10 ∷ ColouredEvent 49 1 12 ∷ ColouredEvent 49 1 14 ∷ Close ∷ []) Kept
+    ∷ reads (Age 48 49 2 4) (ColouredEvent 48 1 10 ∷ ColouredEvent 49 1 12 ∷ ColouredEvent 49 1 15 ∷ []) (Broken 3)
+    ∷ reads (Age 48 49 2 4) (ColouredEvent 48 1 10 ∷ ColouredEvent 49 1 12 ∷ ColouredEvent 48 1 13 ∷ []) (Broken 3)
+    -- a stimulus without a response
+    ∷ reads (Age 48 49 2 4) (ColouredEvent 48 1 10 ∷ Tick 1000 ∷ []) Open
+    ∷ reads (Age 48 49 2 4) (ColouredEvent 48 1 10 ∷ Tick 1000 ∷ Close ∷ []) Kept
+    -- with a minimum of 0 the stimulus may come in a later step of the same time
+    ∷ reads (Age 48 49 0 3) (ColouredEvent 49 0 5 ∷ []) Open
+    ∷ reads (Age 48 49 0 3) (ColouredEvent 49 0 5 ∷ ColouredEvent 48 0 5 ∷ Close ∷ []) Kept
+    ∷ reads (Age 48 49 0 3) (ColouredEvent 49 0 5 ∷ Tick 6 ∷ []) (Broken 2)
+    ∷ reads (Age 48 49 0 3) (ColouredEvent 49 0 5 ∷ Close ∷ []) (Broken 2)
+    ∷ reads (Age 48 49 0 3) (ColouredEvent 48 0 1 ∷ ColouredEvent 49 0 9 ∷ []) Open
+    ∷ reads (Age 48 49 0 3) (ColouredEvent 48 0 1 ∷ ColouredEvent 49 0 9 ∷ ColouredEvent 48 0 9 ∷ Close ∷ []) Kept
+    ∷ reads (Age 48 49 0 3) (ColouredEvent 48 0 1 ∷ ColouredEvent 49 0 9 ∷ Tick 10 ∷ []) (Broken 3)
+    ∷ reads (Age 48 49 0 3) (ColouredEvent 48 0 8 ∷ ColouredEvent 49 0 9 ∷ ColouredEvent 48 0 9 ∷ ColouredEvent 49 0 12 ∷ Close ∷ []) Kept
+    ∷ []
+
+-- §5.13: OutputSynchronizations
+abbrev twoResponses : Constraint
+twoResponses = OutputSynchronization 48 (49 ∷ 50 ∷ []) 2
+
+abbrev fourResponses : Constraint
+fourResponses = OutputSynchronization 48 (49 ∷ 50 ∷ 51 ∷ 52 ∷ []) 2
+
+abbrev pub output-synchronizations : List Example
+output-synchronizations =
+    -- the first responses are within tolerance, and later responses do not count
+    reads twoResponses (ColouredEvent 48 1 5 ∷ ColouredEvent 49 1 20 ∷ ColouredEvent 50 1 22 ∷ Close ∷ []) Kept
+    ∷ reads twoResponses
+    (ColouredEvent 48 1 5 ∷ ColouredEvent 49 1 20 ∷ ColouredEvent 49 1 21 ∷ ColouredEvent 50 1 22 ∷ ColouredEvent 50 1 90 ∷ Close ∷ []) Kept
+    -- the last moment of a kind without a response, and the one after it
+    ∷ reads twoResponses (ColouredEvent 48 1 5 ∷ ColouredEvent 49 1 20 ∷ Tick 22 ∷ []) Open
+    ∷ reads twoResponses (ColouredEvent 48 1 5 ∷ ColouredEvent 49 1 20 ∷ Tick 22 ∷ Tick 23 ∷ []) (Broken 4)
+    -- before the first response there is no last moment, but the close
+    ∷ reads twoResponses (ColouredEvent 48 1 5 ∷ Tick 1000 ∷ []) Open
+    ∷ reads twoResponses (ColouredEvent 48 1 5 ∷ Tick 1000 ∷ Close ∷ []) (Broken 3)
+    -- responses without a stimulus, and a stimulus after them or at the same time
+    ∷ reads twoResponses (ColouredEvent 49 1 5 ∷ Tick 9 ∷ Close ∷ []) Kept
+    ∷ reads twoResponses (ColouredEvent 49 1 5 ∷ ColouredEvent 48 1 6 ∷ []) (Broken 2)
+    ∷ reads twoResponses (ColouredEvent 49 1 5 ∷ ColouredEvent 48 1 5 ∷ ColouredEvent 50 1 7 ∷ Close ∷ []) Kept
+    ∷ reads twoResponses (ColouredEvent 49 1 5 ∷ ColouredEvent 48 1 5 ∷ Tick 8 ∷ []) (Broken 3)
+    -- a stimulus between the responses, and several stimuli before them
+    ∷ reads twoResponses (ColouredEvent 48 1 5 ∷ ColouredEvent 49 1 6 ∷ ColouredEvent 48 1 7 ∷ []) (Broken 3)
+    ∷ reads twoResponses (ColouredEvent 48 1 5 ∷ ColouredEvent 48 1 6 ∷ ColouredEvent 49 1 6 ∷ ColouredEvent 50 1 6 ∷ Close ∷ []) Kept
+    -- two colours
+    ∷ reads twoResponses (ColouredEvent 48 1 5 ∷ ColouredEvent 48 2 5 ∷ ColouredEvent 49 1 6 ∷ ColouredEvent 50 2 7 ∷ Tick 8 ∷ []) Open
+    ∷ reads twoResponses (ColouredEvent 48 1 5 ∷ ColouredEvent 48 2 5 ∷ ColouredEvent 49 1 6 ∷ ColouredEvent 50 2 7 ∷ Tick 8 ∷ Tick 9 ∷ []) (Broken 6)
+    ∷ reads twoResponses
+    (ColouredEvent 48 1 5 ∷ ColouredEvent 48 2 5 ∷ ColouredEvent 49 1 6 ∷ ColouredEvent 50 2 7 ∷ ColouredEvent 50 1 8
+    ∷ ColouredEvent 49 2 9 ∷ Close ∷ []) Kept
+    -- four kinds of responses, in any order
+    ∷ reads fourResponses (ColouredEvent 48 7 5 ∷ ColouredEvent 52 7 20 ∷ ColouredEvent 50 7 21 ∷ ColouredEvent 49 7 22 ∷ Tick 22 ∷ []) Open
+    ∷ reads fourResponses
+    (ColouredEvent 48 7 5 ∷ ColouredEvent 52 7 20 ∷ ColouredEvent 50 7 21 ∷ ColouredEvent 49 7 22 ∷ ColouredEvent 51 7 22 ∷ Close ∷ []) Kept
+    ∷ reads fourResponses
+    (ColouredEvent 48 7 5 ∷ ColouredEvent 52 7 20 ∷ ColouredEvent 50 7 21 ∷ ColouredEvent 49 7 22 ∷ ColouredEvent 51 7 23 ∷ []) (Broken 5)
+    ∷ []
+
+-- §5.14: InputSynchronizations
+abbrev twoStimuli : ℕ → Constraint
+twoStimuli tolerance = InputSynchronization (48 ∷ 49 ∷ []) 50 tolerance
+
+abbrev fourStimuli : Constraint
+fourStimuli = InputSynchronization (48 ∷ 49 ∷ 50 ∷ 51 ∷ []) 52 2
+
+abbrev pub input-synchronizations : List Example
+input-synchronizations =
+    -- the latest stimuli are within tolerance, and later responses do not count
+    reads (twoStimuli 2) (ColouredEvent 48 1 5 ∷ ColouredEvent 49 1 7 ∷ ColouredEvent 50 1 20 ∷ Close ∷ []) Kept
+    ∷ reads (twoStimuli 2) (ColouredEvent 48 1 1 ∷ ColouredEvent 49 1 5 ∷ ColouredEvent 48 1 6 ∷ ColouredEvent 50 1 9 ∷ Close ∷ []) Kept
+    ∷ reads (twoStimuli 2) (ColouredEvent 48 1 5 ∷ ColouredEvent 49 1 6 ∷ ColouredEvent 50 1 9 ∷ ColouredEvent 50 1 30 ∷ Close ∷ []) Kept
+    -- they are not: without a response nothing is asked; with one a stimulus at its time can still come
+    ∷ reads (twoStimuli 2) (ColouredEvent 48 1 5 ∷ ColouredEvent 49 1 8 ∷ Tick 100 ∷ Close ∷ []) Kept
+    ∷ reads (twoStimuli 2) (ColouredEvent 48 1 5 ∷ ColouredEvent 49 1 8 ∷ ColouredEvent 50 1 20 ∷ []) Open
+    ∷ reads (twoStimuli 2) (ColouredEvent 48 1 5 ∷ ColouredEvent 49 1 8 ∷ ColouredEvent 50 1 20 ∷ Tick 21 ∷ []) (Broken 4)
+    ∷ reads (twoStimuli 2) (ColouredEvent 48 1 5 ∷ ColouredEvent 49 1 8 ∷ ColouredEvent 50 1 8 ∷ ColouredEvent 48 1 8 ∷ Close ∷ []) Kept
+    -- a stimulus after the response
+    ∷ reads (twoStimuli 2) (ColouredEvent 48 1 5 ∷ ColouredEvent 49 1 6 ∷ ColouredEvent 50 1 9 ∷ ColouredEvent 48 1 10 ∷ []) (Broken 4)
+    -- a response without stimuli, and with a stimulus of another colour
+    ∷ reads (twoStimuli 2) (ColouredEvent 50 1 9 ∷ []) Open
+    ∷ reads (twoStimuli 2) (ColouredEvent 50 1 9 ∷ Tick 10 ∷ []) (Broken 2)
+    ∷ reads (twoStimuli 2) (ColouredEvent 50 1 9 ∷ Close ∷ []) (Broken 2)
+    ∷ reads (twoStimuli 2) (ColouredEvent 50 1 9 ∷ ColouredEvent 48 1 9 ∷ ColouredEvent 49 1 9 ∷ Close ∷ []) Kept
+    ∷ reads (twoStimuli 2) (ColouredEvent 48 1 5 ∷ ColouredEvent 49 2 5 ∷ ColouredEvent 50 1 6 ∷ Tick 7 ∷ []) (Broken 4)
+    -- tolerance 0: a stimulus at the time of the response can make stimuli too far apart
+    ∷ reads (twoStimuli 0) (ColouredEvent 48 1 8 ∷ ColouredEvent 49 1 8 ∷ ColouredEvent 50 1 9 ∷ ColouredEvent 48 1 9 ∷ []) Open
+    ∷ reads (twoStimuli 0) (ColouredEvent 48 1 8 ∷ ColouredEvent 49 1 8 ∷ ColouredEvent 50 1 9 ∷ ColouredEvent 48 1 9 ∷ Tick 10 ∷ []) (Broken 5)
+    ∷ reads (twoStimuli 0)
+    (ColouredEvent 48 1 8 ∷ ColouredEvent 49 1 8 ∷ ColouredEvent 50 1 9 ∷ ColouredEvent 48 1 9 ∷ ColouredEvent 49 1 9 ∷ Close ∷ []) Kept
+    -- four kinds of stimuli
+    ∷ reads fourStimuli
+    (ColouredEvent 51 3 5 ∷ ColouredEvent 49 3 6 ∷ ColouredEvent 48 3 7 ∷ ColouredEvent 50 3 7 ∷ ColouredEvent 52 3 9 ∷ Close ∷ []) Kept
+    ∷ reads fourStimuli
+    (ColouredEvent 51 3 5 ∷ ColouredEvent 49 3 6 ∷ ColouredEvent 48 3 7 ∷ ColouredEvent 50 3 8 ∷ ColouredEvent 52 3 9 ∷ Tick 10 ∷ []) (Broken 6)
     ∷ []
 
 -- §5.11 to §5.11.5: Synchronizations

@@ -563,7 +563,8 @@ uint64_t delkuthi_monitor_size(void);
  * An answer of 64 bits that may be a refusal has two parts. DELKUTHI_NUMBER is
  * DELKUTHI_TAKEN or the number of the refusal. The other macros give the rest:
  * the comment of each call says whether that is a place, a row, a length or a
- * word. An answer of 8 bits is the number alone.
+ * word. Each has a function of the same meaning. An answer of 8 bits is the
+ * number alone.
  */
 #ifdef __cplusplus
 #define DELKUTHI_CAST(type, value) (static_cast<type>(value))
@@ -576,6 +577,39 @@ uint64_t delkuthi_monitor_size(void);
 #define DELKUTHI_ROW(answer)    ((answer) >> 8)
 #define DELKUTHI_LENGTH(answer) DELKUTHI_CAST(size_t, (answer) >> 8)
 #define DELKUTHI_WORD(answer)   ((answer) >> 8)
+
+/*
+ * The same as functions, so that the compiler checks the argument. The length
+ * and the word of a refusal are 0.
+ */
+static inline uint8_t delkuthi_answer_number(uint64_t answer)
+{
+    return DELKUTHI_NUMBER(answer);
+}
+
+static inline uint64_t delkuthi_answer_place(uint64_t answer)
+{
+    return DELKUTHI_PLACE(answer);
+}
+
+static inline uint64_t delkuthi_answer_row(uint64_t answer)
+{
+    return DELKUTHI_ROW(answer);
+}
+
+static inline size_t delkuthi_answer_length(uint64_t answer)
+{
+    return delkuthi_answer_number(answer) == DELKUTHI_TAKEN
+               ? DELKUTHI_LENGTH(answer)
+               : 0;
+}
+
+static inline uint64_t delkuthi_answer_word(uint64_t answer)
+{
+    return delkuthi_answer_number(answer) == DELKUTHI_TAKEN
+               ? DELKUTHI_WORD(answer)
+               : 0;
+}
 
 /*
  * The refusals, with what to do about each. A call asks its questions in a
@@ -1476,6 +1510,11 @@ uint64_t delkuthi_join(const uint8_t *first, size_t first_length,
 /* 1 if delkuthi_join refuses the second recording, 0 if the first. */
 #define DELKUTHI_JOIN_SECOND(answer) (((answer) >> 7) & 1)
 
+static inline uint8_t delkuthi_join_second(uint64_t answer)
+{
+    return DELKUTHI_LOW(DELKUTHI_JOIN_SECOND(answer), 1);
+}
+
 /*
  * Finds the shortest stretch of consecutive records of a recording that breaks
  * a row, before any close, when a fresh monitor over this row alone takes
@@ -1504,6 +1543,21 @@ uint64_t delkuthi_shortest_stretch(const uint8_t *table, size_t table_length,
 #define DELKUTHI_STRETCH_FIRST(answer)  ((answer) >> 8 & 255)
 #define DELKUTHI_STRETCH_LENGTH(answer) ((answer) >> 16 & 65535)
 #define DELKUTHI_STRETCH_TRIED(answer)  ((answer) >> 32)
+
+static inline uint64_t delkuthi_stretch_first(uint64_t answer)
+{
+    return DELKUTHI_STRETCH_FIRST(answer);
+}
+
+static inline uint64_t delkuthi_stretch_length(uint64_t answer)
+{
+    return DELKUTHI_STRETCH_LENGTH(answer);
+}
+
+static inline uint64_t delkuthi_stretch_tried(uint64_t answer)
+{
+    return DELKUTHI_STRETCH_TRIED(answer);
+}
 
 /*
  * THE SECOND FORMS

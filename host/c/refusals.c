@@ -88,6 +88,20 @@ static int steps_left(void)
         && left(delkuthi_close(&monitor), DELKUTHI_CLOSED);
 }
 
+/* Uses every function that takes an answer apart. Returns whether each gives what the header says. */
+static int functions(void)
+{
+    const uint64_t refused = 5 * 256 + DELKUTHI_COMMON_KIND, written = 7 * 256, stretch = 1 * 256 + 2 * 65536 + (UINT64_C(5) << 32);
+
+    return delkuthi_answer_number(refused) == DELKUTHI_COMMON_KIND && delkuthi_answer_place(refused) == 5
+        && delkuthi_answer_row(refused) == 5 && delkuthi_answer_length(refused) == 0 && delkuthi_answer_word(refused) == 0
+        && delkuthi_answer_number(written) == DELKUTHI_TAKEN && delkuthi_answer_length(written) == 7
+        && delkuthi_answer_word(written) == 7 && delkuthi_join_second(refused) == 0 && delkuthi_join_second(refused + 128) == 1
+        && delkuthi_answer_number(refused + 128) == DELKUTHI_COMMON_KIND && delkuthi_stretch_first(stretch) == 1
+        && delkuthi_stretch_length(stretch) == 2 && delkuthi_stretch_tried(stretch) == 5
+        && strcmp(delkuthi_type_text(1), "Delay") == 0 && strcmp(delkuthi_type_text(0), "no type") == 0;
+}
+
 /* Uses every macro. Returns whether each gives what the header says. */
 static int macros(void)
 {
@@ -124,5 +138,5 @@ int main(void)
 
     for (number = 0; number < 256; number++)
         printf("%s\n", delkuthi_refusal_text((uint8_t)number));
-    return macros() && steps_left() ? 0 : 1;
+    return macros() && functions() && steps_left() ? 0 : 1;
 }

@@ -1,6 +1,6 @@
 //! The documents hold together: clauses that are cited are there, names that are linked exist.
 
-use checks::contract::{every_clause, text};
+use checks::contract::{clauses, text};
 use checks::documents::{cited, files, text_of};
 use checks::hosts::{Ran, c_compiler, compile_with};
 use checks::places::{Folder, archive_folder, example_bytes, root};
@@ -28,7 +28,7 @@ fn all_files() -> Vec<PathBuf> {
 
 #[test]
 fn each_clause_that_is_cited_is_there() {
-    let clauses: HashSet<String> = every_clause(&text()).into_iter().map(|clause| clause.number).collect();
+    let clauses: HashSet<String> = clauses(&text()).into_iter().map(|clause| clause.number).collect();
     let mut missing = Vec::new();
     for file in all_files() {
         let cited = cited(&text_of(&file));

@@ -5,7 +5,7 @@
 use checks::beside::{fresh, take, verdict};
 use model::random::Random;
 use model::random::one_row::{SeenWays, next_step, row};
-use model::{Constraint, Monitor, NO_LIMIT, Step, TYPES, Verdict};
+use model::{Constraint, Monitor, NO_LIMIT, Step, Verdict};
 
 /// Takes a step on both monitors, and compares all that they say of the row; at times it is withdrawn, and taken again.
 fn both(random: &mut Random, monitor: &mut delkuthi::Monitor, model: &mut Monitor, step: Step) {
@@ -52,11 +52,8 @@ fn play(random: &mut Random, row: &Constraint, length: u64, ways: &mut SeenWays)
     model.verdict(0).expect("a row")
 }
 
-/// Lists over rows of a type, if the library has it.
+/// Lists over rows of a type.
 fn compare(type_byte: u8) {
-    if !TYPES.contains(&type_byte) {
-        return;
-    }
     let mut random = Random::new(1300 + u64::from(type_byte));
     let (mut ways, mut long) = (SeenWays::default(), 0);
     for _ in 0..10_000 {

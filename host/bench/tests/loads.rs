@@ -59,22 +59,6 @@ fn every_row_hears_events() {
     }
 }
 
-/// The rows of types 12 to 17 alone stay open, in the plain monitor for now where the library does not have them.
-#[test]
-fn rows_of_later_types_stay_open() {
-    for load in (12..=17).map(|type_byte| bench::load::alone(type_byte, 10_000)) {
-        let mut plain = Plain::new(&load.rows);
-        load.steps.iter().for_each(|step| assert_eq!(plain.step(*step), Ok(()), "{}: {step}", load.name));
-        assert!(
-            plain.verdicts().iter().all(|verdict| *verdict == Verdict::Open),
-            "{}: {:?}",
-            load.name,
-            plain.verdicts()
-        );
-        assert_eq!(load.rows.len(), 32);
-    }
-}
-
 #[test]
 fn both_monitors_agree_and_rows_stay_open() {
     all_lines().iter().for_each(|line| agree(&line.load(10_000)));

@@ -7,7 +7,7 @@ use model::limits::SHORT_ROW;
 use model::random::Random;
 use model::random::recordings::recording;
 use model::random::seen::Seen;
-use model::random::tables::{Scale, any_table, any_table_in, damaged_rows, damaged_table, row_of_type, table};
+use model::random::tables::{Scale, any_table_in, damaged_rows_in, damaged_table, row_of_type, table};
 use model::types::{delay, order};
 use model::{
     Constraint, NEWEST_EDITION, Refusal, TYPES, edition_of, read_table_up_to, recording_bytes, refused_short_in,
@@ -116,7 +116,12 @@ fn the_writers_beside_the_model() {
     for form in &FORMS {
         let mut seen = Seen::default();
         for turn in 0..4_000 {
-            let rows = if turn % 2 == 0 { any_table(&mut random) } else { damaged_rows(&mut random) };
+            // now and then rows of types that the edition does not have
+            let edition = if turn % 10 == 0 { NEWEST_EDITION } else { form.newest };
+            let rows = match turn % 2 {
+                0 => any_table_in(edition, &mut random),
+                _ => damaged_rows_in(edition, &mut random),
+            };
             let length = random.place(1_300);
             compare_writer(form, &rows, length, &mut seen);
         }
@@ -130,11 +135,8 @@ fn there_and_back_in_each_edition() {
     let mut random = Random::new(1104);
     for form in &FORMS {
         for _ in 0..2_000 {
-            let mut rows = any_table(&mut random);
+            let mut rows = any_table_in(form.newest, &mut random);
             rows.retain(is_short);
-            if edition_of(&rows) > form.newest {
-                continue;
-            }
             let mut buffer = [0; TABLE_LIMIT];
             let written =
                 form.write(&rows.iter().flat_map(short_body).collect::<Vec<u8>>(), &mut buffer).expect("a table");

@@ -1,7 +1,7 @@
 //! The qualification kit: its vectors cover the contract, the archive passes them, and a library with one wrong answer does not.
 //! Clauses: §1.1 to §1.7, §2.1 to §2.6, §3.6 to §3.8, §3.12, §3.13, §7.3 to §7.9, §7.14 to §7.19, §9.1 to §9.8, §15.1 to §15.13.
 
-use checks::contract::{clauses, every_clause, text};
+use checks::contract::{clauses, text};
 use checks::documents::text_of;
 use checks::hosts::{Host, Ran, c_compiler, compile_with, done};
 use checks::places::{Folder, archive_folder, root};
@@ -62,7 +62,7 @@ fn nothing_is_missing() {
         missing.is_empty(),
         "no vector covers {missing:?}: give them a rule in host/kit/src/clauses.rs, or an example"
     );
-    let known: HashSet<String> = every_clause(&text()).into_iter().map(|clause| clause.number).collect();
+    let known: HashSet<String> = clauses(&text()).into_iter().map(|clause| clause.number).collect();
     let gone: Vec<&str> = RULES.iter().map(|(clause, _)| *clause).filter(|clause| !known.contains(*clause)).collect();
     assert!(gone.is_empty(), "rules for clauses that the contract does not have: {gone:?}");
     let facts: BTreeSet<&String> = vectors.iter().flat_map(|vector| &vector.facts).collect();

@@ -5,29 +5,31 @@
 use checks::beside::{fresh, take, verdict};
 use model::random::Random;
 use model::random::one_row::{SeenWays, next_step, row};
-use model::{Constraint, Monitor, NO_LIMIT, Step, TYPES, Verdict};
+use model::{Constraint, Monitor, NO_LIMIT, Step, Verdict};
 
 /// Takes a step on both monitors, and compares all that they say of the row; at times it is withdrawn, and taken again.
 fn both(random: &mut Random, monitor: &mut delkuthi::Monitor, model: &mut Monitor, step: Step) {
     for turn in 0..=u8::from(random.chance(15)) {
         if turn > 0 {
             assert_eq!((monitor.withdraw().map_err(|refusal| refusal.number()), model.withdraw()), (Ok(()), Ok(())));
-            alike(monitor, model, step);
+            alike(random, monitor, model, step);
         }
         assert_eq!((take(monitor, step), model.step(step)), (Ok(()), Ok(())), "{step} over {:?}", model.rows());
-        alike(monitor, model, step);
+        alike(random, monitor, model, step);
     }
 }
 
-/// Verdict, deadlines, clock and count of both.
-fn alike(monitor: &delkuthi::Monitor, model: &Monitor, step: Step) {
+/// Verdict, clock and count of both, and at times the deadlines.
+fn alike(random: &mut Random, monitor: &delkuthi::Monitor, model: &Monitor, step: Step) {
     let told = || format!("{step} over {:?} after {:?}", model.rows(), model.steps());
     assert_eq!(verdict(monitor, 0), model.verdict(0), "{}", told());
-    let deadline = if model.closed() { NO_LIMIT } else { model.row_deadline(0) };
-    assert_eq!(monitor.row_deadline(0).unwrap_or(NO_LIMIT), deadline, "{}", told());
-    assert_eq!(monitor.deadline().unwrap_or(NO_LIMIT), deadline, "{}", told());
     assert_eq!((monitor.clock(), monitor.steps()), (model.clock(), model.count()), "{}", told());
     assert_eq!(monitor.row_waiting(0), 0, "{}", told());
+    if random.chance(20) {
+        let deadline = if model.closed() { NO_LIMIT } else { model.row_deadline(0) };
+        assert_eq!(monitor.row_deadline(0).unwrap_or(NO_LIMIT), deadline, "{}", told());
+        assert_eq!(monitor.deadline().unwrap_or(NO_LIMIT), deadline, "{}", told());
+    }
 }
 
 /// Plays a list: the row is to be broken once it has had this many steps.
@@ -50,19 +52,46 @@ fn play(random: &mut Random, row: &Constraint, length: u64, ways: &mut SeenWays)
     model.verdict(0).expect("a row")
 }
 
-/// Every type that the library has.
-#[test]
-fn beside_the_model_in_every_way() {
-    for type_byte in TYPES.into_iter().filter(|number| *number >= model::random::one_row::FIRST) {
-        let mut random = Random::new(1300 + u64::from(type_byte));
-        let (mut ways, mut long) = (SeenWays::default(), 0);
-        for _ in 0..10_000 {
-            let row = row(&mut random, type_byte);
-            let length = *random.pick(&[1, 2, 4, 8, 16, 40]);
-            let end = play(&mut random, &row, length, &mut ways);
-            long += u64::from(!matches!(end, Verdict::Broken(0..=39)));
-        }
-        ways.demand_all(type_byte);
-        assert!(long > 500, "type {type_byte}: {long} lists kept the row open for forty steps");
+/// Lists over rows of a type.
+fn compare(type_byte: u8) {
+    let mut random = Random::new(1300 + u64::from(type_byte));
+    let (mut ways, mut long) = (SeenWays::default(), 0);
+    for _ in 0..10_000 {
+        let row = row(&mut random, type_byte);
+        let length = *random.pick(&[1, 2, 4, 8, 16, 40]);
+        let end = play(&mut random, &row, length, &mut ways);
+        long += u64::from(!matches!(end, Verdict::Broken(0..=39)));
     }
+    ways.demand_all(type_byte);
+    assert!(long > 500, "type {type_byte}: {long} lists kept the row open for forty steps");
+}
+
+#[test]
+fn age() {
+    compare(12);
+}
+
+#[test]
+fn output_synchronization() {
+    compare(13);
+}
+
+#[test]
+fn input_synchronization() {
+    compare(14);
+}
+
+#[test]
+fn pattern() {
+    compare(15);
+}
+
+#[test]
+fn arbitrary() {
+    compare(16);
+}
+
+#[test]
+fn comparison() {
+    compare(17);
 }

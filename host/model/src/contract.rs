@@ -1,7 +1,7 @@
 //! `docs/CONTRACT.md` as data: its clauses, and its examples to be executed.
 
 use crate::notation::steps;
-use crate::types::{Given, LAST_TYPE};
+use crate::types::Given;
 use crate::{Constraint, NO_LIMIT, Step, recording_bytes};
 use std::collections::HashMap;
 use std::fs;
@@ -25,23 +25,7 @@ pub struct Clause {
 
 /// The clauses of the contract, in its order.
 pub fn clauses(text: &str) -> Vec<Clause> {
-    every_clause(text).into_iter().filter(|clause| is_ready(&clause.number)).collect()
-}
-
-/// The same with those that are about types that the library does not have.
-pub fn every_clause(text: &str) -> Vec<Clause> {
     text.lines().filter_map(clause).collect()
-}
-
-/// The last type of a row in a clause that is not in section 5 and is about types of the second edition.
-const ABOUT: [(&str, u8); 7] =
-    [("4.15", 12), ("4.16", 14), ("4.17", 16), ("4.18", 17), ("16.9", 17), ("16.10", 17), ("16.11", 17)];
-
-/// Is it about types that the library has, or about none? In section 5 the second number is the type's.
-fn is_ready(clause: &str) -> bool {
-    let in_section_5 = clause.strip_prefix("5.").and_then(|rest| rest.split('.').next()?.parse::<u8>().ok());
-    let about = ABOUT.iter().find(|(one, _)| *one == clause).map(|(_, last)| *last);
-    in_section_5.or(about).is_none_or(|last| last <= LAST_TYPE)
 }
 
 /// The clause that a line begins, if it begins one.
@@ -78,8 +62,7 @@ pub fn every_block(text: &str) -> Vec<Block<'_>> {
             under = Some(clause.number);
         }
     }
-    let is_ready = |clause: &Option<String>| clause.as_ref().is_none_or(|clause| is_ready(clause));
-    blocks.retain(|block| !block.sort.is_empty() && is_ready(&block.clause));
+    blocks.retain(|block| !block.sort.is_empty());
     blocks
 }
 

@@ -41,7 +41,7 @@ pub use synchronization::{Synchronization, synchronization};
 // end modules
 
 use crate::continuation::Event;
-use crate::limits::{FIRST_COLOURED, LAST_COLOUR, LAST_TIME, NEWEST_EDITION, NO_LIMIT, stream};
+use crate::limits::{FIRST_COLOURED, LAST_COLOUR, LAST_TIME, NO_LIMIT, stream};
 use crate::random::Random;
 use crate::random::tables::Draw;
 use crate::steps::{Events, History};
@@ -307,11 +307,13 @@ macro_rules! row_types {
             $(#[doc = concat!("Type ", $number, ".")] $name($name),)*
         }
 
+        /// The numbers of the types (§4.5).
+        pub const TYPES: [u8; [$($number),*].len()] = [$($number),*];
+
         /// The numbers of the types that an edition of the table has (§16.2).
         pub fn types_in(edition: u8) -> Vec<u8> {
             let first = [$(($number, $edition)),*];
-            let known = first.into_iter().filter(|(number, first)| *first <= edition && *number <= LAST_TYPE);
-            known.map(|(number, _)| number).collect()
+            first.into_iter().filter(|(_, first)| *first <= edition).map(|(number, _)| number).collect()
         }
 
         impl Constraint {
@@ -322,10 +324,7 @@ macro_rules! row_types {
 
             /// The first edition of the table that has its type (§16.2).
             pub fn edition(&self) -> u8 {
-                match self {
-                    $(Constraint::$name(_) if $number > LAST_TYPE => NEWEST_EDITION + 1,
-                    Constraint::$name(_) => $edition,)*
-                }
+                match self { $(Constraint::$name(_) => $edition,)* }
             }
 
             /// The name of its type in TADL2, without "Constraint".
@@ -372,21 +371,6 @@ macro_rules! row_types {
         })*
     };
 }
-
-/// The last type that the library has. The model has more: with the feature `every_type` they are types of the newest edition,
-/// without it they are of none.
-pub const LAST_TYPE: u8 = if cfg!(feature = "every_type") { 17 } else { 11 };
-
-/// The numbers of the types (§4.5).
-pub const TYPES: [u8; LAST_TYPE as usize] = {
-    let mut types = [0; LAST_TYPE as usize];
-    let mut place = 0;
-    while place < types.len() {
-        types[place] = place as u8 + 1;
-        place += 1;
-    }
-    types
-};
 
 row_types! {
     // begin list: made by release/row-types.py

@@ -10,7 +10,7 @@ use model::limits::stream;
 use model::random::Random;
 use model::random::one_row::{SeenWays, next_step, row};
 use model::types::{Age, Arbitrary, Comparison, InputSynchronization, OutputSynchronization, Pattern};
-use model::{Constraint, Events, History, LAST_COLOUR, NO_LIMIT, Step, TYPES, Verdict};
+use model::{Constraint, Events, History, LAST_COLOUR, NO_LIMIT, Step, Verdict};
 
 /// One of the parts that a definition has: the streams that it is about, and whether it is true of some events at a clock.
 type Part<'a> = (Vec<u8>, Box<dyn Fn(&dyn Events) -> bool + 'a>);
@@ -217,9 +217,6 @@ fn play(random: &mut Random, row: &Constraint, places: u64, length: u64, ways: &
 
 /// This many lists over rows of a type, with continuations of this many places.
 fn compare(type_byte: u8, lists: u64, places: u64) {
-    if !TYPES.contains(&type_byte) {
-        return;
-    }
     let mut random = Random::new(1200 + u64::from(type_byte));
     let (mut ways, mut ends, mut long) = (SeenWays::default(), [0; 2], 0);
     for _ in 0..lists {

@@ -10,7 +10,7 @@ use model::types::{
 use model::{Constraint, NO_LIMIT};
 
 /// The last type that the plain monitor has, and the edition of the table that ends with it.
-pub const LAST_TYPE: u8 = model::types::LAST_TYPE;
+pub const LAST_TYPE: u8 = 17;
 pub const LAST_EDITION: u8 = 2;
 
 /// No time: later than all.

@@ -1,9 +1,11 @@
 //! Random tables: accepted ones, rows that are to be refused, and damaged bytes.
 
 use super::Random;
-use crate::limits::{EARLIER_LAST_TIME, FIRST_COLOURED, LAST_KIND, LAST_TIME, NO_LIMIT, ROW_LIMIT, SPAN_LIMIT};
+use crate::limits::{
+    EARLIER_LAST_TIME, FIRST_COLOURED, LAST_KIND, LAST_TIME, NEWEST_EDITION, NO_LIMIT, ROW_LIMIT, SPAN_LIMIT,
+};
 use crate::table::table_bytes;
-use crate::types::{Constraint, TYPES};
+use crate::types::{Constraint, TYPES, types_in};
 
 /// How large the times of a row are.
 #[derive(Clone, Copy, Debug, PartialEq, Eq)]
@@ -127,6 +129,12 @@ pub fn row(random: &mut Random, scale: Scale, pool: &[u8]) -> Constraint {
 
 /// An accepted table of this many rows, mostly of one scale.
 pub fn table(random: &mut Random, rows: usize) -> Vec<Constraint> {
+    table_in(NEWEST_EDITION, random, rows)
+}
+
+/// The same, of types that an edition of the table has.
+pub fn table_in(edition: u8, random: &mut Random, rows: usize) -> Vec<Constraint> {
+    let types = types_in(edition);
     let scales = [Scale::Small, Scale::Patient, Scale::Extreme];
     let pool = pool(random);
     let common = *random.pick(&scales);
@@ -134,30 +142,36 @@ pub fn table(random: &mut Random, rows: usize) -> Vec<Constraint> {
     (0..rows)
         .map(|_| {
             let scale = scale(random);
-            row(random, scale, &pool)
+            let type_byte = *random.pick(&types);
+            row_of_type(random, type_byte, scale, &pool)
         })
         .collect()
 }
 
 /// An accepted table of 0 to 32 rows: often few, often the full 32.
 pub fn any_table(random: &mut Random) -> Vec<Constraint> {
+    any_table_in(NEWEST_EDITION, random)
+}
+
+/// The same, of types that an edition of the table has.
+pub fn any_table_in(edition: u8, random: &mut Random) -> Vec<Constraint> {
     let rows = match random.below(4) {
         0 => random.place(3),
         1 => ROW_LIMIT,
         _ => random.place(ROW_LIMIT + 1),
     };
-    table(random, rows)
-}
-
-/// The same, without the rows whose types an edition of the table does not have.
-pub fn any_table_in(edition: u8, random: &mut Random) -> Vec<Constraint> {
-    any_table(random).into_iter().filter(|row| row.edition() <= edition).collect()
+    table_in(edition, random, rows)
 }
 
 /// Rows that are mostly to be refused, by questions 3 to 7 and 18: one or two of them damaged, or too many.
 pub fn damaged_rows(random: &mut Random) -> Vec<Constraint> {
+    damaged_rows_in(NEWEST_EDITION, random)
+}
+
+/// The same, of types that an edition of the table has.
+pub fn damaged_rows_in(edition: u8, random: &mut Random) -> Vec<Constraint> {
     let number = if random.chance(20) { ROW_LIMIT + 1 + random.place(3) } else { 1 + random.place(ROW_LIMIT) };
-    let mut rows = table(random, number);
+    let mut rows = table_in(edition, random, number);
     let damages = if random.chance(10) { 0 } else { 1 + random.below(2) };
     for _ in 0..damages {
         let place = random.place(number);

@@ -3,6 +3,7 @@ use constraint::LAST_TIME;
 use constraint::NO_LIMIT;
 ghost use mathlib.Core.Path.{_≡_};
 ghost use Prim.Native.Nat.{_≤_};
+ghost use lib.ListN.{length};
 ghost use Rattle.constraint.specs.Records.{Decides, Absent};
 ghost use Rattle.constraint.specs.Accepted.{KindsFit};
 ghost use Rattle.table_row.specs.Records.{width, isKind, fieldAt, fieldsFrom};
@@ -123,9 +124,9 @@ fn range_fits(role: u8, value: u64) -> bool
 }
 
 // Is a kind none of the kinds from a place on?
-fn is_new(kind: u64, roles: [u8; 18], values: &[u64; 18], from: usize) -> bool
-    requires { ⌜ from ≤ 18 ⌝ }
-    ensures { λ r. ⌜ Decides (Absent kind (kindsIn (fieldsFrom roles (now (values .entry)) from))) r ⌝ }
+fn is_new(kind: u64, roles: &[u8; 18], values: &[u64; 18], from: usize) -> bool
+    requires { ⌜ (length (now roles) ≡ 18) × (from ≤ 18) ⌝ }
+    ensures { λ r. ⌜ Decides (Absent kind (kindsIn (fieldsFrom (now (roles .entry)) (now (values .entry)) from))) r ⌝ }
 {
     let mut i = from;
     while i < MOST_FIELDS {
@@ -140,8 +141,9 @@ fn is_new(kind: u64, roles: [u8; 18], values: &[u64; 18], from: usize) -> bool
 }
 
 // Question 5: are the kinds at most 63 and all different?
-pub(crate) fn kinds_fit(roles: [u8; 18], values: &[u64; 18]) -> bool
-    ensures { λ r. ⌜ Decides (KindsFit (kindsIn (fieldsFrom roles (now (values .entry)) 0))) r ⌝ }
+pub(crate) fn kinds_fit(roles: &[u8; 18], values: &[u64; 18]) -> bool
+    requires { ⌜ length (now roles) ≡ 18 ⌝ }
+    ensures { λ r. ⌜ Decides (KindsFit (kindsIn (fieldsFrom (now (roles .entry)) (now (values .entry)) 0))) r ⌝ }
 {
     let mut i = 0;
     while i < MOST_FIELDS {
@@ -160,8 +162,9 @@ pub(crate) fn kinds_fit(roles: [u8; 18], values: &[u64; 18]) -> bool
 }
 
 // Question 18: are the kinds plain or coloured as the type takes them?
-pub(crate) fn kind_classes_valid(roles: [u8; 18], values: &[u64; 18]) -> bool
-    ensures { λ r. ⌜ Decides (EachField KindClassFits (fieldsFrom roles (now (values .entry)) 0)) r ⌝ }
+pub(crate) fn kind_classes_valid(roles: &[u8; 18], values: &[u64; 18]) -> bool
+    requires { ⌜ length (now roles) ≡ 18 ⌝ }
+    ensures { λ r. ⌜ Decides (EachField KindClassFits (fieldsFrom (now (roles .entry)) (now (values .entry)) 0)) r ⌝ }
 {
     let mut i = 0;
     while i < MOST_FIELDS {
@@ -174,8 +177,9 @@ pub(crate) fn kind_classes_valid(roles: [u8; 18], values: &[u64; 18]) -> bool
 }
 
 // Question 6: are times, spans and maxima in range?
-pub(crate) fn ranges_fit(roles: [u8; 18], values: &[u64; 18]) -> bool
-    ensures { λ r. ⌜ Decides (EachField FieldInRange (fieldsFrom roles (now (values .entry)) 0)) r ⌝ }
+pub(crate) fn ranges_fit(roles: &[u8; 18], values: &[u64; 18]) -> bool
+    requires { ⌜ length (now roles) ≡ 18 ⌝ }
+    ensures { λ r. ⌜ Decides (EachField FieldInRange (fieldsFrom (now (roles .entry)) (now (values .entry)) 0)) r ⌝ }
 {
     let mut i = 0;
     while i < MOST_FIELDS {
@@ -252,9 +256,9 @@ fn bound_after(role: u8, value: u64, low: u64) -> u64
 }
 
 // Question 7, of fields in range: is lower ≤ upper where both stand, do offsets rise, does the left compare with the right as n says?
-pub(crate) fn lower_first(n: u64, roles: [u8; 18], values: &[u64; 18]) -> bool
-    requires { ⌜ EachField FieldInRange (fieldsFrom roles (now values) 0) ⌝ }
-    ensures { λ r. ⌜ Decides (Ordered n 0 (fieldsFrom roles (now (values .entry)) 0)) r ⌝ }
+pub(crate) fn lower_first(n: u64, roles: &[u8; 18], values: &[u64; 18]) -> bool
+    requires { ⌜ (length (now roles) ≡ 18) × EachField FieldInRange (fieldsFrom (now roles) (now values) 0) ⌝ }
+    ensures { λ r. ⌜ Decides (Ordered n 0 (fieldsFrom (now (roles .entry)) (now (values .entry)) 0)) r ⌝ }
 {
     let mut low = 0;
     let mut i = 0;

@@ -87,16 +87,16 @@ pub fn validate_values(edition: u8, tag: u8, values: &[u64; 18]) -> Answer
         return Answer::Refused(4);
     }
     let roles = types::roles_of(tag, n);
-    if !fields::kinds_fit(roles, values) {
+    if !fields::kinds_fit(&roles, values) {
         return Answer::Refused(5);
     }
-    if !fields::kind_classes_valid(roles, values) {
+    if !fields::kind_classes_valid(&roles, values) {
         return Answer::Refused(18);
     }
-    if !fields::ranges_fit(roles, values) {
+    if !fields::ranges_fit(&roles, values) {
         return Answer::Refused(6);
     }
-    if !fields::lower_first(n, roles, values) {
+    if !fields::lower_first(n, &roles, values) {
         return Answer::Refused(7);
     }
     Answer::Taken

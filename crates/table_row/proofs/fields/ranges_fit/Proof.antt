@@ -9,31 +9,31 @@ use Rattle.table_row.proofs.fields.ranges_fit.Statement.{statement}
 use Rattle.table_row.proofs.fields.ranges_fit.Tie as tie
 
 abbrev Inv-loop : tie.InvT-loop
-Inv-loop values roles i₀ i =
+Inv-loop roles values i₀ i =
     (i ≤ 18) × ((b : Bool) → Decides (EachField FieldInRange (fieldsFrom roles values i)) b → Decides (EachField FieldInRange (fieldsFrom roles values 0)) b)
 
 abbrev μ-loop : tie.MeasureT-loop
-μ-loop values roles i₀ i = 18 - i
+μ-loop roles values i₀ i = 18 - i
 
 returns : tie.Need-returns Inv-loop μ-loop
 returns c =
-    let at-loop = c .before .before .before .before in let a = at-loop .before .args in let test = c .before .range-fits in
+    let at-loop = c .before .before .before .before .before in let a = at-loop .before .args in let test = c .before .range-fits in
     at-loop .loop .inv .1 false
     (λ all. failed (test .result) (test .ensures) (c .if1 .taken)
-    (field-parts FieldInRange (a .t1) (a .values .now) (at-loop .loop .i) (omega arith) all .0))
+    (field-parts FieldInRange (a .roles .now) (a .values .now) (at-loop .loop .i) (omega (arith, at-loop .before .pre)) all .0))
 
 loop-again : tie.Need-loop-again Inv-loop μ-loop
 loop-again c =
-    let at-loop = c .before .before .before .before in let a = at-loop .before .args in let test = c .before .range-fits in
+    let at-loop = c .before .before .before .before .before in let a = at-loop .before .args in let test = c .before .range-fits in
     let here = passed (test .result) (test .ensures) (c .if1 .left) in (
       omega arith,
-      λ b later. at-loop .loop .inv .1 b (field-here FieldInRange (a .t1) (a .values .now) (at-loop .loop .i) (omega arith) here b later),
+      λ b later. at-loop .loop .inv .1 b (field-here FieldInRange (a .roles .now) (a .values .now) (at-loop .loop .i) (omega (arith, at-loop .before .pre)) here b later),
     )
 
 returns-2 : tie.Need-returns-2 Inv-loop μ-loop
 returns-2 c =
     let a = c .before .before .args in
-    c .before .loop .inv .1 true (rw (fields-end (a .t1) (a .values .now) (c .before .loop .i) (omega arith)) tt)
+    c .before .loop .inv .1 true (rw (fields-end (a .roles .now) (a .values .now) (c .before .loop .i) (omega (arith, c .before .before .pre))) tt)
 
 pub ranges-fit-spec : {M : Type 1} → statement M
 ranges-fit-spec =

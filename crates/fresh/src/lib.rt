@@ -59,12 +59,13 @@ fn put_rows(m: &mut Words, table: &[u8])
     requires { ⌜ HoldsRows (now table) ⌝ }
     ensures { λ _. ⌜ StoresRows (now (table .entry)) (now (m .entry)) (now (m .exit)) ⌝ }
 {
+    let mut values = [0u64; 18];
     let mut place = 1;
     let mut i = 0;
     while i < 32 {
-        let placed = scan::row_at(table, place);
-        stored::begin(&mut m[i], placed.row.tag, &placed.row.values);
-        place = placed.next;
+        let found = scan::load_at(&mut values, table, place);
+        stored::begin(&mut m[i], found.tag, &values);
+        place = found.next;
         i += 1;
     }
 }

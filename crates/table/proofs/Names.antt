@@ -15,7 +15,9 @@ pub use Rattle.table_row.proofs.Accepting.{ReadBack, row-fits, write-then-read 
 pub use Rattle.table_row.proofs.Bodies.{bytes-part, number-back, number-small}
 pub use Rattle.table_row.proofs.Standing.{row-stands, stands-known, stands-once, two-long}
 pub use Rattle.table_row.proofs.{Judging.row-bytes-long, Judging.row-short, Lines.known-short, Tables.row-known, Tables.rows-from, Tables.rows-length}
-pub use Rattle.table_row.specs.Records.{rowFrom, rowIn}
+pub use Rattle.table_row.proofs.Stores.{loaded-row, sets-all}
+pub use Rattle.table_row.specs.Records.{rolesOf, rowFrom, rowIn}
+pub use Rattle.constraint.proofs.Library.{length-sets, replicate}
 pub use Rattle.table_row.specs.{Tables.rowsOf, declared.Table.Table, declared.TableRow.TableRow}
 pub use Rattle.constraint.specs.Accepted.{Accepted, AcceptedIn, KindsFit, KindsSuit, kinds, rowQuestions, rowQuestionsIn}
 pub use Rattle.constraint.specs.Bytes.{bytesAt, bytesOf, numberAt}
@@ -34,5 +36,6 @@ pub use Rattle.table.specs.{Reading.ReadsInto, Reading.readAs, Reading.r
 pub use Rattle.table.specs.{Scan.Counted, Scan.PlacedAt, Scan.Says, Writing.Writes, declared.ReadAnswer.ReadAnswer, declared.Reading.Reading}
 pub use Rattle.table.specs.{declared.WriteAnswer.WriteAnswer, declared.scan.Placed.Placed}
 unfoldable pub use Rattle.constraint.specs.Table.{placeQuestions, rowBody, rowBytes, rowsBytes, tableBytesIn}
-unfoldable pub use Rattle.constraint.specs.{Accepted.InRange, Accepted.rowsQuestions, Bytes.Bytes}
+unfoldable pub use Rattle.constraint.specs.{Accepted.InRange, Accepted.rowsQuestions, Bytes.Bytes, Bytes.numberBehind}
 unfoldable pub use Rattle.table.specs.Raw.{rawRows}
+unfoldable pub use Rattle.table_row.specs.Records.{rowRead, valuesAt}

@@ -14,6 +14,7 @@ use Rattle.table_row.specs.Records.{rowIn}
 use Rattle.table.specs.Rows.{rowReadAt}
 use Rattle.table.specs.declared.ReadAnswer.{ReadAnswer}
 use Rattle.table.specs.declared.scan.Scan.{Scan}
+use Rattle.table.specs.declared.scan.Loaded.{Loaded}
 use Rattle.table.specs.declared.scan.Placed.{Placed}
 use Rattle.table.specs.declared.scan.Numbered.{Numbered}
 
@@ -45,6 +46,11 @@ pub record PlacedAt (bytes : List ℕ) (place : ℕ) (r : Placed) : Type 0 where
   pub stands : WholeAt bytes place → (edition : ℕ) → RowAt edition bytes place (rowIn (r .row))
   pub behind : WholeAt bytes place → r .next ≡ place + 2 + lengthAt bytes place
   pub none : ¬ WholeAt bytes place → (rowIn (r .row) ≡ filler) × (r .next ≡ place)
+
+-- the same of a row whose values are stored in an array, which has as many as a row
+pub record LoadedAt (bytes : List ℕ) (place : ℕ) (values : List ℕ) (r : Loaded) : Type 0 where
+  pub placed : PlacedAt bytes place (record { row = record { tag = r .tag; values = values }; next = r .next })
+  pub many : length values ≡ 18
 
 -- the row behind i others of a table that is read
 abbrev pub RowBehind : List ℕ → ℕ → Constraint → Type 0

@@ -4,7 +4,7 @@ use super::Reading;
 use super::scan;
 use constraint::Answer;
 use table_row::Table;
-use table_row::TableRow;
+use table_row::load;
 use table_row::shape_fits;
 use table_row::types;
 use table_row::validate_values;
@@ -70,8 +70,9 @@ pub(crate) fn validate_row(edition: u8, bytes: &[u8], place: usize, before: usiz
     if !shape_fits(edition, body, size) {
         return Answer::Refused(4);
     }
-    let row = TableRow::read(body);
-    validate_values(edition, row.tag, &row.values)
+    let mut values = [0u64; 18];
+    let tag = load(&mut values, body);
+    validate_values(edition, tag, &values)
 }
 
 // The rows of an edition behind the version byte, row by row.

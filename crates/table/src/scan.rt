@@ -5,10 +5,11 @@ use super::reader::version_known;
 use super::reader::whole_at;
 use constraint::Answer;
 use table_row::TableRow;
+ghost use mathlib.Core.Path.{_≡_};
 ghost use Prim.Native.Nat.{_<_};
 ghost use lib.ListN.{length};
 ghost use Rattle.table_row.specs.Records.{rowIn};
-ghost use Rattle.table.specs.Scan.{CountsRows, Scans, PlacedAt, RowBehind, FindsRow};
+ghost use Rattle.table.specs.Scan.{CountsRows, Scans, LoadedAt, PlacedAt, RowBehind, FindsRow};
 
 // The answer to a table's bytes, and how many rows they hold; after a refusal none.
 pub struct Scan {
@@ -21,6 +22,15 @@ pub struct Placed {
     pub row: TableRow,
     pub next: usize,
 }
+
+// The type of the row at a place, whose values are stored elsewhere, and the place behind it.
+pub struct Loaded {
+    pub tag: u8,
+    pub next: usize,
+}
+
+// The type byte of the row of an empty entry.
+const FILLER_TAG: u8 = 6;
 
 // What a table's bytes hold, and the row of one number; the row of an empty entry where the table has no such row.
 pub struct Numbered {
@@ -66,18 +76,39 @@ pub fn validate(newest: u8, bytes: &[u8]) -> Scan
     validate_rows(edition, bytes)
 }
 
+// Stores the values of the row at a place, and returns its type and the place behind it. Where no whole row stands, it is the row of an empty entry,
+// and the place itself.
+pub fn load_at(values: &mut [u64; 18], bytes: &[u8], place: usize) -> Loaded
+    requires { ⌜ length (now values) ≡ 18 ⌝ }
+    ensures { λ r. ⌜ LoadedAt (now (bytes .entry)) place (now (values .exit)) r ⌝ }
+{
+    if !whole_at(bytes, place) {
+        table_row::fill(values, bytes, &[0u8; 18]);
+        return Loaded {
+            tag: FILLER_TAG,
+            next: place,
+        };
+    }
+    let start = place + 2;
+    let next = start + big_endian::two_at(bytes, place);
+    let tag = table_row::load(values, &bytes[start..next]);
+    Loaded { tag, next }
+}
+
 // The row at a place, and the place behind it. Where no whole row stands, it is the row of an empty entry, and the place itself.
 pub fn row_at(bytes: &[u8], place: usize) -> Placed
     ensures { λ r. ⌜ PlacedAt (now (bytes .entry)) place r ⌝ }
 {
-    if !whole_at(bytes, place) {
-        let row = TableRow::filler();
-        return Placed { row, next: place };
+    let mut values = [0u64; 18];
+    let found = load_at(&mut values, bytes, place);
+    let row = TableRow {
+        tag: found.tag,
+        values,
+    };
+    Placed {
+        row,
+        next: found.next,
     }
-    let start = place + 2;
-    let next = start + big_endian::two_at(bytes, place);
-    let row = TableRow::read(&bytes[start..next]);
-    Placed { row, next }
 }
 
 // The row behind i others of an accepted table.

@@ -1,5 +1,5 @@
 -- Values and fields stored one after the other.
-use Rattle.constraint.proofs.Library.{List, [], _++_, _+_, _<_, _∙_, _∷_, _≡_, _≤_, add-one, ap, append-nil, arith, drop, drop-cons}
+use Rattle.constraint.proofs.Library.{List, [], _++_, _+_, _<_, _∙_, _∷_, _≡_, _≤_, add-one, ap, ap₂, append-nil, arith, drop, drop-cons}
 use Rattle.constraint.proofs.Library.{drop-of-length-le}
 use Rattle.constraint.proofs.Library.{length, refl, set, sets, suc, sym, ℕ}
 use Rattle.constraint.specs.Steps.{at}
@@ -7,9 +7,9 @@ use Rattle.constraint.specs.Bytes.{bytesOf, numberAt}
 use Rattle.big_endian.proofs.Numbers.{bytes-length}
 use Rattle.big_endian.proofs.Stores.{stores-append, stores-front}
 use Rattle.constraint.specs.Table.{fieldsBytes}
-use Rattle.table_row.specs.Records.{fieldAt, fieldsFrom, valuesAt, width}
+use Rattle.table_row.specs.Records.{Loads, fieldAt, fieldsFrom, rolesOf, rowFrom, rowIn, rowRead, valuesAt, width}
 use Rattle.table_row.proofs.Bodies.{place-bytes}
-use Rattle.table_row.proofs.FieldByField.{fields-next}
+use Rattle.table_row.proofs.{FieldByField.fields-next, Standing.values-length}
 
 -- a list stored over one of its length
 pub sets-all : (l vs : List ℕ) → length l ≡ length vs → sets l 0 vs ≡ vs
@@ -31,3 +31,9 @@ fields-more buffer next roles values i h =
     ap (sets buffer next) (ap fieldsBytes (fields-next roles values i h) ∙ place-bytes (at roles i) (at values i) (fieldsFrom roles values (i + 1)))
     ∙ stores-append buffer next here later
     ∙ ap (λ (n : ℕ). sets (sets buffer next here) (next + n) later) (bytes-length (width (at roles i)) (at values i))
+
+-- a row that is loaded is the one that the body is read as
+pub loaded-row : (body entry exit : List ℕ) (tag : ℕ) → length entry ≡ 18 → Loads body entry tag exit → rowRead tag exit ≡ rowIn (rowFrom body)
+loaded-row body entry exit tag long loads =
+    let roles = rolesOf (at body 0) (at body 1) in
+    ap₂ rowRead (loads .0) (loads .1 ∙ sets-all entry (valuesAt roles body 1) (long ∙ sym (values-length roles body 1)))

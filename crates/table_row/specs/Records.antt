@@ -6,6 +6,7 @@ use mathlib.Core.Bool.{Bool, true, cond, _||_}
 use mathlib.Core.List.{List, [], _∷_, _++_}
 use lib.Dec.{eqb, leb, ltb}
 use lib.ListN.{drop, getD, replicate}
+use lib.Seq.{sets}
 use Rattle.constraint.specs.Limits.{spanLimit, repetitionSpanLimit}
 use Rattle.constraint.specs.Steps.{at}
 use Rattle.constraint.specs.Bytes.{numberAt}
@@ -188,6 +189,10 @@ cleared (r ∷ roles) (x ∷ values) = cond (ltb r 65) 0 x ∷ cleared roles val
 -- the record that a body is read as
 abbrev pub rowFrom : List ℕ → TableRow
 rowFrom body = record { tag = at body 0; values = valuesAt (rolesOf (at body 0) (at body 1)) body 1 }
+
+-- the type that a body is read as, and its values stored over others
+abbrev pub Loads : List ℕ → List ℕ → ℕ → List ℕ → Type 0
+Loads body entry tag exit = (tag ≡ at body 0) × (exit ≡ sets entry 0 (valuesAt (rolesOf (at body 0) (at body 1)) body 1))
 
 -- n values from a place on, and n pairs of them
 abbrev pub entries : ℕ → List ℕ → ℕ → List ℕ

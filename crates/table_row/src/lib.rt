@@ -8,7 +8,7 @@ ghost use mathlib.Core.Path.{_≡_};
 ghost use Prim.Native.Nat.{_+_, _≤_};
 ghost use lib.ListN.{length};
 ghost use lib.Seq.{sets};
-ghost use Rattle.table_row.specs.Records.{fieldsAs, valuesAt, total, rowFrom, rowIn, rowRead};
+ghost use Rattle.table_row.specs.Records.{Loads, fieldsAs, valuesAt, total, rowFrom, rowIn, rowRead};
 ghost use Rattle.constraint.specs.Accepted.{rowQuestionsIn, rowsQuestions};
 ghost use Rattle.table_row.specs.Tables.{rowsOf, Adds};
 ghost use mathlib.Core.List.{[]};
@@ -24,8 +24,9 @@ pub struct TableRow {
 }
 
 // Stores the values of the fields of these roles in a body, from its second byte on: past its end, of the bytes that are there.
-fn fill(values: &mut [u64; 18], body: &[u8], roles: [u8; 18])
-    ensures { λ _. ⌜ now (values .exit) ≡ sets (now (values .entry)) 0 (valuesAt roles (now (body .entry)) 1) ⌝ }
+pub fn fill(values: &mut [u64; 18], body: &[u8], roles: &[u8; 18])
+    requires { ⌜ length (now roles) ≡ 18 ⌝ }
+    ensures { λ _. ⌜ now (values .exit) ≡ sets (now (values .entry)) 0 (valuesAt (now (roles .entry)) (now (body .entry)) 1) ⌝ }
 {
     let mut place = 1;
     let mut i = 0;
@@ -35,6 +36,17 @@ fn fill(values: &mut [u64; 18], body: &[u8], roles: [u8; 18])
         place += width;
         i += 1;
     }
+}
+
+// Stores the values of the row that a body is read as, and returns its type.
+pub fn load(values: &mut [u64; 18], body: &[u8]) -> u8
+    ensures { λ r. ⌜ Loads (now (body .entry)) (now (values .entry)) r (now (values .exit)) ⌝ }
+{
+    let tag = big_endian::byte_at(body, 0);
+    let n = big_endian::byte_at(body, 1);
+    let roles = types::roles_of(tag, n as u64);
+    fill(values, body, &roles);
+    tag
 }
 
 // How many bytes fields of these roles have.
@@ -107,15 +119,9 @@ impl TableRow {
     pub fn read(body: &[u8]) -> Self
         ensures { λ r. ⌜ r ≡ rowFrom (now (body .entry)) ⌝ }
     {
-        let tag = big_endian::byte_at(body, 0);
-        let n = big_endian::byte_at(body, 1);
-        let roles = types::roles_of(tag, n as u64);
-        let mut row = TableRow {
-            tag,
-            values: [0u64; 18],
-        };
-        fill(&mut row.values, body, roles);
-        row
+        let mut values = [0u64; 18];
+        let tag = load(&mut values, body);
+        TableRow { tag, values }
     }
 
     // The answer to questions 4, without the length, 5, 18, 6 and 7, in an edition. Any record is taken, also one of no type.

@@ -15,19 +15,19 @@ abbrev μ-loop : tie.MeasureT-loop
 μ-loop values₀ body roles place₀ i₀ values place i = 18 - i
 
 number-at-requires : tie.Need-number-at-requires Inv-loop μ-loop
-number-at-requires c κs = let a = c .before .before .before .before .args in omega (arith, c .width-of .ensures, width-small (at (a .t3) (c .before .before .loop .i)))
+number-at-requires c κs = let a = c .before .before .before .before .before .args in omega (arith, c .width-of .ensures, width-small (at (a .roles .now) (c .before .before .before .loop .i)))
 
 add-place : tie.Need-add-place Inv-loop μ-loop
 add-place c =
-    let at-loop = c .before .before .before in let a = at-loop .before .before .args in
-    omega (arith, c .before .width-of .ensures, width-small (at (a .t3) (at-loop .loop .i)), at-loop .loop .inv .1)
+    let at-loop = c .before .before .before .before in let a = at-loop .before .before .args in
+    omega (arith, c .before .width-of .ensures, width-small (at (a .roles .now) (at-loop .loop .i)), at-loop .loop .inv .1)
 
 loop-again : tie.Need-loop-again Inv-loop μ-loop
 loop-again c =
-    let at-loop = c .before .before .before in let a = at-loop .before .before .args in let loop = at-loop .loop in let wide = c .before .width-of in (
+    let at-loop = c .before .before .before .before in let a = at-loop .before .before .args in let loop = at-loop .loop in let wide = c .before .width-of in (
       omega arith,
-      omega (arith, wide .ensures, width-small (at (a .t3) (loop .i))),
-      rw (c .number-at .ensures, wide .ensures) (sym (values-more (loop .values) (a .t3) (now (a .body)) (loop .place) (loop .i) (omega arith)) ∙ loop .inv .2),
+      omega (arith, wide .ensures, width-small (at (a .roles .now) (loop .i))),
+      rw (c .number-at .ensures, wide .ensures) (sym (values-more (loop .values) (a .roles .now) (now (a .body)) (loop .place) (loop .i) (omega (arith, at-loop .before .before .pre))) ∙ loop .inv .2),
     )
 
 returns : tie.Need-returns Inv-loop μ-loop
@@ -35,7 +35,7 @@ unfolding valuesAt
 returns c =
     let a = c .before .before .before .args in let loop = c .before .loop in
     sym (ap (λ (left : List ℕ). sets (loop .values) (loop .i) (valuesAt left (now (a .body)) (loop .place)))
-    (drop-of-length-le (a .t3) {i = loop .i} (omega arith)))
+    (drop-of-length-le (a .roles .now) {i = loop .i} (omega (arith, c .before .before .before .pre))))
     ∙ loop .inv .2
 
 pub fill-spec : {M : Type 1} → statement M

@@ -1,5 +1,5 @@
 -- The values are read where the definition reads them.
-use Rattle.constraint.proofs.Library.{List, _∙_, ap, ap₂, arith, needs, now, replicate, sets, ℕ}
+use Rattle.constraint.proofs.Library.{List, _∙_, ap₂, arith, needs, now, replicate, ℕ}
 use Rattle.constraint.specs.Steps.{at}
 use Rattle.table_row.specs.Records.{rolesOf, valuesAt}
 use Rattle.table_row.specs.declared.TableRow.{TableRow}
@@ -13,13 +13,10 @@ row t v = record { tag = t; values = v }
 returns : tie.Need-returns
 unfolding row
 returns c =
-    let at-n = c .before .before .before in let body = now (at-n .before .before .before .args .body) in
+    let body = now (c .before .before .before .args .body) in
     let roles = rolesOf (at body 0) (at body 1) in
-    ap₂ row (at-n .before .byte-at .ensures)
-    (c .fill .ensures
-    ∙ ap (λ (l : List ℕ). sets (replicate 18 0) 0 (valuesAt l body 1))
-    (c .before .before .roles-of .ensures ∙ ap₂ rolesOf (at-n .before .byte-at .ensures) (at-n .byte-at2 .ensures))
-    ∙ sets-all (replicate 18 0) (valuesAt roles body 1) (omega (arith, values-length roles body 1)))
+    ap₂ row (c .load .ensures .0)
+    (c .load .ensures .1 ∙ sets-all (replicate 18 0) (valuesAt roles body 1) (omega (arith, values-length roles body 1)))
 
 pub read-spec : {M : Type 1} → statement M
-read-spec = tie.close (tie.spec (λ c. search needs) (λ c. search needs) (λ c. search needs) (λ c. search needs) (λ c. search needs) returns)
+read-spec = tie.close (tie.spec (λ c κs. search needs) returns)

@@ -16,6 +16,7 @@ pub use Rattle.constraint.specs.Constraint.{StrongSynchronization, Synch
 pub use Rattle.constraint.specs.Continuation.{BrokenAt, Continues, EventInOrder, Open, Reads, more, reads-broken, reads-kept, reads-open, stop}
 pub use Rattle.constraint.specs.Limits.{firstColoured, lastColour, lastCount, lastKind, lastTime, noLimit, rowLimit, streamCount}
 pub use Rattle.constraint.specs.Meets.{Apart, AtLeastApart, Between, Executes, HiddenPoints, NotLater, Recorded, no-event, paused}
+pub use Rattle.constraint.specs.Meets.{placeOf}
 pub use Rattle.constraint.specs.Meets.{started, stopped}
 pub use Rattle.constraint.specs.Records.{Absent, Decides, filler}
 pub use Rattle.constraint.specs.Run.{Keeps, Left, Request, Room, Run, asks, done, eventQuestions, leftBy, noneLeft, request, requestQuestions}
@@ -30,6 +31,7 @@ pub use Rattle.constraint.specs.{Questions.Question, Streams.kindOf, Str
 pub use Rattle.constraint.specs.{declared.Answer.Answer, declared.Answer.the-variants.Refused, declared.Answer.the-variants.Taken}
 pub use Rattle.constraint.specs.{declared.Call.Call, declared.Verdict.Verdict}
 unfoldable pub use Rattle.constraint.specs.Accepted.{InRange, KindsFit, KindsSuit, LowerFirst, rowsQuestions}
+unfoldable pub use Rattle.constraint.specs.Meets.{numberOf, pointOf}
 unfoldable pub use Rattle.constraint.specs.Meets.{Meets, MeetsAge, MeetsArbitrary, MeetsBurst, MeetsDelay, MeetsExecutionTime}
 unfoldable pub use Rattle.constraint.specs.Meets.{MeetsInputSynchronization, MeetsOrder, MeetsOutputSynchronization, MeetsPattern}
 unfoldable pub use Rattle.constraint.specs.Meets.{MeetsReaction}

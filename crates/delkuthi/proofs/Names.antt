@@ -17,8 +17,10 @@ pub use Rattle.constraint.specs.Report.{EachReads, ReportOfUpTo, Reports, Repor
 pub use Rattle.constraint.specs.Report.{row-reads}
 pub use Rattle.constraint.specs.Run.{Left, Request, asks, done, stepFor}
 pub use Rattle.constraint.specs.Stamps.{AnswersStampsUpTo, RepeatRow, not-asked, stampsQuestions}
-pub use Rattle.constraint.specs.Table.{ReadsRows, ReadsTableUpTo, TableRead, bodyAt, rowBody, rowBytes, rowThen, table-of, table-refused, writerQuestions}
-pub use Rattle.constraint.specs.{Accepted.Accepted, Accepted.rowQuestionsIn, Bytes.Bytes, Limits.lastCount, Limits.rowLimit, Promise.ReadsRow, Promise.no-row, Promise.row}
+pub use Rattle.constraint.specs.Table.{ReadsRows, ReadsTableUpTo, TableRead, bodyAt, rowBody, rowBytes, rowThen, table-of, table-refused}
+pub use Rattle.constraint.specs.Table.{writerQuestions}
+pub use Rattle.constraint.specs.{Accepted.Accepted, Accepted.rowQuestionsIn, Bytes.Bytes, Limits.lastCount, Limits.rowLimit, Promise.ReadsRow}
+pub use Rattle.constraint.specs.{Promise.no-row, Promise.row}
 pub use Rattle.constraint.specs.{Questions.Question, Steps.Step, Steps.at, Steps.close, Types.lastType, Types.typeOf, declared.Answer.Answer}
 pub use Rattle.constraint.specs.{declared.Answer.the-variants.Refused, declared.Answer.the-variants.Taken, declared.Call.Call}
 pub use Rattle.constraint.specs.{Constraint.Constraint, Constraint.Repeat, declared.JoinAnswer.JoinAnswer}

@@ -1,7 +1,9 @@
 -- A refusal of the table writer has a number from 1 to 127, as each of its questions has; and a table that is written is short.
 use Rattle.delkuthi.proofs.Names.{Constraint, FirstRefused, Judged, List, MakesTableIn, Question, Refused, Taken, WriteAnswer, Writes}
-use Rattle.delkuthi.proofs.Names.{WritesRaw, [], _*_, _+_, _<_, _∷_, _≡_, _≤_, all-read, answerIn, arith, at, judged-all, judged-parts, known-short, length}
-use Rattle.delkuthi.proofs.Names.{length-append, never, refl, row-bytes-long, rowBody, rowBytes, rowQuestionsIn, rows-room, rows-then, rowsBytes, rowsQuestions, stopped-at}
+use Rattle.delkuthi.proofs.Names.{WritesRaw, [], _*_, _+_, _<_, _∷_, _≡_, _≤_, all-read, answerIn, arith, at, judged-all, judged-parts}
+use Rattle.delkuthi.proofs.Names.{known-short, length}
+use Rattle.delkuthi.proofs.Names.{length-append, never, refl, row-bytes-long, rowBody, rowBytes, rowQuestionsIn, rows-room, rows-then}
+use Rattle.delkuthi.proofs.Names.{rowsBytes, rowsQuestions, stopped-at}
 use Rattle.delkuthi.proofs.Names.{subst, tableBytesIn, tableNumber, write-back, writerQuestions, ℕ}
 use Rattle.delkuthi.proofs.RecordNumbers.{Short, number-short, rows-short, short?}
 

@@ -1,6 +1,6 @@
 -- What the loop over the records from a start on keeps: its row is that of a run, whichever constraint has the words that it began with.
-use Rattle.constraint.proofs.Library.{Bool, List, [], _&&_, _+_, _<_, _∙_, _∷_, _≡_, _≤_, ap, arith, by-cases, cond, eqb, false, getD, getD-set-other}
-use Rattle.constraint.proofs.Library.{getD-set-same, length, length-set, ltb, refl, replicate, set, subst, suc, sym, true, ℕ, ℕ-discrete, ⊎-elim}
+use Rattle.constraint.proofs.Library.{List, [], _+_, _<_, _∙_, _∷_, _≡_, _≤_, ap, arith, by-cases, false, getD, getD-set-other}
+use Rattle.constraint.proofs.Library.{getD-set-same, length, length-set, set, subst, suc, sym, true, ℕ, ℕ-discrete, ⊎-elim}
 use Rattle.constraint.specs.{Accepted.Accepted, Steps.Step, Steps.at, Constraint.Constraint}
 use Rattle.row_type.specs.Words.{numberWords, parametersAt, rowWords}
 use Rattle.monitor.proofs.Demand.{accepted-sound}

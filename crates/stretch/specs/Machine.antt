@@ -57,6 +57,10 @@ abbrev pub NeedsFrom : Constraint → List ℕ → List ℕ → ℕ → ℕ → 
 NeedsFrom c streams times count start need =
     (steps : List Step) → RunOf steps streams times count → Accepted (c ∷ []) → start < count → Needs c (drop start steps) need
 
+-- from each start on
+abbrev pub NeedsEach : Constraint → List ℕ → List ℕ → ℕ → List ℕ → Type 0
+NeedsEach c streams times count need = (start : ℕ) → start < count → NeedsFrom c streams times count start (getD need start 0)
+
 -- a stretch is as long as the number for its start says, or longer
 abbrev pub Enough : List ℕ → Stretch → Type 0
 Enough need s = at need (s .first) ≤ s .size

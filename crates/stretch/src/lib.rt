@@ -14,12 +14,12 @@ use table::ReadAnswer;
 use table::scan;
 use table_row::TableRow;
 ghost use mathlib.Core.Path.{_≡_};
-ghost use Prim.Native.Nat.{ℕ, _≤_, _<_};
-ghost use lib.ListN.{length, getD};
+ghost use Prim.Native.Nat.{_≤_, _<_};
+ghost use lib.ListN.{length};
 ghost use Rattle.constraint.specs.Stretches.{AnswersStretchUpTo};
 ghost use Rattle.constraint.specs.Types.{Known};
 ghost use Rattle.table_row.specs.Records.{rowIn};
-ghost use Rattle.stretch.specs.Machine.{seenAs, KeepsRecord, GathersRecords, NeedsFrom, Searches, TriesAll, AsksRow};
+ghost use Rattle.stretch.specs.Machine.{seenAs, KeepsRecord, GathersRecords, NeedsFrom, NeedsEach, Searches, TriesAll, AsksRow};
 
 // How many records a recording may have.
 pub const RECORD_LIMIT: usize = 256;
@@ -151,7 +151,7 @@ fn need_from(
 // The same for each start.
 fn needs(wanted: TableRow, streams: &[u64; 256], times: &[u64; 256], count: usize) -> [usize; 256]
     requires { ⌜ (count ≤ 256) × Known (rowIn wanted) ⌝ }
-    ensures { λ r. ⌜ ((start : ℕ) → start < count → NeedsFrom (rowIn wanted) (now (streams .entry)) (now (times .entry)) count start (getD r start 0)) ⌝ }
+    ensures { λ r. ⌜ NeedsEach (rowIn wanted) (now (streams .entry)) (now (times .entry)) count r ⌝ }
 {
     let mut need = [0usize; 256];
     let mut start: usize = 0;

@@ -1,5 +1,5 @@
 -- A row that is there is tried, and any other number gives 15.
-use Rattle.constraint.proofs.Library.{arith, needs}
+use Rattle.constraint.proofs.Library.{arith}
 use Rattle.stretch.proofs.{Answers.asks-none, Answers.asks-row, ask_row.Statement.statement}
 use Rattle.table_row.specs.Records.{rowIn}
 use Rattle.stretch.proofs.ask_row.Tie as tie

@@ -34,7 +34,8 @@ asked c =
     rw (← c .before .before .seen .ensures) (c .step-overflows .ensures (lying .row) (lying .before) (lying .lies))
 
 stepped : (c : tie.After-step Inv-loop μ-loop) →
-    let at-loop = c .before .before .before .before .before .before .before .before .before in let args = at-loop .before .before .before .before .before .args in
+    let at-loop = c .before .before .before .before .before .before .before .before .before in
+    let args = at-loop .before .before .before .before .before .args in
     let lying = at-loop .loop .inv .1 in
     let o = seenAs (at (args .streams .now) (at-loop .loop .at)) (at (args .times .now) (at-loop .loop .at)) in
     c .step .last .0 ≡ wordsOfRow (steppedRow o (at-loop .loop .size + 1) (lying .row))
@@ -46,7 +47,8 @@ stepped c =
 returns : tie.Need-returns Inv-loop μ-loop
 returns c =
     let q = c .before in let in-loop = q .before .before .before .before .before in let at-loop = in-loop .before in let begin = at-loop .before in
-    let args = begin .before .before .before .before .args in let inv = at-loop .loop .inv in
+    let args = begin .before .before .before .before .args in
+    let inv = at-loop .loop .inv in
     to-crowded (args .streams .now) (args .times .now) (args .count) (args .start) (inv .0) _ _ _ _ (inv .1 .to) (in-loop .loop-test .taken)
     (sym (asked q) ∙ c .if1 .taken) (rowIn (args .t1)) (begin .begin .ensures)
 
@@ -58,7 +60,8 @@ broken-word words r b e = ap (λ m. getD (getD m 1 []) 19 0) e
 returns-2 : tie.Need-returns-2 Inv-loop μ-loop
 returns-2 c =
     let s = c .before .before in let e = s .before .before in let q = e .before in let in-loop = q .before .before .before .before .before in
-    let at-loop = in-loop .before in let begin = at-loop .before in let args = begin .before .before .before .before .args in let inv = at-loop .loop .inv in
+    let at-loop = in-loop .before in let begin = at-loop .before in let args = begin .before .before .before .before .args in
+    let inv = at-loop .loop .inv in
     to-broken (args .streams .now) (args .times .now) (args .count) (args .start) (inv .0) _ _ _ _ (inv .1 .to) (in-loop .loop-test .taken)
     (sym (asked q) ∙ e .if1 .left) (subst (λ (n : ℕ). 0 < n) (broken-word _ _ _ (stepped s)) (c .if2 .taken))
     (rowIn (args .t1)) (begin .begin .ensures)
@@ -66,7 +69,8 @@ returns-2 c =
 loop-again : tie.Need-loop-again Inv-loop μ-loop
 loop-again c =
     let s = c .before .before in let e = s .before .before in let q = e .before in let in-loop = q .before .before .before .before .before in
-    let at-loop = in-loop .before in let args = at-loop .before .before .before .before .before .args in let inv = at-loop .loop .inv in (
+    let at-loop = in-loop .before in let args = at-loop .before .before .before .before .before .args in
+    let inv = at-loop .loop .inv in (
       inv .0,
       record {
         row = _;
@@ -79,11 +83,13 @@ loop-again c =
 
 returns-3 : tie.Need-returns-3 Inv-loop μ-loop
 returns-3 c =
-    let at-loop = c .before in let begin = at-loop .before in let args = begin .before .before .before .before .args in let inv = at-loop .loop .inv in
+    let at-loop = c .before in let begin = at-loop .before in let args = begin .before .before .before .before .args in
+    let inv = at-loop .loop .inv in
     to-end (args .streams .now) (args .times .now) (args .count) (args .start) (inv .0) _ _ _ _ (inv .1 .to) (c .loop-test .left) (rowIn (args .t1))
     (begin .begin .ensures)
 
 pub need-from-spec : {M : Type 1} → statement M
 need-from-spec =
-    tie.close (tie.spec Inv-loop μ-loop (λ c κs. c .before .before .before .pre .1) loop-holds (λ c. search needs) (λ c. search needs) (λ c. search needs) (λ c. search needs) free free
+    tie.close (tie.spec Inv-loop μ-loop (λ c κs. c .before .before .before .pre .1) loop-holds (λ c. search needs) (λ c. search needs)
+    (λ c. search needs) (λ c. search needs) free free
     returns (λ c. search needs) (λ c. search needs) free (λ c. search needs) (λ c. search needs) returns-2 (λ c. omega arith) loop-again returns-3)

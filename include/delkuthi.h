@@ -492,8 +492,8 @@ extern "C" {
 #define DELKUTHI_NONNULL
 #endif
 
-/* The version of this header, 0.6.1: major * 1000000 + minor * 1000 + patch. */
-#define DELKUTHI_VERSION UINT32_C(6001)
+/* The version of this header, 0.7.0: major * 1000000 + minor * 1000 + patch. */
+#define DELKUTHI_VERSION UINT32_C(7000)
 
 #define DELKUTHI_LAST_TIME     UINT64_C(1152921504606846975)
 #define DELKUTHI_LAST_COUNT    UINT64_C(18446744073709551615)

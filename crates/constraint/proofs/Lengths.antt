@@ -1,6 +1,6 @@
 -- The lengths of rows, how many kinds they name, and which editions have their types: each is read off a list, and what holds for every number in a
 -- list holds at each place.
-use Rattle.constraint.proofs.Names.{List, List·getD-eq-default, [], _*_, _-_, _<_, _∷_, _≡_, _≤_, arith, at, entrySizes, lastType, lastTypes}
+use Rattle.constraint.proofs.Names.{List, List·getD-eq-default, [], _*_, _∷_, _≡_, _≤_, arith, at, entrySizes}
 use Rattle.constraint.proofs.Names.{Age, Arbitrary, Burst, Comparison, Constraint, Delay, ExecutionTime, Field, InputSynchronization, Order}
 use Rattle.constraint.proofs.Names.{OutputSynchronization, Pattern, Reaction, Repeat, Repetition, Sporadic, StrongDelay, StrongSynchronization}
 use Rattle.constraint.proofs.Names.{Synchronization}
@@ -17,12 +17,6 @@ pub at-most : (most : ℕ) (xs : List ℕ) → AtMost most xs → (i : ℕ) → 
 at-most most [] h i = omega arith
 at-most most (x ∷ xs) h zero = h .0
 at-most most (x ∷ xs) h (suc i) = at-most most xs (h .1) i
-
--- ---- editions
-
--- every type of an edition is in the list of lengths
-pub last-listed : (edition : ℕ) → lastType edition < length lengths
-last-listed edition = omega (arith, at-most (length lengths - 1) lastTypes (omega arith) edition)
 
 -- ---- lengths
 

@@ -21,5 +21,5 @@ pub use native.Mathlib.Decide.{decLt, ℕ-discrete}
 pub use native.Mathlib.Nat.{add-mul, add-sub-cancel-left, add-suc, add-zero, div-one, le-of-suc-le-suc, le-trans, lt-of-le-of-lt}
 pub use native.Mathlib.Nat.{mod-eq-of-lt, mul-add, mul-assoc, mul-le-mul-left, mul-le-mul-right, mul-one, mul-suc, not-suc-le-zero, one-le-pow}
 pub use native.Mathlib.Nat.{one-mul, pow-le-pow-right, pow-suc, pow-succ', suc-add, zero-add, zero-mul}
-pub use native.Mathlib.Numerals.{add-one, one-add}
+pub use native.Mathlib.Numerals.{add-one}
 pub use native.Mathlib.Omega.{arith}

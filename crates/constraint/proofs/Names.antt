@@ -24,7 +24,7 @@ pub use Rattle.constraint.specs.Run.{stepFor, withdraws}
 pub use Rattle.constraint.specs.Steps.{Step, among, at, clock, close, event, tick}
 pub use Rattle.constraint.specs.Table.{ReadsTable, ReadsTableUpTo, TableRead, VersionUpTo, version-refused, version-taken}
 pub use Rattle.constraint.specs.Types.{Field, TypeKnown, byte, coloured, count, countOf, entrySizes, fieldsOf, kind, kindFields}
-pub use Rattle.constraint.specs.Types.{lastType, lastTypes, left, lengthOf, lengths, lower, offset, offsetFields, pairFields, plain, right}
+pub use Rattle.constraint.specs.Types.{lastType, left, lengthOf, lengths, lower, offset, offsetFields, pairFields, plain, right}
 pub use Rattle.constraint.specs.Types.{span, time}
 pub use Rattle.constraint.specs.Types.{tolerance, typeOf, upper, upper-or-none}
 pub use Rattle.constraint.specs.{Questions.Question, Streams.kindOf, Streams.stream, Waiting.largest, Waiting.least, Waiting.unanswered}

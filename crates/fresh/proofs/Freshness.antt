@@ -10,7 +10,8 @@ use Rattle.fresh.proofs.Names.{length}
 use Rattle.fresh.proofs.Names.{length-append, length-map, length-replicate, listedTo, ltb, ltb-false, ltb-true, map, monitorOf}
 use Rattle.fresh.proofs.Names.{namedRows, noRowUndo, noEvent, noRow, noWords, numbers, packed, padded, play, refl, replicate, rest-zero-fresh}
 use Rattle.fresh.proofs.Names.{rowAt}
-use Rattle.fresh.proofs.Names.{rowCount, rowLimit, rowNamed, rowOf, rowsOfKind, set, sound-place, split, startOf, subst, subst₂, suc, sym, take, take-at}
+use Rattle.fresh.proofs.Names.{rowCount, rowLimit, rowNamed, rowOf, rowsOfKind, set, sound-place, split, startOf, subst, subst₂, suc, sym}
+use Rattle.fresh.proofs.Names.{take, take-at}
 use Rattle.fresh.proofs.Names.{take-length, take-suc, taken-few, true, waitingLimit, withLists, words-few, wordsOfLent, zero, ℕ}
 use Rattle.fresh.proofs.Packing.{packed-at, packed-length}
 use Rattle.fresh.proofs.Padding.{padded-next}

@@ -14,7 +14,8 @@ pub use Rattle.constraint.proofs.{Accepted.row-accepted, Judged.judged-all, Jud
 pub use Rattle.constraint.specs.Table.{ReadsRows, ReadsTableUpTo, ShapeFits, TableRead, bodyAt, lengthAt, no-more, row-refused, row-taken, rowThen}
 pub use Rattle.constraint.specs.Table.{table-of, table-refused, version-refused, version-taken}
 pub use Rattle.constraint.specs.{Accepted.Accepted, Limits.rowLimit, Limits.waitingLimit, Questions.Question, Records.filler, Steps.among, Steps.at}
-pub use Rattle.constraint.specs.{declared.Answer.the-variants.Refused, declared.Answer.the-variants.Taken, Constraint.Constraint, Types.Known, Types.TypeKnown, Types.countOf, Types.typeOf}
+pub use Rattle.constraint.specs.{declared.Answer.the-variants.Refused, declared.Answer.the-variants.Taken, Constraint.Constraint, Types.Known}
+pub use Rattle.constraint.specs.{Types.TypeKnown, Types.countOf, Types.typeOf}
 pub use Rattle.fresh.specs.Fresh.{BeginsUpTo, ListsLie, RowsBehind, RowsLie, RowsPut, begun, freshLent, noWords, refused, twoIn, withLists}
 pub use Rattle.in_place.proofs.{Blocks.last-written, Blocks.row-lies, Parts.entries-read, Parts.half-read, Parts.half-written, Parts.numbers-read}
 pub use Rattle.in_place.specs.Contract.{Indexes, HintSound, SoundNumbers, isOf, namedRows, numbers, rowsOfKind}

@@ -25,7 +25,8 @@ pub scan-next : {edition : ℕ} (bytes : List ℕ) (rows : List Constraint) (i p
     → ReadsRows edition bytes i place (table-of (drop i rows))
     → PlacedAt bytes place r → (rowIn (r .row) ≡ getD rows i filler) × ReadsRows edition bytes (i + 1) (r .next) (table-of (drop (i + 1) rows))
 scan-next {edition} bytes rows i place r reads placed =
-    split (ltb i (length rows)) (λ _. (rowIn (r .row) ≡ getD rows i filler) × ReadsRows edition bytes (i + 1) (r .next) (table-of (drop (i + 1) rows)))
+    split (ltb i (length rows)) (λ _. (rowIn (r .row) ≡ getD rows i filler) × ReadsRows edition bytes (i + 1) (r .next) (table-of (drop
+    (i + 1) rows)))
     (λ e. scan-step bytes rows i place filler r (ltb-true i (length rows) e) reads placed)
     (λ e.
     let past : length rows ≤ i = ltb-false i (length rows) e in

@@ -16,7 +16,8 @@ ghost use lib.ListN.{length, set, replicate};
 ghost use Rattle.in_place.specs.Layout.{Lent, wordsOfLent, Shaped};
 ghost use Rattle.in_place.specs.Steps.{Updates};
 ghost use Rattle.in_place.specs.Contract.{numbers, isOf};
-ghost use Rattle.fresh.specs.Fresh.{withLists, entered, oneIf, BeginsUpTo, Validates, noWords, HoldsRows, StoresRows, StoresAll, Enters, Enlists};
+ghost use Rattle.fresh.specs.Fresh.{withLists, entered, oneIf, BeginsUpTo, Validates, noWords, HoldsRows, StoresRows, StoresAll, Enters};
+ghost use Rattle.fresh.specs.Fresh.{Enlists};
 
 // The result of validating a table's bytes: the answer, 0 or 256 times the place plus the number of the refusal; and the number of rows.
 pub struct Validated {

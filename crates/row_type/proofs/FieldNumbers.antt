@@ -1,8 +1,8 @@
 -- A constraint's numbers are read off its fields one by one, so what is true of them is shown field by field: the type is the constraint's, and the
 -- kinds are its kinds in their order.
-use Rattle.row_type.proofs.Names.{Constraint, Field, List, Parameters, [], _++_, _+_, _-_, _<_, _∙_, _∷_, _≡_, _≤_, ap, append-nil, arith, byte}
+use Rattle.row_type.proofs.Names.{Constraint, Field, List, Parameters, [], _++_, _-_, _∙_, _∷_, _≡_, _≤_, ap, arith, byte}
 use Rattle.row_type.proofs.Names.{coloured, count, fieldsOf, jitter, kind, kindFields, kinds, kindsIn, left, len, length, lower, minimum}
-use Rattle.row_type.proofs.Names.{noFields, noKind, offset, parametersOf, plain, refl, replicate, right, span, streamsIn, suc, sym, take}
+use Rattle.row_type.proofs.Names.{noFields, noKind, offset, parametersOf, plain, refl, replicate, right, span, streamsIn, suc, take}
 use Rattle.row_type.proofs.Names.{take-take, time, tolerance, typeOf, upper, upper-or-none, withFields, withKind, zero, ℕ}
 
 -- ---- type and kinds

@@ -2,7 +2,7 @@
 -- let more wait than its 64 places hold. What the proofs of several types share is by cases on the edit of a change.
 use Rattle.row_type.proofs.Names.{Bool, Change, Drop, List, Machine, Registers, Parameters, Store, [], _++_, _+_, _-_, _<_, _∷_, _≡_, _≤_}
 use Rattle.row_type.proofs.Names.{arith, at-most}
-use Rattle.row_type.proofs.Names.{breaking, changed, cond, continuesWith, countsSaved, drop, eachTaken, eqb, false, neverOverflows}
+use Rattle.row_type.proofs.Names.{breaking, changed, cond, continuesWith, countsSaved, drop, eachTaken, false, neverOverflows}
 use Rattle.row_type.proofs.Names.{firstThreeSaved}
 use Rattle.row_type.proofs.Names.{lastSaved, le-ltb, length, length-append, length-drop, length-set, lt-ltb, ltb, ltb-false, ltb-true}
 use Rattle.row_type.proofs.Names.{noMachine}

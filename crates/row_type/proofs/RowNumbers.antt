@@ -1,17 +1,17 @@
 -- A record of a known type has the fields of the constraint that it stands for, so its numbers, made field by field from the last one, and the words
 -- of its ring, taken from its places, are the constraint's.
-use Rattle.constraint.proofs.Library.{Bool, List, [], _++_, _+_, _-_, _<_, _∙_, _∷_, _≡_, _≢_, _≤_, add-one, ap, ap₂, arith, cond, drop, drop-cons}
-use Rattle.constraint.proofs.Library.{eqb, eqb-true, false, length, ltb, ne-eqb, refl, replicate, set, sets, subst, suc, sym, take, true, ℕ, ⊎-elim}
+use Rattle.constraint.proofs.Library.{List, [], _++_, _+_, _<_, _∙_, _∷_, _≡_, _≢_, _≤_, add-one, ap, ap₂, arith, cond, drop-cons}
+use Rattle.constraint.proofs.Library.{eqb, eqb-true, false, length, ltb, ne-eqb, refl, replicate, set, sets, sym, true, ℕ, ⊎-elim}
 use Rattle.constraint.proofs.Lists.{or-false, or-true, split}
 use Rattle.constraint.specs.Limits.{repetitionSpanLimit, spanLimit}
 use Rattle.constraint.specs.Steps.{at}
-use Rattle.constraint.specs.Types.{ByteRole, Field, TimeRole, TypeKnown, byte, count, left, lengths, offset, plain, right, span, takesCount, time}
+use Rattle.constraint.specs.Types.{ByteRole, Field, TimeRole, TypeKnown, byte, count, lengths, plain, right, span, takesCount, time}
 use Rattle.constraint.specs.Types.{tolerance, upper, upper-or-none}
-use Rattle.table_row.specs.Records.{byteRole, cleared, entries, fieldAt, fieldsAs, fieldsFrom, isKind, operandRole, plainRole, rolesOf, rowRead, timeRole}
+use Rattle.table_row.specs.Records.{byteRole, fieldAt, fieldsAs, fieldsFrom, isKind, rolesOf, rowRead, timeRole}
 use Rattle.table_row.proofs.ByType.{CountIs, EachThen, each-then}
-use Rattle.table_row.proofs.FieldByField.{by-role, fields-next}
+use Rattle.table_row.proofs.FieldByField.{fields-next}
 use Rattle.table_row.proofs.Standing.{reads, type-listed}
-use Rattle.row_type.specs.Parameters.{constantsOf, firstConstant, noFields, parametersOf, startRing, usedFrom, withField, withFields, withKind, withLimits}
+use Rattle.row_type.specs.Parameters.{firstConstant, noFields, parametersOf, startRing, usedFrom, withField, withFields, withKind, withLimits}
 use Rattle.row_type.specs.declared.Parameters.{Parameters}
 
 -- ---- one field

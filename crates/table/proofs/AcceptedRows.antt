@@ -1,7 +1,7 @@
 -- A table that was read is accepted: the questions that a fresh monitor puts to its rows were put when they were read.
-use Rattle.table.proofs.Names.{AcceptedIn, Constraint, Judged, List, ReadsRows, ReadsTableUpTo, ShapeFits, StandsFor, TableRead, Taken, []}
-use Rattle.table.proofs.Names.{_+_, _<_, _≡_, _≤_, ap, at, bodyAt, judged-none, judged-yes, lastType, no-more, row-refused, row-taken, rowBody}
-use Rattle.table.proofs.Names.{rowLimit, rowQuestionsIn, rowThen, rows-taken, rowsQuestions, table-of, table-refused, typeOf, version-taken, ℕ}
+use Rattle.table.proofs.Names.{AcceptedIn, Constraint, Judged, List, ReadsRows, ReadsTableUpTo, TableRead, Taken, []}
+use Rattle.table.proofs.Names.{_+_, _<_, at, bodyAt, judged-none, judged-yes, no-more, row-refused, row-taken}
+use Rattle.table.proofs.Names.{rowLimit, rowQuestionsIn, rowThen, rows-taken, rowsQuestions, table-of, table-refused, version-taken, ℕ}
 use Rattle.table.proofs.Names.{stands-known}
 use Rattle.table.proofs.Places.{place-taken}
 

@@ -1,5 +1,6 @@
 -- Rows are read one after the other: what reading gives from a place on, behind the rows read before it, is what it gives from the start.
-use Rattle.table.proofs.Names.{Constraint, List, ReadsAt, ReadsRows, Refused, Table, Taken, TableRead, [], _++_, _+_, _<_, _∷_, _≡_, _≤_, ap, arith}
+use Rattle.table.proofs.Names.{Constraint, List, ReadsAt, ReadsRows, Refused, Table, Taken, TableRead, [], _++_, _+_, _<_, _∷_, _≡_, _≤_, ap}
+use Rattle.table.proofs.Names.{arith}
 use Rattle.table.proofs.Names.{length, length-append, no-more, refl, row-refused, row-taken, rowThen, rows-length}
 use Rattle.table.proofs.Names.{rowsOf, subst, subst₂, sym, table-of, table-refused, ℕ}
 use Rattle.table.proofs.Names.{lengthAt, rowReadAt}

@@ -3,7 +3,8 @@
 use Rattle.table.proofs.Names.{AcceptedIn, Bytes, Constraint, Judged, KnownAt, List, Question, RawRows, ReadBack, ReadsTableUpTo, Refused}
 use Rattle.table.proofs.Names.{ShapeFits, StandsFor, Taken, TypeKnown, WriteAnswer, Writes, WritesRaw, [], _*_, _++_, _+_, _<_, _∙_, _∷_, _≡_}
 use Rattle.table.proofs.Names.{_≤_, add-zero, all-read, ap, arith, at, drop, ext-getD, filler, getD, getD-drop, getD-take, judged-later}
-use Rattle.table.proofs.Names.{judged-none, judged-once, judged-parts, judged-yes, length, length-take, length-take-le, lengthOf, never, rawBody}
+use Rattle.table.proofs.Names.{judged-none, judged-once, judged-parts, judged-yes, length, length-take, length-take-le, lengthOf, never}
+use Rattle.table.proofs.Names.{rawBody}
 use Rattle.table.proofs.Names.{rawSize, row-accepted, rowLimit, rowQuestionsIn, rows-room, rows-then, rowsQuestions, stands-once, stopped-at}
 use Rattle.table.proofs.Names.{subst, subst₂, sym, table-of, take, take-all, take-append-drop, two-long, write-back, ℕ}
 use Rattle.table.proofs.{AcceptedRows.read-accepted, RoundTripCode.rows-write, Scanning.row-there}
@@ -71,13 +72,15 @@ module _ {newest : ℕ} (raw bytes before : List ℕ) (rows : List Constraint) (
   raw-write {w = w} {after = after} (all-read others read past writes) =
       let count : length others ≡ length rows = omega (arith, read .whole, given .whole) in
       let same : others ≡ rows =
-      raw-once (at bytes 0) raw others rows (read-accepted bytes rows reads) read given (omega arith) ∙ ap (λ (n : ℕ). take n rows) count ∙ take-all (length rows) rows (omega arith) in
+      raw-once (at bytes 0) raw others rows (read-accepted bytes rows reads) read given (omega arith) ∙ ap (λ
+      (n : ℕ). take n rows) count ∙ take-all (length rows) rows (omega arith) in
       rows-write bytes before after rows w each reads long (subst (λ (l : List Constraint). Writes (at bytes 0) l before w after) same writes)
   raw-write (stopped-at others n read more judged) =
       let fewer : length others < length rows = omega arith in
       let accepted = read-accepted bytes rows reads in
       let few : 0 + length rows ≤ rowLimit = rows-room (at bytes 0) 0 rows (omega arith) accepted in
-      let same : others ≡ take (length others) rows = raw-once (at bytes 0) raw others rows (read-accepted bytes rows reads) read given (omega arith) in
+      let same : others ≡ take (length others) rows = raw-once (at bytes 0) raw others rows (read-accepted bytes rows reads) read given
+      (omega arith) in
       let edition = at bytes 0 in
       let taken = subst (AcceptedIn edition) (sym same) (first-accepted edition rows (length others) accepted) in
       let back = accepted-back edition rows accepted (length others) fewer in

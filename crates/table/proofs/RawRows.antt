@@ -4,8 +4,10 @@ use Rattle.table.proofs.Names.{Bytes, Constraint, Judged, KnownAt, Know
 use Rattle.table.proofs.Names.{TypeKnown, WriteAnswer, Writes, WritesRaw, [], _*_, _++_, _+_, _-_, _<_, _∙_, _∷_, _≡_, _≤_, add-zero, all-read}
 use Rattle.table.proofs.Names.{ap, ap₂, arith, at, bodyLength, bytes-part, drop, eqb, eqb-false, eqb-true, filler, getD, getD-drop, getD-take}
 use Rattle.table.proofs.Names.{judged-first, judged-later, judged-no, judged-yes, length, length-append, length-drop, length-take-le, lengthOf}
-use Rattle.table.proofs.Names.{ltb, ltb-false, ltb-true, rawBody, rawRow, rawRows, rawSize, refl, row-bytes-long, row-stands, rowBody, rowBytes}
-use Rattle.table.proofs.Names.{rowLimit, rows-then, rowsBytes, rowsQuestions, sets, split, stopped-at, stores-append, subst₂, suc, sym, two-long}
+use Rattle.table.proofs.Names.{ltb, ltb-false, ltb-true, rawBody, rawRow, rawRows, rawSize, refl, row-bytes-long, row-stands, rowBody}
+use Rattle.table.proofs.Names.{rowBytes}
+use Rattle.table.proofs.Names.{rowLimit, rows-then, rowsBytes, rowsQuestions, sets, split, stopped-at, stores-append, subst₂, suc, sym}
+use Rattle.table.proofs.Names.{two-long}
 use Rattle.table.proofs.Names.{countOf, stands-known, typeOf, zero, ℕ}
 use Rattle.table.proofs.Written.{written-refused}
 

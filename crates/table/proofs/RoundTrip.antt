@@ -114,7 +114,13 @@ rows-read edition before i (c ∷ rows) judged =
     let later : ReadsRows edition bytes (i + 1) (length before + 2 + lengthAt bytes (length before)) (table-of rows) =
     subst₂ (λ (l : List ℕ) (place : ℕ). ReadsRows edition l (i + 1) place (table-of rows)) (append-assoc before (rowBytes c) after) next
     (rows-read edition (before ++ rowBytes c) (i + 1) rows (parts .1)) in
-    row-taken {place = length before} c (omega (arith, length-append before (rowBytes c ++ after), length-append (rowBytes c) after, row-bytes-long c))
+    row-taken {place = length before} c (omega (
+      arith,
+      length-append before (rowBytes c ++ after),
+      length-append
+          (rowBytes c) after,
+      row-bytes-long c,
+    ))
     (row-there edition before c after back) (row-read edition before c after back i (room .0) own) later
 
 -- §4.10, §16.7: what is written in an edition that the reader takes is read back

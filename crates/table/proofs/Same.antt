@@ -1,5 +1,5 @@
 -- A row of the same type and fields as an accepted one is equal to it, since a body of fitting shape stands for one row.
-use Rattle.table.proofs.Names.{Constraint, FieldsFit, Judged, Same, Taken, _≡_, ap₂, fieldsOf, rowBody, rowQuestionsIn, stands-once, subst, sym}
+use Rattle.table.proofs.Names.{Constraint, FieldsFit, Judged, Same, Taken, _≡_, ap₂, rowBody, rowQuestionsIn, stands-once, subst, sym}
 use Rattle.table.proofs.Names.{List, _∷_, write-back, ℕ}
 use Rattle.constraint.specs.Table.{fieldsBytes}
 use Rattle.constraint.specs.Types.{Field}

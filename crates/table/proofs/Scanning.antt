@@ -1,5 +1,6 @@
 -- A table is read again row by row: a body stands for one row only, so the row at each place is the one that was read there.
-use Rattle.table.proofs.Names.{Constraint, Counted, List, Placed, PlacedAt, ReadAnswer, ReadsAt, ReadsRows, ReadsTableUpTo, Refused, Says, Taken}
+use Rattle.table.proofs.Names.{Constraint, Counted, List, Placed, PlacedAt, ReadAnswer, ReadsAt, ReadsRows, ReadsTableUpTo, Refused, Says}
+use Rattle.table.proofs.Names.{Taken}
 use Rattle.table.proofs.Names.{TableRead, VersionUpTo, [], _++_, _+_, _<_, _∙_, _∷_, _≡_, _≤_, add-one, ap, arith, at, bodyAt, drop, drop-cons}
 use Rattle.table.proofs.Names.{getD, getElem?, length, length-append, never, no-more, refl, row-refused, row-taken, rowLimit, subst, subst₂}
 use Rattle.table.proofs.Names.{suc, sym}
@@ -74,7 +75,8 @@ scan-start bytes rows (version-taken version reads) = reads
 
 -- the row at a place is the first of those that are read from there on, and the next place is where the others are read
 pub scan-row : {edition : ℕ} (bytes : List ℕ) {i place : ℕ} (c : Constraint) (later : List Constraint) (r : Placed)
-    → ReadsRows edition bytes i place (table-of (c ∷ later)) → PlacedAt bytes place r → (rowIn (r .row) ≡ c) × ReadsRows edition bytes (i + 1) (r .next)
+    → ReadsRows edition bytes i place (table-of (c ∷ later)) → PlacedAt bytes place r → (rowIn (r .row) ≡ c) × ReadsRows edition bytes (i + 1)
+    (r .next)
     (table-of later)
 scan-row {edition} bytes c later r reads placed = go reads refl placed
   where
@@ -87,7 +89,8 @@ scan-row {edition} bytes c later r reads placed = go reads refl placed
         let taken = place-taken edition bytes i place d judged in
         let first : d ≡ c = cc in
         let rest : others ≡ later = cc in (
-          stands-once (bodyAt bytes place) (taken .shape) (rowIn (r .row)) d (there .stands (taken .whole) edition (taken .shape)) (at-d (taken .shape)) ∙ first,
+          stands-once (bodyAt bytes place) (taken .shape) (rowIn (r .row)) d (there .stands (taken .whole) edition (taken .shape)) (at-d
+              (taken .shape)) ∙ first,
           subst₂ (λ (p : ℕ) (rows : List Constraint). ReadsRows edition bytes (i + 1) p (table-of rows)) (sym (there .behind (taken .whole))) rest
               reads,
         )

@@ -1,5 +1,6 @@
 -- A table's rows are stored one after the other: the first of those that are left, and then the others behind it.
-use Rattle.table.proofs.Names.{Constraint, List, Table, TableRow, bytes-length, bytesOf, _++_, _+_, _<_, _∙_, _≡_, _≤_, ap, arith, drop, getD, length, length-append, row-bytes-long}
+use Rattle.table.proofs.Names.{Constraint, List, Table, TableRow, bytes-length, bytesOf, _++_, _+_, _<_, _∙_, _≡_, ap, arith, drop, getD}
+use Rattle.table.proofs.Names.{length, length-append, row-bytes-long}
 use Rattle.table.proofs.Names.{rowBody, rowBytes, rowIn, rows-from, rowsBytes, rowsOf, sets, stores-append, sym, ℕ}
 
 -- what the stores of a row's length field and of its body leave

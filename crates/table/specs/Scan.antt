@@ -8,7 +8,7 @@ use Rattle.constraint.specs.Limits.{rowLimit}
 use Rattle.constraint.specs.Accepted.{AcceptedIn}
 use Rattle.constraint.specs.Records.{filler}
 use Rattle.constraint.specs.Steps.{at}
-use Rattle.constraint.specs.Table.{TableRead, table-of, table-refused, lengthAt, bodyAt, WholeAt, RowAt, ReadsRows, ReadsTableUpTo}
+use Rattle.constraint.specs.Table.{TableRead, table-of, table-refused, lengthAt, WholeAt, RowAt, ReadsRows, ReadsTableUpTo}
 use Rattle.constraint.specs.Constraint.{Constraint}
 use Rattle.table_row.specs.Records.{rowIn}
 use Rattle.table.specs.Rows.{rowReadAt}

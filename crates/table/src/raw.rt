@@ -15,7 +15,8 @@ ghost use Rattle.constraint.specs.Questions.{Judged};
 ghost use Rattle.constraint.specs.Records.{Decides};
 ghost use Rattle.constraint.specs.Table.{rowsBytes};
 ghost use Rattle.table_row.specs.Records.{rowFrom};
-ghost use Rattle.table.specs.Raw.{rawSize, bodyLength, rawBody, rawRows, KnownFrom, WholeRow, KnownRows, RowTaken, FirstRefused, StoresRow, WritesRaw};
+ghost use Rattle.table.specs.Raw.{rawSize, bodyLength, rawBody, rawRows, KnownFrom, WholeRow, KnownRows, RowTaken, FirstRefused, StoresRow};
+ghost use Rattle.table.specs.Raw.{WritesRaw};
 
 // How many bytes each row is given, which the longest type needs.
 const RAW_SIZE: usize = 34;

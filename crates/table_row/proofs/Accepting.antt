@@ -1,5 +1,5 @@
 -- What is accepted is written and read back: its fields fit their bytes, so its body has the type's shape and stands for it alone.
-use Rattle.constraint.proofs.Library.{List, [], _++_, _+_, _<_, _∙_, _∷_, _≡_, _≤_, ap, arith, length, refl, subst₂, sym, ℕ, ⊎-elim}
+use Rattle.constraint.proofs.Library.{List, [], _++_, _<_, _∙_, _∷_, _≡_, ap, arith, length, refl, subst₂, sym, ℕ, ⊎-elim}
 use Rattle.constraint.proofs.FittingKinds.{kinds-first, kinds-rest}
 use Rattle.constraint.proofs.Judged.{judged-all}
 use Rattle.constraint.specs.Accepted.{InRange, KindsFit, KindsSuit, LowerFirst}
@@ -13,7 +13,7 @@ use Rattle.constraint.specs.Types.{kind, coloured, count, span, plain, lower, u
 use Rattle.constraint.specs.Types.{countOf, fieldsOf, kindFields, offsetFields, pairFields, typeOf}
 use Rattle.constraint.specs.Table.{FieldsFit, ShapeFits, StandsFor, fieldsBytes, rowBody}
 use Rattle.constraint.specs.Types.{TypeKnown, lengthOf}
-use Rattle.constraint.specs.Accepted.{EachField, FieldInRange, Ordered, KindClassFits, kindsIn, rowQuestionsIn}
+use Rattle.constraint.specs.Accepted.{EachField, FieldInRange, KindClassFits, kindsIn, rowQuestionsIn}
 use Rattle.table_row.specs.Records.{rolesOf, rowFrom, rowIn}
 use Rattle.table_row.proofs.ByType.{CountFits, again, first-wide, placed}
 use Rattle.table_row.proofs.Judging.{fields-long}

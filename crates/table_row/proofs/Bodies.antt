@@ -1,11 +1,11 @@
 -- The values of fields and their bytes say the same, both ways: one induction over the places of a row, and no case by type.
-use Rattle.constraint.proofs.Library.{List, [], _++_, _+_, _<_, _^_, _∙_, _∷_, _≡_, _≤_, add-zero, ap, append-assoc, append-nil, ap₂, arith, cond}
+use Rattle.constraint.proofs.Library.{List, [], _++_, _+_, _<_, _^_, _∙_, _∷_, _≡_, _≤_, ap, append-assoc, ap₂, arith, cond}
 use Rattle.constraint.proofs.Library.{drop}
-use Rattle.constraint.proofs.Library.{drop-append-seam, drop-drop, eqb, false, getD-drop, getD-take, length, length-append, length-drop, length-take}
-use Rattle.constraint.proofs.Library.{length-take-le, ltb, refl, subst, subst⁻¹, subst₂, suc, sym, take, take-add, take-at, true, zero, ℕ}
+use Rattle.constraint.proofs.Library.{drop-append-seam, drop-drop, getD-drop, getD-take, length, length-append, length-drop, length-take}
+use Rattle.constraint.proofs.Library.{length-take-le, ltb, refl, subst, subst⁻¹, subst₂, suc, sym, take-add, take-at, ℕ}
 use Rattle.constraint.proofs.Lists.{split}
 use Rattle.constraint.specs.Steps.{at}
-use Rattle.constraint.specs.Bytes.{Bytes, bytesAt, bytesOf, number, numberAt}
+use Rattle.constraint.specs.Bytes.{Bytes, bytesAt, bytesOf, numberAt}
 use Rattle.big_endian.proofs.Numbers.{bytes-length, bytes-of-number, number-below, number-of-bytes}
 use Rattle.constraint.specs.Types.{Field, byte, time}
 use Rattle.constraint.specs.Table.{fieldsBytes, FieldsFit}
@@ -49,13 +49,15 @@ place-bytes r x later =
 
 kept-bytes : (r x : ℕ) → bytesOf (width r) x ≡ bytesOf (width r) (kept r x)
 unfolding bytesOf
-kept-bytes r x = split (ltb r 65) (λ none. bytesOf (cond none 0 (cond (ltb r 97) 8 1)) x ≡ bytesOf (cond none 0 (cond (ltb r 97) 8 1)) (cond none 0 x))
+kept-bytes r x = split (ltb r 65) (λ none. bytesOf (cond none 0 (cond (ltb r 97) 8 1)) x ≡ bytesOf (cond none 0 (cond (ltb r 97) 8 1))
+    (cond none 0 x))
     (λ e. refl) (λ e. refl)
 
 place-fits : (r x : ℕ) (later : List Field) → x < 256 ^ width r → FieldsFit later → FieldsFit (fieldAt r x ++ later)
 place-fits r x later =
     split (ltb r 65)
-    (λ none. x < 256 ^ cond none 0 (cond (ltb r 97) 8 1) → FieldsFit later → FieldsFit (cond none [] (fieldOf r x ∷ []) ++ later)) (λ e small rest. rest)
+    (λ none. x < 256 ^ cond none 0 (cond (ltb r 97) 8 1) → FieldsFit later → FieldsFit (cond none [] (fieldOf r x ∷ []) ++ later))
+    (λ e small rest. rest)
     (λ e. split (ltb r 97)
     (λ long. x < 256 ^ cond long 8 1 → FieldsFit later → FieldsFit (cond long (time (timeRole r) x) (byte (byteRole r) x) ∷ later))
     (λ e small rest. (small, rest)) (λ e small rest. (small, rest)))

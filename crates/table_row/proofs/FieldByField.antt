@@ -1,14 +1,14 @@
 -- A row's fields are asked one by one: what is asked of those from a place on is asked of the one at that place and of those behind it.
-use Rattle.constraint.proofs.Library.{Bool, List, [], _++_, _+_, _-_, _<_, _∙_, _∷_, _≡_, _≢_, _≤_, add-one, ap, arith, cond, drop, drop-cons}
-use Rattle.constraint.proofs.Library.{drop-of-length-le, eqb, eqb-true, false, le-ltb, leb, length, lt-ltb, ltb, ltb-false, ltb-true, ne-eqb, refl}
+use Rattle.constraint.proofs.Library.{Bool, List, [], _++_, _+_, _<_, _∙_, _∷_, _≡_, _≢_, _≤_, add-one, ap, arith, cond, drop-cons}
+use Rattle.constraint.proofs.Library.{drop-of-length-le, eqb, eqb-true, false, le-ltb, length, lt-ltb, ltb, ltb-false, ltb-true, ne-eqb, refl}
 use Rattle.constraint.proofs.Library.{subst, subst⁻¹, sym, true, ℕ, ⊎-elim}
-use Rattle.constraint.proofs.Judged.{same-test, test-le}
+use Rattle.constraint.proofs.Judged.{same-test}
 use Rattle.constraint.proofs.Lists.{both, or-true, split}
 use Rattle.constraint.specs.Limits.{lastTime, spanLimit, repetitionSpanLimit}
 use Rattle.constraint.specs.Records.{Decides}
 use Rattle.constraint.specs.Steps.{at}
-use Rattle.constraint.specs.Types.{kind, coloured, count, span, plain, lower, upper, upper-or-none, offset, left, right, TimeRole, ByteRole, Field, byte, time}
-use Rattle.constraint.specs.Accepted.{kindsIn, KindClassFits, FieldInRange, EachField, NotBelow, boundAfter, Ordered}
+use Rattle.constraint.specs.Types.{kind, coloured, count, span, plain, lower, upper, offset, left, right, TimeRole, ByteRole, Field, byte, time}
+use Rattle.constraint.specs.Accepted.{kindsIn, KindClassFits, FieldInRange, EachField, boundAfter, Ordered}
 use Rattle.table_row.specs.Records.{boundBehind}
 use Rattle.table_row.specs.Records.{byteRole, timeRole, operandRole, plainRole, isKind, fieldOf, fieldAt, fieldsFrom, fieldsWith}
 
@@ -54,7 +54,8 @@ module _ (Asked : Field → Type 0) (roles values : List ℕ) (i : ℕ) (h : i <
   pub field-parts : EachField Asked (fieldsFrom roles values i)
       → EachField Asked (fieldAt (at roles i) (at values i)) × EachField Asked (fieldsFrom roles values (i + 1))
   field-parts all =
-      each-parts Asked (fieldAt (at roles i) (at values i)) (fieldsFrom roles values (i + 1)) (subst (EachField Asked) (fields-next roles values i h) all)
+      each-parts Asked (fieldAt (at roles i) (at values i)) (fieldsFrom roles values (i + 1)) (subst (EachField Asked)
+      (fields-next roles values i h) all)
 
 -- Kinds
 
@@ -74,7 +75,8 @@ other-byte P r no-kind uncoloured n s =
 
 other-kinds : (r x : ℕ) → r ≢ 107 → r ≢ 99 → kindsIn (fieldAt r x) ≡ []
 other-kinds r x no-kind uncoloured =
-    by-role (λ fs. kindsIn fs ≡ []) r x (λ e. refl) (λ e. refl) (λ e. other-byte (λ role. kindsIn (byte role x ∷ []) ≡ []) r no-kind uncoloured refl (λ limit. refl))
+    by-role (λ fs. kindsIn fs ≡ []) r x (λ e. refl) (λ e. refl) (λ e. other-byte (λ role. kindsIn
+    (byte role x ∷ []) ≡ []) r no-kind uncoloured refl (λ limit. refl))
 
 module _ (roles values : List ℕ) (i : ℕ) (h : i < length roles) where
   pub kind-here : isKind (at roles i) ≡ true → kindsIn (fieldsFrom roles values i) ≡ at values i ∷ kindsIn (fieldsFrom roles values (i + 1))

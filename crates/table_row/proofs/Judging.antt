@@ -1,5 +1,5 @@
 -- A record and the constraint that it stands for: question 4 asks the same of both, and what is asked of the fields of one is asked of the other's.
-use Rattle.constraint.proofs.Library.{Bool, List, [], _++_, _+_, _-_, _<_, _∙_, _∷_, _≡_, _≤_, ap, ap₂, arith, cond, eqb, false, length}
+use Rattle.constraint.proofs.Library.{List, [], _++_, _+_, _<_, _∙_, _∷_, _≡_, _≤_, ap, ap₂, arith, length}
 use Rattle.constraint.proofs.Library.{length-append, ltb}
 use Rattle.constraint.proofs.Library.{lt-ltb, ltb-false, ltb-true, refl, sets, subst, subst⁻¹, suc, sym, true, ℕ}
 use Rattle.constraint.proofs.Judged.{judged-no, judged-yes}
@@ -15,9 +15,9 @@ use Rattle.big_endian.proofs.Stores.{stores-append}
 use Rattle.constraint.specs.Constraint.{Constraint}
 use Rattle.constraint.specs.Types.{Field, typeOf, fieldsOf, countOf, firstOf}
 use Rattle.constraint.specs.Table.{fieldsBytes, rowBody, rowBytes}
-use Rattle.constraint.specs.Types.{lengths, lastType, leastCounts, mostCounts, takesCount, TypeKnown, Known}
+use Rattle.constraint.specs.Types.{lengths, lastType, takesCount, TypeKnown}
 use Rattle.constraint.specs.Accepted.{EachField, FieldInRange, KindClassFits, Ordered, kindsIn, rowQuestionsIn}
-use Rattle.table_row.specs.Records.{fieldAt, fieldsAs, fieldsWith, rolesOf, rowRead, total, width, noConstraint}
+use Rattle.table_row.specs.Records.{fieldsAs, fieldsWith, rolesOf, rowRead, total, width}
 use Rattle.table_row.proofs.ByType.{no-type, says}
 use Rattle.table_row.proofs.Bodies.{place-bytes}
 use Rattle.table_row.proofs.Lines.{total-small}
@@ -69,7 +69,8 @@ fields-long (r ∷ roles) values i =
 
 -- the questions of fields whose n is at hand
 abbrev pub askedWith : ℕ → List Field → List Question
-askedWith n fields = (5, KindsFit (kindsIn fields)) ∷ (18, EachField KindClassFits fields) ∷ (6, EachField FieldInRange fields) ∷ (7, Ordered n 0 fields) ∷ []
+askedWith n fields = (5, KindsFit (kindsIn fields)) ∷ (18, EachField KindClassFits fields) ∷ (6, EachField FieldInRange fields) ∷
+    (7, Ordered n 0 fields) ∷ []
 
 -- the first of some fields has the first value, where its role is that of a byte
 first-field : (roles values : List ℕ) → width (at roles 0) ≡ 1 → firstOf (fieldsAs roles values) ≡ at values 0

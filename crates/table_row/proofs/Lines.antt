@@ -1,13 +1,13 @@
 -- The lines of the types: the roles that an n uses, and the lists that are looked up.
-use Rattle.constraint.proofs.Library.{Bool, List, List·getD-eq-default, [], _*_, _+_, _-_, _<_, _∙_, _∷_, _≡_, _≤_, add-one, ap, arith, cond, drop}
+use Rattle.constraint.proofs.Library.{List, List·getD-eq-default, [], _*_, _+_, _-_, _<_, _∷_, _≡_, _≤_, add-one, arith, cond, drop}
 use Rattle.constraint.proofs.Library.{drop-cons}
-use Rattle.constraint.proofs.Library.{drop-of-length-le, false, le-leb, leb, length, mul-le-mul-left, refl, set, sets, suc, sym, true, zero, ℕ, eqb}
+use Rattle.constraint.proofs.Library.{le-leb, leb, length, mul-le-mul-left, refl, set, sets, suc, sym, zero, ℕ}
 use Rattle.constraint.proofs.Library.{_≢_, getD, ltb, ltb-false, replicate}
 use Rattle.constraint.proofs.Lengths.{at-most}
 use Rattle.constraint.proofs.Lists.{split}
 use Rattle.constraint.specs.Steps.{at}
 use Rattle.constraint.specs.Types.{TypeKnown, lengths, entrySizes, leastCounts, mostCounts, lengthOf}
-use Rattle.table_row.specs.Records.{uses, roleAt, rolesFrom, rolesOf, total, width}
+use Rattle.table_row.specs.Records.{uses, roleAt, rolesFrom, total, width}
 
 pub uses-leb : (m n : ℕ) → uses m n ≡ leb m n
 uses-leb zero n = sym (le-leb 0 n (omega arith))

@@ -1,20 +1,20 @@
 -- A body of fitting shape stands for the constraint that it is read as, and a constraint is read again from its body: so a body stands for one.
-use Rattle.constraint.proofs.Library.{Bool, List, [], _++_, _+_, _-_, _<_, _^_, _∙_, _∷_, _≡_, _≤_, ap, append-nil, ap₂, arith, cond, drop, drop-cons}
-use Rattle.constraint.proofs.Library.{List·getD-eq-default, append-assoc}
-use Rattle.constraint.proofs.Library.{drop-of-length-le, eqb, length, length-append, length-drop, ltb, ltb-false, ltb-true, refl, subst, subst⁻¹}
-use Rattle.constraint.proofs.Library.{subst₂, suc, sym, take, take-all, true, zero, ℕ}
-use Rattle.constraint.proofs.Lists.{at-next, split}
+use Rattle.constraint.proofs.Library.{List, [], _+_, _<_, _∙_, _∷_, _≡_, _≤_, ap, append-nil, ap₂, arith, cond, drop, drop-cons}
+use Rattle.constraint.proofs.Library.{List·getD-eq-default}
+use Rattle.constraint.proofs.Library.{drop-of-length-le, length, length-drop, ltb, ltb-false, ltb-true, refl, subst, subst⁻¹}
+use Rattle.constraint.proofs.Library.{subst₂, suc, sym, take-all, true, ℕ}
+use Rattle.constraint.proofs.Lists.{split}
 use Rattle.constraint.proofs.Lengths.{at-most}
 use Rattle.constraint.specs.Steps.{at}
-use Rattle.constraint.specs.Bytes.{Bytes, bytesAt, bytesOf, numberAt, numberBehind}
+use Rattle.constraint.specs.Bytes.{Bytes, bytesOf, numberAt, numberBehind}
 use Rattle.constraint.specs.Constraint.{Constraint}
 use Rattle.constraint.specs.Types.{Field, byte, time, typeOf, fieldsOf, firstOf, countOf}
 use Rattle.constraint.specs.Table.{fieldsBytes, FieldsFit, rowBody}
-use Rattle.constraint.specs.Types.{lengths, lengthOf, lastType, lastTypes, leastCounts, mostCounts, takesCount}
+use Rattle.constraint.specs.Types.{lengths, lengthOf, lastType, lastTypes, takesCount}
 use Rattle.constraint.specs.Types.{TypeKnown}
 use Rattle.constraint.specs.Table.{ShapeFits, StandsFor}
-use Rattle.table_row.specs.Records.{width, fieldOf, fieldAt, fieldsAs, rolesOf, valuesAt, total, cleared, entries, rowRead, rowFrom, rowIn}
-use Rattle.table_row.proofs.ByType.{CountFits, CountIs, Reads, again, first-wide, firstWidth, placed, values-read, valuesOf}
+use Rattle.table_row.specs.Records.{width, fieldsAs, rolesOf, valuesAt, total, cleared, entries, rowRead, rowFrom, rowIn}
+use Rattle.table_row.proofs.ByType.{Reads, again, first-wide, firstWidth, placed, values-read, valuesOf}
 use Rattle.table_row.proofs.Bodies.{read-fits, read-written, written-read}
 
 -- Places

@@ -1,13 +1,13 @@
 -- Values and fields stored one after the other.
-use Rattle.constraint.proofs.Library.{List, [], _++_, _+_, _<_, _∙_, _∷_, _≡_, _≤_, add-one, ap, ap₂, append-nil, arith, drop, drop-cons}
+use Rattle.constraint.proofs.Library.{List, _++_, _+_, _<_, _∙_, _≡_, add-one, ap, ap₂, append-nil, arith, drop, drop-cons}
 use Rattle.constraint.proofs.Library.{drop-of-length-le}
-use Rattle.constraint.proofs.Library.{length, refl, set, sets, suc, sym, ℕ}
+use Rattle.constraint.proofs.Library.{length, set, sets, sym, ℕ}
 use Rattle.constraint.specs.Steps.{at}
 use Rattle.constraint.specs.Bytes.{bytesOf, numberAt}
 use Rattle.big_endian.proofs.Numbers.{bytes-length}
 use Rattle.big_endian.proofs.Stores.{stores-append, stores-front}
 use Rattle.constraint.specs.Table.{fieldsBytes}
-use Rattle.table_row.specs.Records.{Loads, fieldAt, fieldsFrom, rolesOf, rowFrom, rowIn, rowRead, valuesAt, width}
+use Rattle.table_row.specs.Records.{Loads, fieldsFrom, rolesOf, rowFrom, rowIn, rowRead, valuesAt, width}
 use Rattle.table_row.proofs.Bodies.{place-bytes}
 use Rattle.table_row.proofs.{FieldByField.fields-next, Standing.values-length}
 

@@ -1,6 +1,7 @@
 -- A record has as many rows as its count says, and those of an accepted table are of known types.
-use Rattle.constraint.proofs.Library.{List, List·getD-append, List·getD-map, [], _++_, _+_, _<_, _∙_, _∷_, _≡_, _≤_, add-one, ap, arith, drop}
-use Rattle.constraint.proofs.Library.{drop-cons, getD, getD-take, getElem?, length, length-append, length-drop, length-map, length-replicate, length-set}
+use Rattle.constraint.proofs.Library.{List, List·getD-append, List·getD-map, [], _++_, _+_, _<_, _∙_, _∷_, _≡_, add-one, ap, arith, drop}
+use Rattle.constraint.proofs.Library.{drop-cons, getD, getD-take, getElem?, length, length-append, length-drop, length-map, length-replicate}
+use Rattle.constraint.proofs.Library.{length-set}
 use Rattle.constraint.proofs.Library.{length-take, map, refl, replicate, set, some, suc, sym, take, take-append-le, take-suc-set, zero, ℕ}
 use Rattle.constraint.proofs.Accepted.{row-accepted}
 use Rattle.constraint.proofs.Judged.{judged-all}

@@ -1,6 +1,6 @@
 -- What the code's record of a row holds: values in places, the numbers of their roles, and the constraint that the record stands for. No definition
 -- of the contract rests on these.
-use Prim.Native.Nat.{ℕ, zero, suc, _+_, _*_, _-_, _≤_}
+use Prim.Native.Nat.{ℕ, zero, suc, _+_, _-_}
 use mathlib.Core.Path.{_≡_}
 use mathlib.Core.Bool.{Bool, true, cond, _||_}
 use mathlib.Core.List.{List, [], _∷_, _++_}

@@ -1,12 +1,10 @@
 -- The rows of a table record.
-use Prim.Native.Nat.{ℕ, _+_, _≤_, _<_}
+use Prim.Native.Nat.{_≤_, _<_}
 use mathlib.Core.Path.{_≡_}
 use mathlib.Core.List.{List, [], _∷_, _++_, map}
 use lib.ListN.{take, replicate}
 use Rattle.constraint.specs.Limits.{rowLimit}
-use Rattle.constraint.specs.Questions.{Question}
 use Rattle.constraint.specs.Constraint.{Constraint}
-use Rattle.constraint.specs.Accepted.{rowQuestionsIn}
 use Rattle.table_row.specs.Records.{noConstraint, rowIn}
 use Rattle.table_row.specs.declared.TableRow.{TableRow}
 use Rattle.table_row.specs.declared.Table.{Table}

@@ -16,9 +16,14 @@ abbrev μ-loop : tie.MeasureT-loop
 
 loop-holds : tie.Need-loop-holds Inv-loop μ-loop
 loop-holds c =
-    let started = c .before .before .before .before .before .before .before in let args = started .before .before .before .before .args in
-    (omega (arith, started .if1 .left), refl, c .before .call-at .ensures, c .call-at2 .ensures, walk-start (now (args .first)) (now
-    (args .second)) _)
+    let started = c .before .before .before .before .before .before .before in let args = started .before .before .before .before .args in (
+      omega (arith, started .if1 .left),
+      refl,
+      c .before .call-at .ensures,
+      c .call-at2 .ensures,
+      walk-start (now (args .first)) (now
+          (args .second)) _,
+    )
 
 -- storing the version leaves the length
 headed : (l : List ℕ) (b : List ℕ) (v : ℕ) → b ≡ sets l 0 (v ∷ []) → length b ≡ length l
@@ -100,14 +105,25 @@ loop-again c =
 put-left-requires : tie.Need-put-left-requires Inv-loop μ-loop
 put-left-requires c κs =
     let at-loop = c .before .before .before .before .before .before in
-    omega (arith, c .before .before .left-size .ensures, c .before .if3 .left, at-loop .loop .inv .0, at-loop .before .before .before
-        .before .before .before .before .before .before .before .before .before .good)
+    omega (
+      arith,
+      c .before .before .left-size .ensures,
+      c .before .if3 .left,
+      at-loop .loop .inv .0,
+      at-loop .before .before .before
+          .before .before .before .before .before .before .before .before .before .good,
+    )
 
 add-size : tie.Need-add-size Inv-loop μ-loop
 add-size c =
     let kept = c .before .before .before .before in let at-loop = kept .before .before .before .before .before in
-    omega (arith, kept .if3 .left, at-loop .loop .inv .0, at-loop .before .before .before .before .before .before .before .before .before
-        .before .before .before .good)
+    omega (
+      arith,
+      kept .if3 .left,
+      at-loop .loop .inv .0,
+      at-loop .before .before .before .before .before .before .before .before .before
+          .before .before .before .good,
+    )
 
 pub walk-spec : {M : Type 1} → statement M
 walk-spec =

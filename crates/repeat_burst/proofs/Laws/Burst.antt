@@ -44,7 +44,8 @@ exactBurst kind maximum len minimum sound =
         keeps-says = λ now rises small keeps. burst-says parameters refl _ _ _ now small keeps;
         keeps-few = repeat-few parameters (sound .in-range .1 .0 .1);
         keeps-event = λ t rises small keeps soon.
-            repeat-event parameters _ _ _ keeps t (sound .in-range .1 .0 .0) small rises soon kind (λ events now. MeetsBurst maximum len minimum events)
+            repeat-event parameters _ _ _ keeps t (sound .in-range .1 .0 .0) small rises soon kind
+            (λ events now. MeetsBurst maximum len minimum events)
             (λ m. m);
       };
     })

@@ -1,5 +1,5 @@
 -- The rows' questions are put first, then the room's; then the version byte and the rows are stored.
-use Rattle.table.proofs.Names.{Accepted, Judged, Taken, [], _≤_, arith, needs, now, rowsOf, rowsQuestions}
+use Rattle.table.proofs.Names.{Accepted, Judged, Taken, [], arith, needs, now, rowsOf, rowsQuestions}
 use Rattle.table.proofs.Names.{tableBytesIn}
 use Rattle.table.proofs.{Written.written-all, Written.written-refused, Written.written-short, write.Statement.statement}
 use Rattle.table.proofs.write.Tie as tie

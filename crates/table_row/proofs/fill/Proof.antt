@@ -1,9 +1,9 @@
 -- The loop reads value after value: storing those left in what there is now gives the whole.
-use Rattle.constraint.proofs.Library.{List, ℕ, now, _*_, _+_, _-_, _∙_, _≡_, _≤_, ap, arith, drop, drop-of-length-le, length, length-set, refl}
-use Rattle.constraint.proofs.Library.{replicate, sets, sym}
+use Rattle.constraint.proofs.Library.{List, ℕ, now, _*_, _+_, _-_, _∙_, _≡_, _≤_, ap, arith, drop, drop-of-length-le, refl}
+use Rattle.constraint.proofs.Library.{sets, sym}
 use Rattle.constraint.proofs.Judged.{free}
 use Rattle.constraint.specs.Steps.{at}
-use Rattle.table_row.specs.Records.{valuesAt, width}
+use Rattle.table_row.specs.Records.{valuesAt}
 use Rattle.table_row.proofs.{Stores.values-more, Lines.width-small, fill.Statement.statement}
 use Rattle.table_row.proofs.fill.Tie as tie
 
@@ -15,7 +15,12 @@ abbrev μ-loop : tie.MeasureT-loop
 μ-loop values₀ body roles place₀ i₀ values place i = 18 - i
 
 number-at-requires : tie.Need-number-at-requires Inv-loop μ-loop
-number-at-requires c κs = let a = c .before .before .before .before .before .args in omega (arith, c .width-of .ensures, width-small (at (a .roles .now) (c .before .before .before .loop .i)))
+number-at-requires c κs = let a = c .before .before .before .before .before .args in omega (
+  arith,
+  c .width-of .ensures,
+  width-small (at
+      (a .roles .now) (c .before .before .before .loop .i)),
+)
 
 add-place : tie.Need-add-place Inv-loop μ-loop
 add-place c =
@@ -24,10 +29,12 @@ add-place c =
 
 loop-again : tie.Need-loop-again Inv-loop μ-loop
 loop-again c =
-    let at-loop = c .before .before .before .before in let a = at-loop .before .before .args in let loop = at-loop .loop in let wide = c .before .width-of in (
+    let at-loop = c .before .before .before .before in let a = at-loop .before .before .args in let loop = at-loop .loop in
+    let wide = c .before .width-of in (
       omega arith,
       omega (arith, wide .ensures, width-small (at (a .roles .now) (loop .i))),
-      rw (c .number-at .ensures, wide .ensures) (sym (values-more (loop .values) (a .roles .now) (now (a .body)) (loop .place) (loop .i) (omega (arith, at-loop .before .before .pre))) ∙ loop .inv .2),
+      rw (c .number-at .ensures, wide .ensures) (sym (values-more (loop .values) (a .roles .now) (now (a .body)) (loop .place) (loop .i) (omega
+          (arith, at-loop .before .before .pre))) ∙ loop .inv .2),
     )
 
 returns : tie.Need-returns Inv-loop μ-loop

@@ -6,7 +6,8 @@ use Rattle.table_row.proofs.load.Tie as tie
 
 returns : tie.Need-returns
 returns c =
-    let at-roles = c .before .before .before in let at-n = at-roles .before in let a = at-n .before .before .before .args in let body = now (a .body) in (
+    let at-roles = c .before .before .before in let at-n = at-roles .before in let a = at-n .before .before .before .args in
+    let body = now (a .body) in (
       at-n .before .byte-at .ensures,
       c .fill .ensures ∙ ap (λ (l : List ℕ). sets (now (a .values)) 0 (valuesAt l body 1))
           (at-roles .roles-of .ensures ∙ ap₂ rolesOf (at-n .before .byte-at .ensures) (at-n .byte-at2 .ensures)),

@@ -1,10 +1,10 @@
 -- The loop stores field after field: storing those left in what there is now gives the whole.
-use Rattle.constraint.proofs.Library.{_*_, _+_, _-_, _∙_, _≡_, _≤_, ap, arith, length, refl, sets, sym, ℕ, List}
+use Rattle.constraint.proofs.Library.{_*_, _+_, _-_, _∙_, _≡_, _≤_, ap, arith, length, refl, sets, sym, List}
 use Rattle.constraint.proofs.Judged.{free}
 use Rattle.constraint.specs.Steps.{at}
 use Rattle.constraint.specs.Types.{Field}
 use Rattle.constraint.specs.Table.{fieldsBytes}
-use Rattle.table_row.specs.Records.{fieldsFrom, width}
+use Rattle.table_row.specs.Records.{fieldsFrom}
 use Rattle.table_row.proofs.{FieldByField.fields-end, Stores.fields-more, Lines.width-small, put_fields.Statement.statement}
 use Rattle.table_row.proofs.put_fields.Tie as tie
 
@@ -24,7 +24,14 @@ put-number-requires c κs =
 add-next : tie.Need-add-next Inv-loop μ-loop
 add-next c =
     let at-loop = c .before .before .before .before .before .before in let a = at-loop .before .before .args in
-    omega (arith, c .before .before .before .before .width-of .ensures, width-small (at (a .t3) (at-loop .loop .i)), at-loop .loop .inv .2, at-loop .before .before .pre)
+    omega (
+      arith,
+      c .before .before .before .before .width-of .ensures,
+      width-small (at (a .t3)
+          (at-loop .loop .i)),
+      at-loop .loop .inv .2,
+      at-loop .before .before .pre,
+    )
 
 loop-again : tie.Need-loop-again Inv-loop μ-loop
 loop-again c =
@@ -40,7 +47,8 @@ returns : tie.Need-returns Inv-loop μ-loop
 unfolding fieldsBytes
 returns c =
     let a = c .before .before .before .args in let loop = c .before .loop in
-    sym (ap (λ (fs : List Field). sets (loop .buffer) (loop .next) (fieldsBytes fs)) (fields-end (a .t3) (a .t4) (loop .i) (omega arith))) ∙ loop .inv .3
+    sym (ap (λ (fs : List Field). sets (loop .buffer) (loop .next) (fieldsBytes fs)) (fields-end (a .t3) (a .t4) (loop .i)
+    (omega arith))) ∙ loop .inv .3
 
 pub put-fields-spec : {M : Type 1} → statement M
 put-fields-spec =

@@ -17,10 +17,12 @@ returns-2 c =
     let known = passed (test .result) (test .ensures) (c .before .if1 .left) in
     let body = now (start .args .body) in
     let here : TypeKnown (start .args .edition) (at body 0) (at body 1) = rw (at-n .before .byte-at .ensures, at-n .byte-at2 .ensures) at known in
-    let long : c .length-of .result ≡ lengthOf (at body 0) (at body 1) = rw (at-n .before .byte-at .ensures, at-n .byte-at2 .ensures) at (c .length-of .ensures) in
+    let long : c .length-of .result ≡ lengthOf (at body 0) (at body 1) = rw (at-n .before .byte-at .ensures, at-n .byte-at2 .ensures) at
+    (c .length-of .ensures) in
     same-test
     (λ same. record { type-there = type-there (start .args .edition) body here; known = here; length-right = sym (start .pre) ∙ same ∙ long })
-    (λ fits. start .pre ∙ fits .length-right ∙ sym long) (eqb (start .args .size) (c .length-of .result)) (test-equal (start .args .size) (c .length-of .result))
+    (λ fits. start .pre ∙ fits .length-right ∙ sym long) (eqb (start .args .size) (c .length-of .result)) (test-equal (start .args .size)
+    (c .length-of .result))
 
 pub shape-fits-spec : {M : Type 1} → statement M
 shape-fits-spec = tie.close (tie.spec free free (λ c. search needs) free returns free returns-2)

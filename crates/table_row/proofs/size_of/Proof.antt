@@ -1,8 +1,8 @@
 -- The loop adds width after width: what it has and what is left is the whole.
-use Rattle.constraint.proofs.Library.{_*_, _+_, _-_, _∙_, _≡_, _≤_, add-one, ap, arith, drop, drop-cons, drop-of-length-le, refl, sym, ℕ, List}
+use Rattle.constraint.proofs.Library.{_*_, _+_, _-_, _≡_, _≤_, ap, arith, drop, drop-of-length-le}
 use Rattle.constraint.proofs.Judged.{free}
 use Rattle.constraint.specs.Steps.{at}
-use Rattle.table_row.specs.Records.{total, width}
+use Rattle.table_row.specs.Records.{total}
 use Rattle.table_row.proofs.{Lines.total-next, Lines.width-small, size_of.Statement.statement}
 use Rattle.table_row.proofs.size_of.Tie as tie
 

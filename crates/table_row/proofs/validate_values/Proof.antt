@@ -2,11 +2,10 @@
 use Rattle.constraint.proofs.Library.{List, _∷_, _≡_, [], ap, length, needs, subst, ℕ}
 use Rattle.constraint.proofs.Judged.{failed, judged-no, judged-none, judged-yes, passed}
 use Rattle.constraint.specs.Questions.{Judged, Question}
-use Rattle.constraint.specs.Accepted.{KindsFit}
 use Rattle.constraint.specs.Steps.{at}
 use Rattle.constraint.specs.declared.Answer.{Answer}
 use Rattle.constraint.specs.Types.{Field}
-use Rattle.constraint.specs.Accepted.{EachField, FieldInRange, Ordered, KindClassFits, kindsIn, rowQuestionsIn}
+use Rattle.constraint.specs.Accepted.{EachField, FieldInRange, Ordered, KindClassFits, rowQuestionsIn}
 use Rattle.table_row.specs.Records.{fieldsAs, fieldsFrom, rowRead}
 use Rattle.table_row.proofs.{Judging.askedWith, Judging.row-asked, Judging.row-unknown, validate_values.Statement.statement}
 use Rattle.table_row.proofs.validate_values.Tie as tie
@@ -21,7 +20,8 @@ n c = at (c .before .before .before .before .args .values .now) 0
 abbrev Answers : tie.After-roles-of → List Question → Type 0
 Answers c questions =
     (a : Answer) → Judged questions a
-    → Judged (rowQuestionsIn (c .before .before .before .before .args .edition) (rowRead (c .before .before .before .before .args .tag) (c .before .before .before .before .args .values .now))) a
+    → Judged (rowQuestionsIn (c .before .before .before .before .args .edition) (rowRead (c .before .before .before .before .args .tag)
+    (c .before .before .before .before .args .values .now))) a
 
 asked-5 : (c : tie.After-roles-of) → Answers c (askedWith (n c) (fields c))
 asked-5 c a h =
@@ -61,14 +61,17 @@ returns c =
     row-unknown (a .edition) (a .tag) (a .values .now) (failed (test .result) (test .ensures) (c .if1 .taken))
 
 returns-2 : tie.Need-returns-2
-returns-2 c = let test = c .before .kinds-fit in asked-5 (c .before .before .before) _ (judged-no 5 _ _ (failed (test .result) (test .ensures) (c .if2 .taken)))
+returns-2 c = let test = c .before .kinds-fit in asked-5 (c .before .before .before) _ (judged-no 5 _ _ (failed (test .result) (test .ensures)
+    (c .if2 .taken)))
 
 returns-3 : tie.Need-returns-3
-returns-3 c = let test = c .before .kind-classes-valid in asked-18 (c .before .before .before) _ (judged-no 18 _ _ (failed (test .result) (test .ensures)
+returns-3 c = let test = c .before .kind-classes-valid in asked-18 (c .before .before .before) _ (judged-no 18 _ _ (failed (test .result)
+    (test .ensures)
     (c .if3 .taken)))
 
 returns-4 : tie.Need-returns-4
-returns-4 c = let test = c .before .ranges-fit in asked-6 (c .before .before .before) _ (judged-no 6 _ _ (failed (test .result) (test .ensures) (c .if4 .taken)))
+returns-4 c = let test = c .before .ranges-fit in asked-6 (c .before .before .before) _ (judged-no 6 _ _ (failed (test .result) (test .ensures)
+    (c .if4 .taken)))
 
 lower-first-requires : tie.Need-lower-first-requires
 lower-first-requires c κs =
@@ -76,7 +79,8 @@ lower-first-requires c κs =
     (many (else .before .before .before .before .before .before .before .before .before), passed (test .result) (test .ensures) (else .if4 .left))
 
 returns-5 : tie.Need-returns-5
-returns-5 c = let test = c .before .lower-first in asked-7 (c .before .before .before) _ (judged-no 7 _ _ (failed (test .result) (test .ensures) (c .if5 .taken)))
+returns-5 c = let test = c .before .lower-first in asked-7 (c .before .before .before) _ (judged-no 7 _ _ (failed (test .result) (test .ensures)
+    (c .if5 .taken)))
 
 returns-6 : tie.Need-returns-6
 returns-6 c =

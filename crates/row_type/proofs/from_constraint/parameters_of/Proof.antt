@@ -1,6 +1,5 @@
 -- The fields of the values are the constraint's, and so are the numbers.
 use Rattle.constraint.proofs.Library.{List, _∙_, ap₂, needs, now, ℕ}
-use Rattle.constraint.proofs.Judged.{free}
 use Rattle.table_row.specs.Records.{fieldsAs}
 use Rattle.table_row.proofs.Judging.{known-row}
 use Rattle.row_type.specs.Parameters.{withFields}

@@ -11,8 +11,10 @@ returns : tie.Need-returns
 returns c zeros =
     let start = c .before .before .before .before .before .before in let a = start .args in let v = now (a .values) in let edition = start .pre .0 in
     c .put-values .ensures
-    ∙ ap₂ (λ (l roles : List ℕ). sets l 0 (usedFrom roles v (c .before .before .before .before .before .first-constant .result))) zeros (c .before .before .roles-of .ensures)
-    ∙ ap (λ (i : ℕ). sets (replicate 64 0) 0 (usedFrom (rolesOf (a .tag) (at v 0)) v i)) (c .before .before .before .before .before .first-constant .ensures)
+    ∙ ap₂ (λ (l roles : List ℕ). sets l 0 (usedFrom roles v (c .before .before .before .before .before .first-constant .result))) zeros
+    (c .before .before .roles-of .ensures)
+    ∙ ap (λ (i : ℕ). sets (replicate 64 0) 0 (usedFrom (rolesOf (a .tag) (at v 0)) v i))
+    (c .before .before .before .before .before .first-constant .ensures)
     ∙ row-words edition (a .tag) v (known-row edition (a .tag) v (start .pre .1))
 
 returns-2 : tie.Need-returns-2

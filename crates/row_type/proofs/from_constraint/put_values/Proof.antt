@@ -1,5 +1,5 @@
 -- The loop stores place after place: storing those left in what there is now gives the whole.
-use Rattle.constraint.proofs.Library.{List, [], _+_, _-_, _∙_, _≡_, _≤_, ap, arith, drop, drop-of-length-le, needs, now, refl, sets, sym, ℕ}
+use Rattle.constraint.proofs.Library.{[], _-_, _∙_, _≡_, _≤_, ap, arith, drop-of-length-le, now, refl, sets, sym}
 use Rattle.constraint.proofs.Judged.{free}
 use Rattle.row_type.specs.Parameters.{usedFrom}
 use Rattle.row_type.proofs.{RowNumbers.words-more, from_constraint.put_values.Statement.statement}

@@ -1,5 +1,5 @@
 -- The type and the n are asked for first, and then whether the length fits.
-use Rattle.table.proofs.Names.{TypeKnown, _+_, _∙_, _≡_, _≤_, ap₂, arith, at, failed, free, leb, lengthOf, needs, now, passed, rawSize, same-test}
+use Rattle.table.proofs.Names.{TypeKnown, _+_, _∙_, _≡_, ap₂, arith, at, failed, free, leb, lengthOf, needs, now, passed, rawSize, same-test}
 use Rattle.table.proofs.Names.{subst₂, sym, test-le}
 use Rattle.table.proofs.raw.known_at.Statement.{statement}
 use Rattle.table.proofs.raw.known_at.Tie as tie
@@ -16,7 +16,11 @@ returns-2 c =
     let first = at-test .before .before .byte-at .ensures in let second = at-test .before .byte-at2 .ensures in
     let a = at-test .before .before .before .before .args in let bytes = now (a .bytes) in
     let size : c .length-of .result ≡ lengthOf (at bytes (a .start)) (at bytes (a .start + 1)) = c .length-of .ensures ∙ ap₂ lengthOf first second in
-    same-test (λ small. (subst₂ (TypeKnown _) first second (passed (test .result) (test .ensures) (c .before .if1 .left)), omega (arith, small, size)))
+    same-test (λ small. (
+      subst₂ (TypeKnown _) first second (passed (test .result) (test .ensures) (c .before .if1 .left)),
+      omega
+          (arith, small, size),
+    ))
     (λ known. omega (arith, known .1, size)) (leb (c .length-of .result) rawSize) (test-le (c .length-of .result) rawSize)
 
 pub known-at-spec : {M : Type 1} → statement M

@@ -1,5 +1,6 @@
 -- The loop asks row after row for its bytes and its type, and stops at the first that lacks one.
-use Rattle.table.proofs.Names.{Decides, KnownAt, KnownFrom, _*_, _-_, _<_, _≡_, _≤_, arith, failed, free, length, now, passed, rawSize, rowLimit, subst, ℕ}
+use Rattle.table.proofs.Names.{Decides, KnownAt, KnownFrom, _*_, _-_, _<_, _≡_, _≤_, arith, failed, length, now, passed, rawSize, rowLimit}
+use Rattle.table.proofs.Names.{subst, ℕ}
 use Rattle.table.proofs.{RawRows.known-more, raw.known_rows.Statement.statement}
 use Rattle.table.proofs.raw.known_rows.Tie as tie
 
@@ -25,7 +26,8 @@ test : (c : tie.After-known-at Inv-loop μ-loop) → Decides (KnownAt (c .before
     (now (c .before .before .before .before .before .args .bytes)) (c .before .before .before .loop .i)) (c .known-at .result)
 test c =
     let at-loop = c .before .before .before in let a = at-loop .before .before .args in
-    subst (λ (start : ℕ). Decides (KnownFrom (a .edition) (now (a .bytes)) start) (c .known-at .result)) (at-loop .loop .inv .1) (c .known-at .ensures)
+    subst (λ (start : ℕ). Decides (KnownFrom (a .edition) (now (a .bytes)) start) (c .known-at .result)) (at-loop .loop .inv .1)
+    (c .known-at .ensures)
 
 returns-2 : tie.Need-returns-2 Inv-loop μ-loop
 returns-2 c =

@@ -1,5 +1,6 @@
 -- The row's first two bytes say whether its type is known; where it is, the row that its body stands for is judged.
-use Rattle.table.proofs.Names.{Answer, Bytes, Constraint, Judged, KnownAt, Refused, Taken, [], _≡_, ap, arith, failed, free, judged-once, needs}
+use Rattle.table.proofs.Names.{Answer, Bytes, Constraint, Judged, KnownAt, Refused, Taken, [], _≡_, ap, arith, failed, free, judged-once}
+use Rattle.table.proofs.Names.{needs}
 use Rattle.table.proofs.Names.{never, now, passed, rawRow, rowIn, rowQuestions, rowQuestionsIn, skipped, subst, ℕ}
 use Rattle.table.proofs.RawRows.{raw-known}
 use Rattle.table.proofs.raw.row_taken.Statement.{statement}

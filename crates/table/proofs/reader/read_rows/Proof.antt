@@ -1,5 +1,5 @@
 -- The loop reads row after row: the record holds the rows read so far, and what is read from the place on, behind them, is the whole.
-use Rattle.table.proofs.Names.{Constraint, List, ReadsAt, Taken, [], _++_, _-_, _∙_, _∷_, _≡_, ap, arith, length, needs, now, refl, rowReadAt, rowsOf}
+use Rattle.table.proofs.Names.{Constraint, ReadsAt, Taken, [], _++_, _-_, _∙_, _∷_, ap, arith, length, needs, now, refl, rowReadAt, rowsOf}
 use Rattle.table.proofs.Progress.{ReadUpTo, up-to-end, up-to-more, up-to-refused, up-to-start}
 use Rattle.table.proofs.{Places.PlaceTaken, Places.place-taken, reader.read_rows.Statement.statement}
 use Rattle.table.proofs.reader.read_rows.Tie as tie
@@ -15,7 +15,8 @@ read : (c : tie.After-enum-told Inv-loop μ-loop) → let at-loop = c .before .b
     ReadsAt (a .edition) (now (a .bytes)) (at-loop .loop .table .count) (at-loop .loop .place) Taken
 read c = rw (c .enum-told .given .1) at (c .before .before .validate-row .ensures)
 
-taken : (c : tie.After-enum-told Inv-loop μ-loop) → let at-loop = c .before .before .before .before in let a = at-loop .before .before .before .args in
+taken : (c : tie.After-enum-told Inv-loop μ-loop) → let at-loop = c .before .before .before .before in
+    let a = at-loop .before .before .before .args in
     PlaceTaken (a .edition) (now (a .bytes)) (at-loop .loop .table .count) (at-loop .loop .place)
     (rowReadAt (now (a .bytes)) (at-loop .loop .place))
 taken c =
@@ -56,4 +57,9 @@ read-rows-spec =
     (tie.spec Inv-loop μ-loop (λ c κs. tt)
     (λ c. up-to-start (c .before .before .args .edition) (now (c .before .before .args .bytes)) (c .new .result) (omega arith) (c .new .ensures))
     (λ c κs. tt) (λ c. search needs) (λ c κs. tt) returns (λ c. search needs) (λ c κs. tt) (λ c κs. tt)
-    (λ c. let told = c .before .before .before in omega (arith, c .before .before .row-at .ensures .behind (taken told .whole), taken told .whole)) loop-again returns-2)
+    (λ c. let told = c .before .before .before in omega (
+      arith,
+      c .before .before .row-at .ensures .behind
+          (taken told .whole),
+      taken told .whole,
+    )) loop-again returns-2)

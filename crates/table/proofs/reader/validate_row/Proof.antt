@@ -1,6 +1,8 @@
 -- The questions are put in their order, and the body is the part of the bytes that the definition names.
-use Rattle.table.proofs.Names.{Bytes, Constraint, Decides, Judged, List, RowAt, ShapeFits, WholeAt, [], _∙_, _≡_, ap, arith, bodyAt, failed, needs}
-use Rattle.table.proofs.Names.{_+_, _-_, drop, now, passed, placeQuestions, loaded-row, refl, replicate, rowFrom, rowIn, rowRead, rowQuestions, rowQuestionsIn, rowReadAt, skipped, stands-known, subst, take, ℕ}
+use Rattle.table.proofs.Names.{Bytes, Constraint, Decides, Judged, List, RowAt, ShapeFits, WholeAt, [], _∙_, _≡_, ap, arith, bodyAt, failed}
+use Rattle.table.proofs.Names.{needs}
+use Rattle.table.proofs.Names.{_+_, _-_, drop, now, passed, loaded-row, refl, replicate, rowFrom, rowIn, rowRead, rowQuestions, rowQuestionsIn}
+use Rattle.table.proofs.Names.{rowReadAt, skipped, stands-known, subst, take, ℕ}
 use Rattle.table.proofs.Places.{part-body, place-full, place-misshapen, place-row, place-short, row-at}
 use Rattle.table.proofs.reader.validate_row.Statement.{statement}
 use Rattle.table.proofs.reader.validate_row.Tie as tie
@@ -51,14 +53,16 @@ returns-4 c =
     let start = at-shape .before .before .before .before .before .before .before in let a = start .args in let bytes = now (a .bytes) in
     let size = at-shape .before .before .two-at in
     let read : rowRead (at-load .load .result) (at-load .load .last .0) ≡ rowReadAt bytes (a .place) =
-    loaded-row (take (a .place + 2 + size .result - (a .place + 2)) (drop (a .place + 2) bytes)) (replicate 18 0) (at-load .load .last .0) (at-load .load .result) refl (at-load .load .ensures)
+    loaded-row (take (a .place + 2 + size .result - (a .place + 2)) (drop (a .place + 2) bytes)) (replicate 18 0) (at-load .load .last .0)
+    (at-load .load .result) refl (at-load .load .ensures)
     ∙ ap (λ (body : List ℕ). rowIn (rowFrom body)) (part-body bytes (a .place) (size .result) (size .ensures)) in
     let fits = passed (at-shape .shape-fits .result) (shape at-shape) (else .if3 .left) in
     let here = row (at-shape .before .before .before .before .before .before) in (
       here,
       place-row (a .edition) bytes (a .before) (a .place) _ _ (whole (at-shape .before .before .before .before)) (omega arith) fits
           (skipped [] (rowQuestions (rowReadAt bytes (a .place))) 4 _ (stands-known (bodyAt bytes (a .place)) _ fits (here fits)) _
-          (subst (λ (found : Constraint). Judged (rowQuestionsIn (a .edition) found) (c .validate-values .result)) read (c .validate-values .ensures))),
+          (subst (λ (found : Constraint). Judged (rowQuestionsIn (a .edition) found) (c .validate-values .result)) read
+          (c .validate-values .ensures))),
     )
 
 pub validate-row-spec : {M : Type 1} → statement M

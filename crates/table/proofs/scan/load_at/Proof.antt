@@ -1,6 +1,8 @@
 -- Where a row is whole, its body is the part behind the length field, and it is read as the row that it stands for.
-use Rattle.table.proofs.Names.{Bytes, List, RowAt, WholeAt, _+_, _-_, _∙_, _≡_, ap, arith, at, drop, failed, filler, free, length, length-sets, loaded-row, needs, numberBehind}
-use Rattle.table.proofs.Names.{now, passed, refl, replicate, rolesOf, rowFrom, rowIn, rowRead, rowReadAt, sets-all, subst⁻¹, sym, take, valuesAt, ℕ}
+use Rattle.table.proofs.Names.{Bytes, List, RowAt, WholeAt, _+_, _-_, _∙_, _≡_, ap, arith, at, drop, failed, filler, free, length, length-sets}
+use Rattle.table.proofs.Names.{loaded-row, needs, numberBehind}
+use Rattle.table.proofs.Names.{now, passed, refl, replicate, rolesOf, rowFrom, rowIn, rowRead, rowReadAt, sets-all, subst⁻¹, sym, take}
+use Rattle.table.proofs.Names.{valuesAt, ℕ}
 use Rattle.table.proofs.{Places.part-body, Places.row-at, scan.load_at.Statement.statement}
 use Rattle.table.proofs.scan.load_at.Tie as tie
 
@@ -27,7 +29,8 @@ returns c =
     let then = c .before .before .before in let asked = then .before .whole-at in let start = then .before .before .before in let a = start .args in
     let not-whole = failed (asked .result) (asked .ensures) (then .if1 .taken) in
     let zeros : c .fill .last .0 ≡ replicate 18 0 =
-    c .fill .ensures ∙ sets-all (now (a .values)) (valuesAt (replicate 18 0) (now (a .bytes)) 1) (start .pre ∙ ap length (sym (none-read (now (a .bytes)))))
+    c .fill .ensures ∙ sets-all (now (a .values)) (valuesAt (replicate 18 0) (now (a .bytes)) 1) (start .pre ∙ ap length (sym (none-read (now
+    (a .bytes)))))
     ∙ none-read (now (a .bytes)) in
     record {
       placed = record {

@@ -24,7 +24,8 @@ returns : tie.Need-returns Inv-loop μ-loop
 returns c edition rows reads there =
     let l = c .before .before .before .loop in
     let at-end : l .k ≡ c .before .before .before .before .before .args .i = omega (arith, l .inv .0, c .before .before .loop-test .left) in
-    let read = scan-step _ rows (l .k) (l .place) filler (c .before .row-at2 .result) (omega (arith, there, at-end)) (l .inv .1 edition rows reads there)
+    let read = scan-step _ rows (l .k) (l .place) filler (c .before .row-at2 .result) (omega (arith, there, at-end))
+    (l .inv .1 edition rows reads there)
     (c .before .row-at2 .ensures) .0 in
     rw (← at-end) (row-there rows (l .k) filler (omega (arith, there, at-end)) ∙ ap some (sym read))
 

@@ -1,5 +1,5 @@
 -- The table has as many rows as judging it counts, so a number that is not below the count is no row's.
-use Rattle.table.proofs.Names.{arith, at, needs, now, refl}
+use Rattle.table.proofs.Names.{arith, at, needs, now}
 use Rattle.table.proofs.{Scanning.scan-count, Scanning.scan-start, scan.row_numbered.Statement.statement}
 use Rattle.table.proofs.scan.row_numbered.Tie as tie
 

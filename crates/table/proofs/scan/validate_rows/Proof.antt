@@ -27,7 +27,8 @@ loop-again : tie.Need-loop-again Inv-loop μ-loop
 loop-again c =
     let told = c .before in let at-loop = told .before .before .before .before in let a = at-loop .before .before .args in
     let place = at-loop .loop .place in
-    let behind : place + 2 + c .two-at .result ≡ place + 2 + lengthAt (now (a .bytes)) place = ap (λ (size : ℕ). place + 2 + size) (c .two-at .ensures) in
+    let behind : place + 2 + c .two-at .result ≡ place + 2 + lengthAt (now (a .bytes)) place = ap (λ (size : ℕ). place + 2 + size)
+    (c .two-at .ensures) in
     counted-more (a .edition) (now (a .bytes)) (at-loop .loop .rows) place _ (at-loop .loop .inv) (omega arith) (read told) behind
 
 returns : tie.Need-returns Inv-loop μ-loop

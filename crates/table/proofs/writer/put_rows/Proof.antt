@@ -1,6 +1,7 @@
 -- The loop stores row after row: storing those left in what there is now gives the whole.
 use Rattle.table.proofs.Names.{Constraint, List, TableRow, TypeKnown, [], _+_, _-_, _<_, _^_, _∙_, _≡_, _≤_, ap, arith, countOf, drop}
-use Rattle.table.proofs.Names.{drop-of-length-le, getD, length, length-map, refl, row-bytes-long, row-known, rowBody, rowIn, rowLimit, rows-length}
+use Rattle.table.proofs.Names.{drop-of-length-le, getD, length, length-map, refl, row-bytes-long, row-known, rowBody, rowIn, rowLimit}
+use Rattle.table.proofs.Names.{rows-length}
 use Rattle.table.proofs.Names.{rows-room, rowsBytes, rowsOf, sets, sym, typeOf}
 use Rattle.table.proofs.{Stores.rows-more, Stores.rows-size, writer.put_rows.Statement.statement}
 use Rattle.table.proofs.writer.put_rows.Tie as tie
@@ -74,5 +75,6 @@ put-rows-spec =
     (λ c. omega (arith, few (c .before .before .before))) put-requires
     (λ c κs. let at-turn = c .before .before .before .before .before in (at-turn .before .before .before .pre .0 .0, known at-turn))
     (λ c. let at-turn = c .before .before .before .before .before .before in omega (arith, fits at-turn, c .length .ensures))
-    (λ c. let at-turn = c .before .before .before .before .before .before in omega (arith, fits at-turn, c .length .ensures)) (λ c. omega arith) (λ c. omega arith) loop-again (λ c. c .before .loop .inv .1)
+    (λ c. let at-turn = c .before .before .before .before .before .before in omega (arith, fits at-turn, c .length .ensures)) (λ c. omega arith)
+    (λ c. omega arith) loop-again (λ c. c .before .loop .inv .1)
     returns)

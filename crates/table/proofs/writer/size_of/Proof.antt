@@ -28,12 +28,18 @@ known c =
     row-known (start .pre .0) (start .args .t1) (c .before .before .loop .i) _ (omega arith) (omega (arith, entries start, few start)) (start .pre .1)
 
 short : (c : tie.After-length Inv-loop μ-loop) → c .length .result ≤ 145
-short c = omega (arith, c .length .ensures, row-short (c .before .before .before .before .pre .0) (row (c .before) .tag) (row (c .before) .values) (known (c .before)))
+short c = omega (
+  arith,
+  c .length .ensures,
+  row-short (c .before .before .before .before .pre .0) (row (c .before) .tag) (row (c .before) .values)
+      (known (c .before)),
+)
 
 loop-again : tie.Need-loop-again Inv-loop μ-loop
 loop-again c =
     let at-loop = c .before .before .before in let start = at-loop .before in
-    let next = rows-size (start .args .t1) (at-loop .loop .i) (record { tag = 0; values = [] }) (omega arith) (omega (arith, entries start, few start)) in
+    let next = rows-size (start .args .t1) (at-loop .loop .i) (record { tag = 0; values = [] }) (omega arith) (omega
+    (arith, entries start, few start)) in
     (omega arith, omega (arith, short c), omega (arith, next, c .length .ensures))
 
 returns : tie.Need-returns Inv-loop μ-loop

@@ -19,4 +19,8 @@ pub with-row-spec : {M : Type 1} → statement M
 with-row-spec =
     tie.close
     (tie.spec (λ c. search needs) (λ c. search needs) (λ c. search needs) (λ c. search needs) returns
-    (λ c. record { room = λ h. absurd (omega arith); full = λ h. omega arith }) (λ c. record { room = λ h. absurd (omega arith); full = λ h. omega arith }))
+    (λ c. record { room = λ h. absurd (omega arith); full = λ h. omega arith }) (λ c. record {
+      room = λ h. absurd
+          (omega arith);
+      full = λ h. omega arith;
+    }))

@@ -1,5 +1,5 @@
 -- The roles that the n uses have as many bytes as the fields of the row.
-use Rattle.constraint.proofs.Library.{_+_, _∙_, _≡_, ap, arith, length, length-map, needs, sym, ℕ}
+use Rattle.constraint.proofs.Library.{_+_, _∙_, ap, arith, needs, sym, ℕ}
 use Rattle.table_row.specs.Records.{total}
 use Rattle.table_row.proofs.Judging.{body-long, known-row}
 use Rattle.table_row.proofs.{Lines.total-small, TableRow.length.Statement.statement}

@@ -1,8 +1,8 @@
 -- The length field, the type byte and the fields are stored one behind the other.
-use Rattle.constraint.proofs.Library.{_+_, _∙_, _≡_, _≤_, ap, arith, length, length-map, needs, now, sets, sym, ℕ, List}
+use Rattle.constraint.proofs.Library.{_+_, _∙_, _≡_, ap, arith, needs, now, sets, ℕ, List}
 use Rattle.constraint.specs.Steps.{at}
 use Rattle.constraint.specs.Types.{TypeKnown}
-use Rattle.constraint.specs.Table.{fieldsBytes, rowBody}
+use Rattle.constraint.specs.Table.{fieldsBytes}
 use Rattle.table_row.specs.Records.{fieldsAs, rolesOf, rowIn, total}
 use Rattle.table_row.proofs.Judging.{body-long, known-row, row-bytes-long, row-stores}
 use Rattle.table_row.proofs.{Lines.total-small, TableRow.put.Statement.statement}
@@ -22,7 +22,8 @@ add-size c = omega (arith, c .size-of .ensures, total-small (c .before .roles-of
 
 put-fields-requires : tie.Need-put-fields-requires
 put-fields-requires c κs =
-    let at-byte = c .before .before .before in let at-two = at-byte .before .before .before .before in let start = at-two .before .before .before .before .before .before in
+    let at-byte = c .before .before .before in let at-two = at-byte .before .before .before .before in
+    let start = at-two .before .before .before .before .before .before in
     let row = start .args .self in
     omega (
       arith,
@@ -35,13 +36,15 @@ put-fields-requires c κs =
 
 returns : tie.Need-returns
 returns c =
-    let at-fields = c .before .before in let at-byte = at-fields .before .before .before .before in let at-two = at-byte .before .before .before .before in
+    let at-fields = c .before .before in let at-byte = at-fields .before .before .before .before in
+    let at-two = at-byte .before .before .before .before in
     let at-size = at-two .before .before in let start = at-size .before .before .before .before in let row = start .args .self in
     row-stores (start .pre .0 .0) (row .tag) (row .values) (known start) (now (start .args .buffer)) _ _ _ (start .args .place) _
     (long at-size)
     (at-two .put-two .ensures) (at-byte .put-byte .ensures)
     (at-fields .put-fields .ensures
-    ∙ ap (λ (r : List ℕ). sets (at-byte .put-byte .last .0) (start .args .place + 3) (fieldsBytes (fieldsAs r (row .values)))) (at-size .before .roles-of .ensures))
+    ∙ ap (λ (r : List ℕ). sets (at-byte .put-byte .last .0) (start .args .place + 3) (fieldsBytes (fieldsAs r (row .values))))
+    (at-size .before .roles-of .ensures))
 
 pub put-spec : {M : Type 1} → statement M
 put-spec =

@@ -1,6 +1,5 @@
 -- A lower is the bound, behind an upper there is none, and an offset is below the next one.
-use Rattle.constraint.proofs.Library.{_≤_, arith}
-use Rattle.constraint.specs.Limits.{lastTime}
+use Rattle.constraint.proofs.Library.{arith}
 use Rattle.constraint.specs.Accepted.{EachField, FieldInRange}
 use Rattle.table_row.specs.Records.{fieldAt}
 use Rattle.table_row.proofs.{FieldByField.same-bound, fields.bound_after.Statement.statement}
@@ -21,4 +20,5 @@ returns-7 c =
 pub bound-after-spec : {M : Type 1} → statement M
 bound-after-spec =
     tie.close
-    (tie.spec (λ c. rw (c .if1 .taken)) (λ c. rw (c .if2 .taken)) (λ c. rw (c .if3 .taken)) add-result (λ c. rw (c .if4 .taken)) (λ c. rw (c .if5 .taken)) (λ c. rw (c .if6 .taken)) returns-7)
+    (tie.spec (λ c. rw (c .if1 .taken)) (λ c. rw (c .if2 .taken)) (λ c. rw (c .if3 .taken)) add-result (λ c. rw (c .if4 .taken)) (λ c. rw
+    (c .if5 .taken)) (λ c. rw (c .if6 .taken)) returns-7)

@@ -25,7 +25,8 @@ returns-4 c = rw (c .before .if4 .taken) (same-test (λ h. (h, tt)) (λ h. h .0)
 returns-5 : tie.Need-returns-5
 returns-5 c =
     let a = c .before .before .before .before .args in
-    other-bound (a .role) (a .value) (a .low) (c .before .before .before .if1 .left) (c .before .before .if2 .left) (c .before .if3 .left) (c .if4 .left)
+    other-bound (a .role) (a .value) (a .low) (c .before .before .before .if1 .left) (c .before .before .if2 .left) (c .before .if3 .left)
+    (c .if4 .left)
     (a .n)
 
 pub bound-fits-spec : {M : Type 1} → statement M

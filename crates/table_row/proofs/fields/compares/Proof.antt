@@ -1,5 +1,5 @@
 -- EachField operator is one test, and the definition asks what it tests.
-use Rattle.constraint.proofs.Library.{eqb, leb, ltb, ne-eqb}
+use Rattle.constraint.proofs.Library.{ne-eqb}
 use Rattle.constraint.proofs.Judged.{test-equal, test-le, test-lt}
 use Rattle.table_row.proofs.fields.compares.Statement.{statement}
 use Rattle.table_row.proofs.fields.compares.Tie as tie

@@ -21,7 +21,8 @@ returns c =
     let at-loop = c .before .before .before .before .before .before in let a = at-loop .before .args in
     let is = sym (c .before .before .before .is-kind .ensures) ∙ c .before .before .if1 .taken in
     at-loop .loop .inv .1 false
-    (λ absent. (rw (kind-here (a .roles .now) (a .values .now) (at-loop .loop .i) (omega (arith, at-loop .before .pre .0)) is) at absent) .0 (sym (c .if2 .taken)))
+    (λ absent. (rw (kind-here (a .roles .now) (a .values .now) (at-loop .loop .i) (omega (arith, at-loop .before .pre .0)) is) at absent) .0 (sym
+    (c .if2 .taken)))
 
 loop-again : tie.Need-loop-again Inv-loop μ-loop
 loop-again c =

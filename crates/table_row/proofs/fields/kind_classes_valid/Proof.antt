@@ -10,7 +10,8 @@ use Rattle.table_row.proofs.fields.kind_classes_valid.Tie as tie
 
 abbrev Inv-loop : tie.InvT-loop
 Inv-loop roles values i₀ i =
-    (i ≤ 18) × ((b : Bool) → Decides (EachField KindClassFits (fieldsFrom roles values i)) b → Decides (EachField KindClassFits (fieldsFrom roles values 0)) b)
+    (i ≤ 18) × ((b : Bool) → Decides (EachField KindClassFits (fieldsFrom roles values i)) b → Decides (EachField KindClassFits
+    (fieldsFrom roles values 0)) b)
 
 abbrev μ-loop : tie.MeasureT-loop
 μ-loop roles values i₀ i = 18 - i
@@ -27,7 +28,8 @@ loop-again c =
     let at-loop = c .before .before .before .before .before in let a = at-loop .before .args in let test = c .before .kind-class-valid in
     let here = passed (test .result) (test .ensures) (c .if1 .left) in (
       omega arith,
-      λ b later. at-loop .loop .inv .1 b (field-here KindClassFits (a .roles .now) (a .values .now) (at-loop .loop .i) (omega (arith, at-loop .before .pre)) here b later),
+      λ b later. at-loop .loop .inv .1 b (field-here KindClassFits (a .roles .now) (a .values .now) (at-loop .loop .i) (omega
+          (arith, at-loop .before .pre)) here b later),
     )
 
 returns-2 : tie.Need-returns-2 Inv-loop μ-loop

@@ -21,7 +21,8 @@ returns c =
     let at-loop = c .before .before .before .before .before .before in let a = at-loop .before .args in
     let is = sym (c .before .before .before .is-kind .ensures) ∙ c .before .before .if1 .taken in
     at-loop .loop .inv .1 false
-    (λ fit. let first = kinds-first _ _ (rw (kind-here (a .roles .now) (a .values .now) (at-loop .loop .i) (omega (arith, at-loop .before .pre)) is) at fit) in omega arith)
+    (λ fit. let first = kinds-first _ _ (rw (kind-here (a .roles .now) (a .values .now) (at-loop .loop .i) (omega
+    (arith, at-loop .before .pre)) is) at fit) in omega arith)
 
 returns-2 : tie.Need-returns-2 Inv-loop μ-loop
 returns-2 c =
@@ -50,7 +51,8 @@ loop-again c =
 returns-3 : tie.Need-returns-3 Inv-loop μ-loop
 returns-3 c =
     let a = c .before .before .args in
-    c .before .loop .inv .1 true (rw (fields-end (a .roles .now) (a .values .now) (c .before .loop .i) (omega (arith, c .before .before .pre))) kinds-none)
+    c .before .loop .inv .1 true (rw (fields-end (a .roles .now) (a .values .now) (c .before .loop .i) (omega
+    (arith, c .before .before .pre))) kinds-none)
 
 pub kinds-fit-spec : {M : Type 1} → statement M
 kinds-fit-spec =

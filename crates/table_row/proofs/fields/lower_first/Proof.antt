@@ -1,5 +1,5 @@
 -- The loop keeps the bound that it passed: what is asked of the fields left, with that bound before them, is what is asked of all.
-use Rattle.constraint.proofs.Library.{Bool, _-_, _≤_, arith, false, refl, true}
+use Rattle.constraint.proofs.Library.{Bool, _-_, _≤_, arith, false, true}
 use Rattle.constraint.proofs.Judged.{failed, free, passed}
 use Rattle.constraint.specs.Records.{Decides}
 use Rattle.constraint.specs.Accepted.{EachField, FieldInRange, Ordered}
@@ -36,7 +36,8 @@ loop-again c =
       omega arith,
       field-parts FieldInRange (a .roles .now) (a .values .now) i (omega (arith, at-loop .before .pre .0)) (at-loop .loop .inv .1) .1,
       λ b later. at-loop .loop .inv .2 b
-          (bound-here (a .n) (at-loop .loop .low) (a .roles .now) (a .values .now) i (omega (arith, at-loop .before .pre .0)) here b (rw (c .bound-after .ensures) at later)),
+          (bound-here (a .n) (at-loop .loop .low) (a .roles .now) (a .values .now) i (omega (arith, at-loop .before .pre .0)) here b (rw
+          (c .bound-after .ensures) at later)),
     )
 
 returns-2 : tie.Need-returns-2 Inv-loop μ-loop

@@ -1,5 +1,5 @@
 -- A time is compared with the last one, a span or a maximum with its limit, and of a field of another role nothing is asked.
-use Rattle.constraint.proofs.Library.{_≤_, arith, eq-eqb, inl, inr, leb, lt-ltb, ne-eqb, ⊎-elim}
+use Rattle.constraint.proofs.Library.{arith, eq-eqb, inl, inr, leb, lt-ltb, ne-eqb, ⊎-elim}
 use Rattle.constraint.proofs.Judged.{same-test, test-le}
 use Rattle.constraint.specs.Limits.{lastTime, spanLimit, repetitionSpanLimit}
 use Rattle.table_row.proofs.{FieldByField.span-range, FieldByField.time-range, fields.range_fits.Statement.statement}
@@ -20,20 +20,29 @@ returns-4 c =
 returns-8 : tie.Need-returns-8
 returns-8 c =
     let b = c .before .before .before in let a = b .before .before .before .before .args in
-    rw (span-range (a .role) (a .value) (b .before .if4 .left) (b .if5 .left) (c .before .before .if6 .left) (c .before .if7 .left)) (λ h. omega arith)
+    rw (span-range (a .role) (a .value) (b .before .if4 .left) (b .if5 .left) (c .before .before .if6 .left) (c .before .if7 .left))
+    (λ h. omega arith)
 
 returns-9 : tie.Need-returns-9
 returns-9 c =
     let d = c .before .before in
     let b = d .before .before in let a = b .before .before .before .before .args in
-    rw (span-range (a .role) (a .value) (b .before .if4 .left) (b .if5 .left) (d .before .if6 .left) (d .if7 .left), eq-eqb (a .role) 115 (c .if9 .taken))
+    rw (
+      span-range (a .role) (a .value) (b .before .if4 .left) (b .if5 .left) (d .before .if6 .left) (d .if7 .left),
+      eq-eqb (a .role) 115
+          (c .if9 .taken),
+    )
     (same-test (λ h. ((omega (arith, c .before .if8 .left), h), tt)) (λ h. h .0 .1) (leb (a .value) spanLimit) (test-le (a .value) spanLimit))
 
 returns-10 : tie.Need-returns-10
 returns-10 c =
     let d = c .before .before in
     let b = d .before .before in let a = b .before .before .before .before .args in
-    rw (span-range (a .role) (a .value) (b .before .if4 .left) (b .if5 .left) (d .before .if6 .left) (d .if7 .left), ne-eqb (a .role) 115 (c .if9 .left))
+    rw (
+      span-range (a .role) (a .value) (b .before .if4 .left) (b .if5 .left) (d .before .if6 .left) (d .if7 .left),
+      ne-eqb (a .role) 115
+          (c .if9 .left),
+    )
     (same-test (λ h. ((omega (arith, c .before .if8 .left), h), tt)) (λ h. h .0 .1) (leb (a .value) repetitionSpanLimit)
     (test-le (a .value) repetitionSpanLimit))
 

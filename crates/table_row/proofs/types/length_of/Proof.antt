@@ -1,6 +1,7 @@
 -- The lists are looked up where the definition looks them up.
 use Rattle.constraint.proofs.Library.{arith, needs, sym}
-use Rattle.table_row.proofs.{Lines.entries-small, Lines.entry-small, Lines.length-unknown, Lines.lengths-small, types.length_of.Statement.statement}
+use Rattle.table_row.proofs.{Lines.entries-small, Lines.entry-small, Lines.length-unknown, Lines.lengths-small}
+use Rattle.table_row.proofs.{types.length_of.Statement.statement}
 use Rattle.table_row.proofs.types.length_of.Tie as tie
 
 pub length-of-spec : {M : Type 1} → statement M

@@ -1,5 +1,5 @@
 -- The loop stores role after role: storing those left in what there is now gives the whole.
-use Rattle.constraint.proofs.Library.{_*_, _+_, _-_, _∙_, _≡_, _≤_, ap, arith, length, refl, replicate, sets, sym, ℕ, List}
+use Rattle.constraint.proofs.Library.{_+_, _-_, _∙_, _≡_, _≤_, ap, arith, refl, replicate, sets, sym, ℕ}
 use Rattle.constraint.proofs.Judged.{free}
 use Rattle.table_row.specs.Records.{rolesFrom, rolesOf}
 use Rattle.table_row.proofs.{Lines.roles-more, Stores.sets-all, types.roles_of.Statement.statement}

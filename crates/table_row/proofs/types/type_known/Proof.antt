@@ -3,7 +3,7 @@ use Rattle.constraint.proofs.Library.{_<_, _≡_, _≤_, List·getD-eq-default,
 use Rattle.constraint.proofs.Lengths.{at-most}
 use Rattle.constraint.proofs.Judged.{same-test, test-le}
 use Rattle.constraint.specs.Steps.{at}
-use Rattle.constraint.specs.Types.{lastTypes, leastCounts, mostCounts, takesCount}
+use Rattle.constraint.specs.Types.{lastTypes, mostCounts, takesCount}
 use Rattle.table_row.proofs.{Lines.least-small, Lines.most-small, types.type_known.Statement.statement}
 use Rattle.table_row.proofs.types.type_known.Tie as tie
 
@@ -39,5 +39,10 @@ pub type-known-spec : {M : Type 1} → statement M
 type-known-spec =
     tie.close
     (tie.spec returns (λ c. search needs) (λ c. search needs) (λ c. search needs) listed returns-4 (λ c. listed (c .before))
-    (λ c. omega (arith, least-small (c .before .before .before .before .args .tag))) (λ c h. omega (arith, h .n-known (has (c .before)), c .if5 .taken))
+    (λ c. omega (arith, least-small (c .before .before .before .before .args .tag))) (λ c h. omega (
+      arith,
+      h .n-known (has
+          (c .before)),
+      c .if5 .taken,
+    ))
     (λ c. listed (c .before .before)) (λ c. omega (arith, most-small (c .before .before .before .before .before .args .tag))) returns-6)

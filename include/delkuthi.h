@@ -786,6 +786,18 @@ static inline const char *delkuthi_type_text(uint8_t type)
         return "Repetition";
     case 11:
         return "Synchronization";
+    case 12:
+        return "Age";
+    case 13:
+        return "OutputSynchronization";
+    case 14:
+        return "InputSynchronization";
+    case 15:
+        return "Pattern";
+    case 16:
+        return "Arbitrary";
+    case 17:
+        return "Comparison";
     /* end type texts */
     default:
         return "no type";

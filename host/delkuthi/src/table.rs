@@ -224,6 +224,12 @@ pub const fn type_text(number: u8) -> &'static str {
         9 => "Reaction",
         10 => "Repetition",
         11 => "Synchronization",
+        12 => "Age",
+        13 => "OutputSynchronization",
+        14 => "InputSynchronization",
+        15 => "Pattern",
+        16 => "Arbitrary",
+        17 => "Comparison",
         // end type texts
         _ => "no type",
     }

@@ -3,7 +3,7 @@
 mod common;
 
 use common::{delay, fresh, verdicts};
-use model::contract;
+use model::contract::{self, Asked};
 use model::examples::examples;
 use model::search::open_by_search;
 use model::{Constraint, History, Step, TYPES, Verdict, report_text};
@@ -67,8 +67,9 @@ fn the_contracts_examples() {
             let mut monitor = fresh(&rows);
             for (step, expected) in recording {
                 let answer = match step {
-                    Some(step) => monitor.step(step),
-                    None => monitor.withdraw(),
+                    Asked::Step(step) => monitor.step(step),
+                    Asked::Withdraw => monitor.withdraw(),
+                    Asked::WithdrawStep(number) => monitor.withdraw_step(number),
                 };
                 let read = verdicts(&monitor).replace(", ", "/");
                 let told = answer.map_or_else(|number| format!("refused {number}"), |()| read);

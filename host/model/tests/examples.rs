@@ -67,8 +67,9 @@ fn the_contracts_examples() {
             let mut monitor = fresh(&rows);
             for (step, expected) in recording {
                 let answer = match step {
-                    Some(step) => monitor.step(step),
-                    None => monitor.withdraw(),
+                    contract::Asked::Step(step) => monitor.step(step),
+                    contract::Asked::Withdraw => monitor.withdraw(),
+                    contract::Asked::WithdrawStep(step) => monitor.withdraw_step(step),
                 };
                 let read = verdicts(&monitor).replace(", ", "/");
                 let told = answer.map_or_else(|number| format!("refused {number}"), |()| read);

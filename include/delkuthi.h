@@ -31,7 +31,7 @@
  * session-is-exact. It speaks of any memory and any list of the calls that
  * change it: delkuthi_fresh, events, ticks, closes, withdrawals,
  * delkuthi_take and delkuthi_report_on, with any arguments, in both forms. It
- * says what each of these calls answers, and what each of the thirteen calls
+ * says what each of these calls answers, and what each of the fifteen calls
  * that only read a monitor answers after the list. That no call leaves its
  * memory and that every call ends is in the contract of each call.
  * DATASHEET.md lists the promises with their theorems, the assumptions, and
@@ -1307,6 +1307,34 @@ uint8_t delkuthi_row_verdict(const delkuthi_monitor *monitor, uint64_t row);
  */
 DELKUTHI_NONNULL
 uint64_t delkuthi_row_step(const delkuthi_monitor *monitor, uint64_t row);
+
+/*
+ * Says why a row broke. Let t be the clock after the step that broke it.
+ *
+ * Returns
+ *   DELKUTHI_OVERDUE   the clock passed the row's deadline: a tick to t in
+ *                      place of that step would have broken the row too
+ *   DELKUTHI_BY_EVENT  an event of one of the row's kinds broke it, and a tick
+ *                      to t would have left it open
+ *   DELKUTHI_AT_CLOSE  the close broke it
+ *   0                  the row is not broken, or there is no such row
+ *
+ * It returns one of these four whatever the memory holds.
+ */
+DELKUTHI_NONNULL
+uint8_t delkuthi_row_cause(const delkuthi_monitor *monitor, uint64_t row);
+
+#define DELKUTHI_OVERDUE  1
+#define DELKUTHI_BY_EVENT 2
+#define DELKUTHI_AT_CLOSE 3
+
+/*
+ * Returns the moment at which a row broke: the deadline that passed
+ * (DELKUTHI_OVERDUE), the time of the event, or the clock at the close. Returns
+ * DELKUTHI_NO_LIMIT if the row is not broken, or there is no such row.
+ */
+DELKUTHI_NONNULL
+uint64_t delkuthi_row_moment(const delkuthi_monitor *monitor, uint64_t row);
 
 /*
  * Returns the number of rows of the monitor's table, 0 to 32 whatever the

@@ -105,6 +105,14 @@ enum class verdict : std::uint8_t {
     broken = DELKUTHI_BROKEN,
 };
 
+// Why a row broke.
+enum class cause : std::uint8_t {
+    none = 0,
+    overdue = DELKUTHI_OVERDUE,
+    by_event = DELKUTHI_BY_EVENT,
+    at_close = DELKUTHI_AT_CLOSE,
+};
+
 // Does the linked library have the interface of this header?
 inline bool matches() noexcept
 {
@@ -348,6 +356,19 @@ public:
     std::uint64_t broken_at(std::uint64_t row) const noexcept
     {
         return delkuthi_row_step(&words_, row);
+    }
+
+    // Why a row broke; `none` if it is not broken.
+    delkuthi::cause cause(std::uint64_t row) const noexcept
+    {
+        return static_cast<delkuthi::cause>(delkuthi_row_cause(&words_, row));
+    }
+
+    // When it broke: the deadline that passed, or the time of the event or of
+    // the close; nothing if it is not broken.
+    std::optional<std::uint64_t> moment(std::uint64_t row) const noexcept
+    {
+        return limit(delkuthi_row_moment(&words_, row));
     }
 
     // How many wait in a row that is open.

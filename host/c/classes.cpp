@@ -33,7 +33,8 @@ bool closed()
 
     return refused && monitor.closed() && monitor.rows() == 0 && monitor.clock() == 0 && monitor.steps() == 0
         && monitor.broken_rows() == 0 && !monitor.verdict(0) && monitor.broken_at(0) == 0 && monitor.waiting(0) == 0
-        && !monitor.deadline(0) && !monitor.deadline() && !monitor.crowded_row(0, 1);
+        && !monitor.deadline(0) && !monitor.deadline() && !monitor.crowded_row(0, 1)
+        && monitor.cause(0) == delkuthi::cause::none && !monitor.moment(0);
 }
 
 // A Delay behind an Order, with 64 sources and no target.
@@ -77,6 +78,7 @@ bool reports()
     add(recording, 1, 20);
     bool well = is(memory, delkuthi::report(table, recording, memory), text);
     well = well && is(memory, monitor.report_on(table, recording, memory), text) && monitor.broken_at(0) == 2;
+    well = well && monitor.cause(0) == delkuthi::cause::overdue && monitor.moment(0) == 13u;
     well = well && stepped.fresh(table) && stepped.event(0, 10) && stepped.event(1, 20) && !stepped.report(memory);
     well = well && stepped.close() && is(memory, stepped.report(memory), text) && !stepped.report(none);
     well = well && !delkuthi::report(table, recording, none) && !monitor.report_on(table, recording, delkuthi::output(nullptr, 9));

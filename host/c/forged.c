@@ -109,6 +109,10 @@ static void every_call(const delkuthi_monitor *forged)
         (void)delkuthi_row_verdict(forged, rows[i]);
         begins("delkuthi_row_step");
         (void)delkuthi_row_step(forged, rows[i]);
+        begins("delkuthi_row_cause");
+        (void)delkuthi_row_cause(forged, rows[i]);
+        begins("delkuthi_row_moment");
+        (void)delkuthi_row_moment(forged, rows[i]);
         begins("delkuthi_row_deadline");
         (void)delkuthi_row_deadline(forged, rows[i]);
         begins("delkuthi_row_waiting");

@@ -34,6 +34,7 @@ int main()
     well = well && delkuthi_take(&bench.monitor, recording, 1) == DELKUTHI_TAKEN;
     well = well && delkuthi_row_verdict(&bench.monitor, 0) == DELKUTHI_BROKEN;
     well = well && delkuthi_row_step(&bench.monitor, 0) == 2;
+    well = well && delkuthi_row_cause(&bench.monitor, 0) == DELKUTHI_OVERDUE && delkuthi_row_moment(&bench.monitor, 0) == 5;
     well = well && delkuthi_clock(&bench.monitor) == 6 && delkuthi_steps(&bench.monitor) == 2;
     well = well && delkuthi_broken_rows(&bench.monitor) == 1 && delkuthi_closed(&bench.monitor) == 0;
     well = well && delkuthi_deadline(&bench.monitor) == DELKUTHI_NO_LIMIT && delkuthi_row_waiting(&bench.monitor, 0) == 0;

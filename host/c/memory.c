@@ -67,6 +67,9 @@ static void calls(delkuthi_monitor *monitor)
         (void)delkuthi_row_verdict(monitor, number() % 40);
         (void)delkuthi_row_verdict(monitor, number());
         (void)delkuthi_row_step(monitor, number() % 40);
+        if (delkuthi_row_cause(monitor, number() % 40) > DELKUTHI_AT_CLOSE)
+            exit(1);
+        (void)delkuthi_row_moment(monitor, number() % 40);
         (void)delkuthi_row_step(monitor, number());
         if (delkuthi_rows(monitor) > DELKUTHI_ROW_LIMIT)
             exit(1);

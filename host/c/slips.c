@@ -50,6 +50,8 @@ CALL(uint64_t, delkuthi_put_tick, (uint8_t *b, size_t l, size_t s, uint64_t t), 
 CALL(uint64_t, delkuthi_take, (changes m, bytes r, size_t n), (m, r, n))
 CALL(uint8_t, delkuthi_row_verdict, (reads m, uint64_t r), (m, r))
 CALL(uint64_t, delkuthi_row_step, (reads m, uint64_t r), (m, r))
+CALL(uint8_t, delkuthi_row_cause, (reads m, uint64_t r), (m, r))
+CALL(uint64_t, delkuthi_row_moment, (reads m, uint64_t r), (m, r))
 CALL(uint64_t, delkuthi_rows, (reads m), (m))
 CALL(uint64_t, delkuthi_clock, (reads m), (m))
 CALL(uint64_t, delkuthi_steps, (reads m), (m))

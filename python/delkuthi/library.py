@@ -92,6 +92,8 @@ CALLS: dict[str, tuple[Any, list[Any]]] = {
     "delkuthi_take": (_NUMBER, [_MONITOR, _MONITOR, _LENGTH]),
     "delkuthi_row_verdict": (_BYTE, [_MONITOR, _NUMBER]),
     "delkuthi_row_step": (_NUMBER, [_MONITOR, _NUMBER]),
+    "delkuthi_row_cause": (_BYTE, [_MONITOR, _NUMBER]),
+    "delkuthi_row_moment": (_NUMBER, [_MONITOR, _NUMBER]),
     "delkuthi_rows": (_NUMBER, [_MONITOR]),
     "delkuthi_clock": (_NUMBER, [_MONITOR]),
     "delkuthi_steps": (_NUMBER, [_MONITOR]),

@@ -11,6 +11,7 @@ from .signals import NO_COLOUR, parts, signal
 from .table import Table
 
 _WORDS = ("open", "kept", "broken")
+_CAUSES = ("", "overdue", "event", "close")
 #: What a number is given to a call as that 64 bits cannot hold: out of range as well.
 _LARGEST = 2**64 - 1
 
@@ -106,6 +107,11 @@ class Monitor:
     def step(self, row: int) -> int | None:
         """The step that broke a row, if one has."""
         return self._library.delkuthi_row_step(self._memory, _row(row)) or None
+
+    def cause(self, row: int) -> tuple[str, int] | None:
+        """Why a row broke, and when: ``("overdue", deadline)``, ``("event", time)`` or ``("close", clock)``; ``None`` if it is not broken."""
+        cause = self._library.delkuthi_row_cause(self._memory, _row(row))
+        return (_CAUSES[cause], int(self._library.delkuthi_row_moment(self._memory, _row(row)))) if cause else None
 
     def deadline(self) -> int | None:
         """The last time to which a tick breaks no row that is open; ``None`` if every tick does not, or the library has no

@@ -1,7 +1,7 @@
 -- A step of a row is what the clock and the close do to it, and then what an event does that concerns it: a row that is not concerned is changed
 -- by the first part alone, and one that is applies the event, as it has room and is broken or in time.
 use Rattle.in_place.proofs.Names.{RowUndo, Bool, StepInput, Row, Parameters, _<_, _∙_, _≡_, _⊎_, ap, undoOfEvent, appliedRow, arith, both}
-use Rattle.in_place.proofs.Names.{brokenRow}
+use Rattle.in_place.proofs.Names.{State, brokenRow}
 use Rattle.in_place.proofs.Names.{brokenState, concerns, cond, crowds, endedRow, endedSaves, endedState, endsBy, eq-eqb, eqb, eventRow}
 use Rattle.in_place.proofs.Names.{eventSaves}
 use Rattle.in_place.proofs.Names.{false, inl, inr, lt-ltb, ltb, ltb-false, ltb-true, movesBy, ne-eqb, refl, rowFrom, rowStep, parameters-stays}
@@ -19,9 +19,9 @@ broken-unsaved : (r : Row) (o : StepInput) (number : ℕ) (b : RowUndo) → ltb 
 unfolding savedBy movesBy
 broken-unsaved r o number b e = rw e
 
-is-broken : (r : Row) (number : ℕ) → 0 < number → ltb 0 (brokenRow r number .now .broken) ≡ true
+is-broken : (r : Row) (t : ℕ) (closes : Bool) (number : ℕ) → 0 < number → ltb 0 (brokenRow r t closes number .now .broken) ≡ true
 unfolding brokenRow
-is-broken r number h = lt-ltb 0 number h
+is-broken r t closes number h = lt-ltb 0 number h
 
 -- one that is not concerned moves where the clock or the close goes to it
 same-tests : (broken late closes : Bool) → cond broken false (cond late true (cond closes true false))
@@ -109,14 +109,18 @@ module _ (o : StepInput) (number : ℕ) where
       (λ _ e. refl) refl
 
   -- the row is broken by it, or left as it is
-  by-state : (r : Row) (a b : Bool) → rowFrom (r .parameters) (r .times) (cond a (brokenState number) (cond b (brokenState number) (r .now)))
-      ≡ brokenRow r number ⊎ rowFrom (r .parameters) (r .times) (cond a (brokenState number) (cond b (brokenState number) (r .now))) ≡ r
+  abbrev broken-state : Row → State
+  broken-state r = brokenState (r .now) (o .time) (o .closes) number
+
+  by-state : (r : Row) (a b : Bool) → rowFrom (r .parameters) (r .times) (cond a (broken-state r) (cond b (broken-state r) (r .now)))
+      ≡ brokenRow r (o .time) (o .closes) number
+      ⊎ rowFrom (r .parameters) (r .times) (cond a (broken-state r) (cond b (broken-state r) (r .now))) ≡ r
   unfolding brokenRow
   by-state r true b = inl refl
   by-state r false true = inl refl
   by-state r false false = inr refl
 
-  either-way : (r : Row) → ends r ≡ true → (moved r ≡ brokenRow r number) ⊎ (moved r ≡ r)
+  either-way : (r : Row) → ends r ≡ true → (moved r ≡ brokenRow r (o .time) (o .closes) number) ⊎ (moved r ≡ r)
   unfolding endedState
   either-way r e =
       ⊎-elim (λ broken. inl (step-ended r o number e ∙ broken)) (λ same. inr (step-ended r o number e ∙ same))
@@ -124,7 +128,9 @@ module _ (o : StepInput) (number : ℕ) where
 
   once : (r : Row) → 0 < number → ends r ≡ true → moved (moved r) ≡ moved r
   once r h e =
-      ⊎-elim (λ broken. ap moved broken ∙ broken-stays (brokenRow r number) o number (is-broken r number h) ∙ sym broken) (λ same. ap moved same)
+      ⊎-elim
+      (λ broken. ap moved broken ∙ broken-stays (brokenRow r (o .time) (o .closes) number) o number (is-broken r (o .time) (o .closes) number h)
+      ∙ sym broken) (λ same. ap moved same)
       (either-way r e)
 
   saves-twice : (r : Row) (b : RowUndo) → saves r (saves r b) ≡ saves r b
@@ -136,7 +142,7 @@ module _ (o : StepInput) (number : ℕ) where
   saves-once : (r : Row) (b : RowUndo) → 0 < number → ends r ≡ true → saves (moved r) (saves r b) ≡ saves r b
   saves-once r b h e =
       ⊎-elim (λ broken. ap (λ (x : Row). saves x (saves r b)) broken
-      ∙ broken-unsaved (brokenRow r number) o number (saves r b) (is-broken r number h))
+      ∙ broken-unsaved (brokenRow r (o .time) (o .closes) number) o number (saves r b) (is-broken r (o .time) (o .closes) number h))
       (λ same. ap (λ (x : Row). saves x (saves r b)) same ∙ saves-twice r b) (either-way r e)
 
   -- to do that part beforehand makes no difference
@@ -189,7 +195,7 @@ module _ (o : StepInput) (number : ℕ) where
   now-broken r h concerned e =
       subst (λ (x : Row). ltb 0 (x .now .broken) ≡ true)
       (sym (step-ended r o number e ∙ ap (λ (z : Bool). rowFrom (r .parameters) (r .times)
-      (cond z (brokenState number) (cond (eqb (r .now .kept) 0) (brokenState number) (r .now)))) (overdue r o concerned e)))
+      (cond z (broken-state r) (cond (eqb (r .now .kept) 0) (broken-state r) (r .now)))) (overdue r o concerned e)))
       (lt-ltb 0 number h)
 
   -- so too after that part

@@ -8,8 +8,10 @@ use Rattle.row.specs.Stored as Stored
 -- the numbers of row i that are read
 pub record RowLies (words : Words) (m : Monitor) (i : ℕ) : Type 0 where
   pub tag-is : getD (getD (getD words i []) 1 []) 0 0 ≡ rowAt m i .parameters .tag
+  pub head-is : getD (getD (getD words i []) 1 []) 15 0 ≡ rowAt m i .now .head
   pub kept-is : getD (getD (getD words i []) 1 []) 16 0 ≡ rowAt m i .now .len
   pub due-is : getD (getD (getD words i []) 1 []) 17 0 ≡ rowAt m i .now .due
+  pub mark-is : getD (getD (getD words i []) 1 []) 18 0 ≡ rowAt m i .now .kept
   pub broken-is : getD (getD (getD words i []) 1 []) 19 0 ≡ rowAt m i .now .broken
 
 module _ (words : Words) (m : Monitor) (holds : HoldsMonitor words m) where
@@ -51,7 +53,7 @@ module _ (words : Words) (m : Monitor) (holds : HoldsMonitor words m) where
 
     pub numbers-lie : RowLies words m i
     unfolding Stored.wordsOfRow rowWords numberWords
-    numbers-lie = record { tag-is = place 0; kept-is = place 16; due-is = place 17; broken-is = place 19 }
+    numbers-lie = record { tag-is = place 0; head-is = place 15; kept-is = place 16; due-is = place 17; mark-is = place 18; broken-is = place 19 }
       where
         place : (k : ℕ) → getD (getD (getD words i []) 1 []) k 0 ≡ getD (getD (Stored.wordsOfRow (rowAt m i) (keptAt m i)) 1 []) k 0
         place k = ap (λ (w : List (List ℕ)). getD (getD w 1 []) k 0) block-lies

@@ -8,6 +8,10 @@ use Rattle.queries.proofs.Names.{getElem?, inl, inr, lastTime, le-ltb, 
 use Rattle.queries.proofs.Names.{open-row, other-row, over, own, own-tick, past-of, past-tick, refl, ring-length, row, parametersOf, running}
 use Rattle.queries.proofs.Names.{some}
 use Rattle.queries.proofs.Names.{split, streams, subst, sym, tick, true, until, waiting, waitingBy, waitsIn, ℕ, ⊎-elim}
+use Rattle.constraint.proofs.Library.{eqb}
+use Rattle.queries.specs.Contract.{RowCause, broken-row, unbroken-row}
+use Rattle.queries.specs.Numbers.{causeIn, momentIn}
+use Rattle.row.specs.Cause.{Cause, at-close, by-event, overdue}
 
 -- of n times, all or none
 waits-are : (b : Bool) (waiting n : ℕ) → Waits b waiting n → waiting ≡ cond b n 0
@@ -51,7 +55,7 @@ module _ (c : Constraint) (exact : Exact c) (steps : List Step) (valid : Valid s
         (λ e. ends (inl e))
         (λ o. ⊎-elim
         (λ (g : Going c exact steps (r .times) (r .now)). rw (le-ltb 0 (r .now .broken) (omega (arith, g .unbroken))) (goes o g))
-        (λ (b : Broken c exact steps (r .now .broken)). rw (lt-ltb 0 (r .now .broken) (b .counted))
+        (λ (b : Broken c exact steps (r .now)). rw (lt-ltb 0 (r .now .broken) (b .counted))
         (ends (inr (broken-shut c (r .now .broken) valid (b .first)))))
         (f .state)))
 
@@ -81,9 +85,33 @@ module _ (c : Constraint) (exact : Exact c) (steps : List Step) (valid : Valid s
         rw (le-ltb 0 (r .now .broken) (omega (arith, g .unbroken)))
         (split (closed steps) (λ b. closed steps ≡ b → Open c steps) (λ _ e. open-of-meets c steps (g .met e))
         (λ _ o. open-now (r .times) (r .now) g o) refl))
-        (λ (b : Broken c exact steps (r .now .broken)). rw (lt-ltb 0 (r .now .broken) (b .counted))
+        (λ (b : Broken c exact steps (r .now)). rw (lt-ltb 0 (r .now .broken) (b .counted))
         (broken-shut c (r .now .broken) valid (b .first)))
         (f .state)
+
+-- ---- why a row broke
+
+-- the cause is one of three
+cause-known : {c : Constraint} {steps : List Step} {n cause moment : ℕ} → Cause c steps n cause moment
+    → cond (eqb cause 1) 1 (cond (eqb cause 2) 2 3) ≡ cause
+cause-known (overdue before s d at lower upper each) = refl
+cause-known (by-event before k t at own is) = refl
+cause-known (at-close before at) = refl
+
+-- §15.14, §15.15
+pub fits-cause : (c : Constraint) (exact : Exact c) (steps : List Step) → Valid steps → (r : Row) → Fits c exact steps r
+    → (rows : List Constraint) (i : ℕ) → getElem? rows i ≡ some c
+    → RowCause rows steps i (causeIn (r .now .broken) (r .now .head)) (momentIn (r .now .broken) (r .now .kept))
+fits-cause c exact steps valid r f rows i there =
+    ⊎-elim
+    (λ (g : Going c exact steps (r .times) (r .now)).
+    let none = le-ltb 0 (r .now .broken) (omega (arith, g .unbroken)) in
+    let shown : cond (ltb 0 (r .now .broken)) (¬ Open c steps) (Open c steps) = fits-broken c exact steps valid r f in
+    let is-open : Open c steps = rw none at shown in
+    rw none (unbroken-row c there is-open))
+    (λ (b : Broken c exact steps (r .now)).
+    rw (lt-ltb 0 (r .now .broken) (b .counted), cause-known (b .why)) (broken-row c (r .now .broken) there (b .first) (b .why)))
+    (f .state)
 
 -- ---- a deadline is one number
 

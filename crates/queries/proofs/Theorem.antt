@@ -8,7 +8,8 @@ use Rattle.queries.proofs.Names.{getD, getElem?, has-none, has-row, le-
 use Rattle.queries.proofs.Names.{noRow, none, refl, row, rowAt, rowLimit, some, split, subst, suc, sym, there, true, waitingBy, waitingOf}
 use Rattle.queries.proofs.Names.{zero}
 use Rattle.queries.proofs.Names.{ℕ}
-use Rattle.queries.proofs.Rows.{fits-broken, fits-deadline, fits-waiting, row-deadline-once}
+use Rattle.queries.specs.Numbers.{causeIn, causeOf, momentIn, momentOf}
+use Rattle.queries.proofs.Rows.{fits-broken, fits-cause, fits-deadline, fits-waiting, row-deadline-once}
 use Rattle.queries.proofs.{Crowded.crowded-says, RowPresent.bit-is, RowPresent.least-limit, RowPresent.marks-below}
 use Rattle.queries.specs.Contract as C
 
@@ -48,6 +49,13 @@ module _ (rows : List Constraint) (steps : List Step) (m : Monitor) (f : Follows
       (waitingBy (m .closed) (rowAt m i .now .broken) (rowAt m i .parameters .tag) (rowAt m i .now .len)) 0))
       (λ c small is sound fit. fits-waiting c (every-type-exact c sound) steps (f .valid) (rowAt m i) fit rows i is (m .closed) (f .closed-is))
       C.no-row
+
+  cause-says : (i : ℕ) → C.RowCause rows steps i (causeOf m i) (momentOf m i)
+  cause-says i =
+      by-row i (λ b. C.RowCause rows steps i (cond b (causeIn (rowAt m i .now .broken) (rowAt m i .now .head)) 0)
+      (cond b (momentIn (rowAt m i .now .broken) (rowAt m i .now .kept)) noLimit))
+      (λ c small is sound fit. fits-cause c (every-type-exact c sound) steps (f .valid) (rowAt m i) fit rows i is)
+      C.missing-row
 
   -- ---- the least deadline
 
@@ -151,6 +159,14 @@ module _ (m : Monitor) {answer : ℕ} where
   -- §15.5
   pub waiting-asked : (i : ℕ) → answer ≡ waitingOf m i → AsksWaiting m i answer
   waiting-asked i = asked m _ (λ rows steps. RowWaiting rows steps i) (λ rows steps f. waiting-says rows steps m f i)
+
+  -- §15.14
+  pub cause-asked : (i : ℕ) → answer ≡ causeOf m i → C.AsksCause m i answer
+  cause-asked i = asked m _ (λ rows steps cause. C.RowCause rows steps i cause (momentOf m i)) (λ rows steps f. cause-says rows steps m f i)
+
+  -- §15.15
+  pub moment-asked : (i : ℕ) → answer ≡ momentOf m i → C.AsksMoment m i answer
+  moment-asked i = asked m _ (λ rows steps moment. C.RowCause rows steps i (causeOf m i) moment) (λ rows steps f. cause-says rows steps m f i)
 
   -- §15.8
   pub row-deadline-asked : (i : ℕ) → answer ≡ deadlineOf m i → AsksRowDeadline m i answer

@@ -7,9 +7,9 @@ use mathlib.Core.Logic.{_⊎_}
 use mathlib.Core.Option.{none, some}
 use lib.ListN.{length, getElem?}
 use lib.Dec.{ltb}
-use Rattle.constraint.specs.Limits.{rowLimit, waitingLimit}
+use Rattle.constraint.specs.Limits.{noLimit, rowLimit, waitingLimit}
 use Rattle.constraint.specs.Steps.{Step, clock, closed}
-use Rattle.constraint.specs.Continuation.{Open}
+use Rattle.constraint.specs.Continuation.{BrokenAt, Open}
 use Rattle.constraint.specs.Waiting.{waiting}
 use Rattle.constraint.specs.Questions.{Judged}
 use Rattle.constraint.specs.Accepted.{Accepted}
@@ -18,10 +18,11 @@ use Rattle.queries.specs.Deadlines.{RowDeadline, LeastDeadline}
 use Rattle.constraint.specs.declared.Answer.the-variants.{Refused}
 use Rattle.constraint.specs.declared.Call.{Call}
 use Rattle.constraint.specs.Constraint.{Constraint}
+use Rattle.row.specs.Cause.{Cause}
 use Rattle.row.specs.Machine.{mark}
 use Rattle.monitor.specs.Contract.{after, Remains}
 use Rattle.monitor.specs.declared.Monitor.{Monitor}
-use Rattle.queries.specs.Numbers.{deadlineOf, leastOf, waitingOf, brokenRowsOf, crowdedRowOf}
+use Rattle.queries.specs.Numbers.{causeOf, momentOf, deadlineOf, leastOf, waitingOf, brokenRowsOf, crowdedRowOf}
 
 -- §15.4: bit i of a number
 unfoldable pub bit : ℕ → ℕ → ℕ
@@ -39,6 +40,13 @@ pub data RowWaiting (rows : List Constraint) (steps : List Step) (i : ℕ) : ℕ
   open-row : (c : Constraint) → getElem? rows i ≡ some c → closed steps ≡ false → Open c steps → RowWaiting rows steps i (waiting c steps)
   other-row : (c : Constraint) → getElem? rows i ≡ some c → (closed steps ≡ true) ⊎ (¬ Open c steps) → RowWaiting rows steps i 0
   no-row : getElem? rows i ≡ none → RowWaiting rows steps i 0
+
+-- §15.14, §15.15: the cause and the moment of a row that reads broken; none of any other, and where there is no such row
+pub data RowCause (rows : List Constraint) (steps : List Step) (i : ℕ) : ℕ → ℕ → Type 0 where
+  broken-row : (c : Constraint) (n : ℕ) {cause moment : ℕ} → getElem? rows i ≡ some c → BrokenAt c steps n → Cause c steps n cause moment
+      → RowCause rows steps i cause moment
+  unbroken-row : (c : Constraint) → getElem? rows i ≡ some c → Open c steps → RowCause rows steps i 0 noLimit
+  missing-row : getElem? rows i ≡ none → RowCause rows steps i 0 noLimit
 
 -- §15.11: the call would leave the row open with more than 64 waiting (§8.12)
 abbrev pub Crowds : List Step → Call → Constraint → Type 0
@@ -75,6 +83,13 @@ AsksBrokenRows m = QueryAnswer m (brokenRowsOf m) BrokenRows
 
 abbrev pub AsksWaiting : Monitor → ℕ → ℕ → Type 0
 AsksWaiting m i = QueryAnswer m (waitingOf m i) (λ rows steps. RowWaiting rows steps i)
+
+-- §15.16: the cause, with the moment that the other call answers; and the moment, with the cause
+abbrev pub AsksCause : Monitor → ℕ → ℕ → Type 0
+AsksCause m i = QueryAnswer m (causeOf m i) (λ rows steps cause. RowCause rows steps i cause (momentOf m i))
+
+abbrev pub AsksMoment : Monitor → ℕ → ℕ → Type 0
+AsksMoment m i = QueryAnswer m (momentOf m i) (λ rows steps moment. RowCause rows steps i (causeOf m i) moment)
 
 abbrev pub AsksRowDeadline : Monitor → ℕ → ℕ → Type 0
 AsksRowDeadline m i = QueryAnswer m (deadlineOf m i) (λ rows steps. RowDeadline rows steps i)

@@ -2,7 +2,7 @@
 use Prim.Native.Nat.{ℕ, zero, suc, _+_, _*_, min}
 use mathlib.Core.Bool.{Bool, cond, _&&_}
 use mathlib.Core.List.{List, [], _∷_}
-use lib.Dec.{ltb}
+use lib.Dec.{ltb, eqb}
 use Rattle.constraint.specs.Limits.{lastTime, noLimit, rowLimit}
 use Rattle.constraint.specs.declared.Call.{Call}
 use Rattle.row_type.specs.Parameters.{waitsIn}
@@ -29,6 +29,21 @@ deadlineOf m i = cond (there i (m .len)) (deadlineBy (m .closed) (rowAt m i .now
 unfoldable pub leastOf : Monitor → ℕ → ℕ
 leastOf m zero = noLimit
 leastOf m (suc n) = min (leastOf m n) (deadlineOf m n)
+
+-- ---- why a row broke
+
+-- by the step that broke it and the two words that a broken row has for it: the cause, of which there are three, and the moment
+abbrev pub causeIn : ℕ → ℕ → ℕ
+causeIn broken cause = cond (ltb 0 broken) (cond (eqb cause 1) 1 (cond (eqb cause 2) 2 3)) 0
+
+abbrev pub momentIn : ℕ → ℕ → ℕ
+momentIn broken moment = cond (ltb 0 broken) moment noLimit
+
+abbrev pub causeOf : Monitor → ℕ → ℕ
+causeOf m i = cond (there i (m .len)) (causeIn (rowAt m i .now .broken) (rowAt m i .now .head)) 0
+
+abbrev pub momentOf : Monitor → ℕ → ℕ
+momentOf m i = cond (there i (m .len)) (momentIn (rowAt m i .now .broken) (rowAt m i .now .kept)) noLimit
 
 -- ---- what waits
 

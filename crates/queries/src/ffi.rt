@@ -1,5 +1,7 @@
 // What a host can ask of a lent monitor. These calls only read its words.
+use crate::cause_by;
 use crate::deadline_by;
+use crate::moment_by;
 use crate::waiting_by;
 use constraint::NO_LIMIT;
 use in_place::CLOCK;
@@ -15,6 +17,8 @@ use row::stored::step_overflows;
 use row_type::parts::smaller;
 use row_type::row_words::BROKEN;
 use row_type::row_words::DUE;
+use row_type::row_words::HEAD;
+use row_type::row_words::KEPT;
 use row_type::row_words::LEN;
 use row_type::row_words::TYPE_TAG;
 ghost use Prim.Native.Nat.{_<_, _≤_};
@@ -28,7 +32,7 @@ ghost use Rattle.in_place.specs.Layout.{rowAt};
 ghost use Rattle.in_place.specs.Contract.{HoldsMonitor, ReadOff};
 ghost use Rattle.queries.specs.Numbers.{deadlineBy, firstMarked};
 ghost use Rattle.queries.specs.Contract.{AsksClock, AsksSteps, AsksClosed, AsksBrokenRows, AsksWaiting};
-ghost use Rattle.queries.specs.Contract.{AsksRowDeadline, AsksDeadline, AsksCrowdedRow};
+ghost use Rattle.queries.specs.Contract.{AsksRowDeadline, AsksDeadline, AsksCrowdedRow, AsksCause, AsksMoment};
 
 // §15.1
 // Returns the clock.
@@ -104,6 +108,34 @@ pub extern "C" fn delkuthi_row_waiting(m: &Words, row: u64) -> u64
     }
     let i = row as usize;
     waiting_by(closed(m), m[i][1][BROKEN], m[i][1][TYPE_TAG], m[i][1][LEN])
+}
+
+// §15.14
+// Returns why a row broke: 1 it was overdue, 2 an event broke it, 3 the close did. Returns 0 if it is not broken. It returns at most 3, whatever the
+// monitor's memory holds.
+#[no_mangle]
+pub extern "C" fn delkuthi_row_cause(m: &Words, row: u64) -> u8
+    ensures { λ r. ⌜ ((r ≤ 3) × ReadOff (now (m .entry)) (λ monitor. AsksCause monitor row) r) ⌝ }
+{
+    if held(m) as u64 <= row {
+        return 0;
+    }
+    let i = row as usize;
+    cause_by(m[i][1][BROKEN], m[i][1][HEAD])
+}
+
+// §15.15
+// Returns the moment at which a row broke: the deadline that passed, or the time of the event or of the close. Returns the largest number if it is
+// not broken.
+#[no_mangle]
+pub extern "C" fn delkuthi_row_moment(m: &Words, row: u64) -> u64
+    ensures { λ r. ⌜ ReadOff (now (m .entry)) (λ monitor. AsksMoment monitor row) r ⌝ }
+{
+    if held(m) as u64 <= row {
+        return NO_LIMIT;
+    }
+    let i = row as usize;
+    moment_by(m[i][1][BROKEN], m[i][1][KEPT])
 }
 
 // Returns 1 if a row is broken, else 0.

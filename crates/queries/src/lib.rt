@@ -3,9 +3,10 @@ pub mod ffi;
 
 use constraint::NO_LIMIT;
 use monitor::Monitor;
+ghost use Prim.Native.Nat.{_≤_};
 ghost use mathlib.Core.Path.{_≡_};
 ghost use Rattle.row_type.specs.Parameters.{waitsIn};
-ghost use Rattle.queries.specs.Numbers.{deadlineBy, waitingBy};
+ghost use Rattle.queries.specs.Numbers.{deadlineBy, waitingBy, causeIn, momentIn};
 
 // §15.6, §15.7
 // Returns the deadline of a row, given the mark of the close, the step that broke the row and its due time.
@@ -20,6 +21,35 @@ pub fn deadline_by(closed: u64, broken: u64, due: u64) -> u64
     }
     if due < Monitor::LAST_TIME {
         return due;
+    }
+    NO_LIMIT
+}
+
+// §15.14
+// Returns the cause of a break, given the step that broke the row and the word that a broken row has for the cause. It is one of three, whatever the
+// word is; 0 if the row is not broken.
+pub fn cause_by(broken: u64, cause: u64) -> u8
+    ensures { λ r. ⌜ ((r ≤ 3) × (r ≡ causeIn broken cause)) ⌝ }
+{
+    if broken == 0 {
+        return 0;
+    }
+    if cause == 1 {
+        return 1;
+    }
+    if cause == 2 {
+        return 2;
+    }
+    3
+}
+
+// §15.15
+// Returns the moment of a break, given the step that broke the row and the word that a broken row has for the moment.
+pub fn moment_by(broken: u64, moment: u64) -> u64
+    ensures { λ r. ⌜ r ≡ momentIn broken moment ⌝ }
+{
+    if 0 < broken {
+        return moment;
     }
     NO_LIMIT
 }

@@ -8,19 +8,25 @@ use Rattle.row.proofs.Names.{mark, movesBy, ne-eqb, undoRecordOf, refl,
 use Rattle.row.proofs.Names.{stepPlace}
 use Rattle.row.proofs.Names.{steppedRow, true, withChange, wordsOfRow, writesAt, ℕ}
 use Rattle.row.proofs.UndoComplete.{KeepsWhole, event-keeps-all}
+use Rattle.row.specs.Stored.{notedRow}
+use Rattle.row_type.specs.Words.{brokenAt}
 
 module _ (r : Row) (b : RowUndo) (change : Change) (number : ℕ) where
   abbrev at : ℕ
   at = editPlace (change .edit) (ringOf (r .times) (r .now .head) (r .now .len))
 
+  -- the row that a change breaks, before the cause is noted
+  abbrev pub plain : Row
+  plain = rowFrom (r .parameters) (r .times) (brokenAt number)
+
   pub changed-words : r .now .broken ≡ 0
       → changedWords (savedRegisters (r .parameters .tag)) (r .parameters) (r .times) (r .now) (undoRecordOf b) change number
-      ≡ wordsOfRow (withChange r change number) (cond (change .breaks) (savedAt r at number) (keptAtPlace r b at number))
-  unfolding changedWords withChange wordsOfRow brokenRow applied
+      ≡ wordsOfRow (cond (change .breaks) plain (applied r change)) (cond (change .breaks) (savedAt r at number) (keptAtPlace r b at number))
+  unfolding changedWords wordsOfRow applied
   changed-words is-open =
       split (change .breaks)
-      (λ x. cond x (wordsOfRow (brokenRow r number) (savedAt r at number)) (goes (r .now .broken))
-      ≡ wordsOfRow (cond x (brokenRow r number) (applied r change)) (cond x (savedAt r at number) (keptAtPlace r b at number)))
+      (λ x. cond x (wordsOfRow plain (savedAt r at number)) (goes (r .now .broken))
+      ≡ wordsOfRow (cond x plain (applied r change)) (cond x (savedAt r at number) (keptAtPlace r b at number)))
       (λ _. refl) (λ _. ap goes is-open)
     where
       -- the words of the row that goes on
@@ -30,6 +36,15 @@ module _ (r : Row) (b : RowUndo) (change : Change) (number : ℕ) where
           rowWords (r .parameters) (q .times)
           (record { registers = change .registers; head = q .head; len = q .len; due = change .due; kept = mark (change .kept); broken = broken })
           (undoRecordOf (keptAtPlace r b at number))
+
+  -- the cause that is noted then makes it the row with the change
+  pub noted-change : (t : ℕ)
+      → notedRow (cond (change .breaks) plain (applied r change)) (r .now .due) t false ≡ withChange r change t number
+  unfolding withChange brokenRow applied
+  noted-change t =
+      split (change .breaks)
+      (λ x. notedRow (cond x plain (applied r change)) (r .now .due) t false ≡ cond x (brokenRow r t false number) (applied r change))
+      (λ _. refl) (λ _. refl)
 
 -- ---- what occurs
 
@@ -68,7 +83,7 @@ module _ (r : Row) (o : StepInput) (number : ℕ) (b : RowUndo) where
   unfolding endsBy endedState brokenRow steppedRow
   stepped-ended =
       ended-row (ltb 0 (r .now .broken)) (ltb (r .now .due) (o .time)) (concerns (r .parameters) (o .kind)) (o .closes) (eqb (r .now .kept) 0)
-      (appliedRow r o number) (brokenState number) (r .now)
+      (appliedRow r o number) (brokenState (r .now) (o .time) (o .closes) number) (r .now)
 
   saved-ended : cond (ltb (r .now .due) (o .time)) false (concerns (r .parameters) (o .kind)) ≡ false → endedSaves o number r b ≡ savedBy o number r b
   unfolding endsBy savedBy movesBy stepPlace

@@ -25,8 +25,9 @@ pub use Rattle.ring.specs.Ring.{Ring, changed, dropRing, editPlace, edited, ite
 pub use Rattle.ring.specs.declared.Edit.{Edit}
 pub use Rattle.ring.specs.declared.Edit.the-variants.{Drop, Push, PushTwo, Store}
 pub use Rattle.row.specs.StepParts.{undoOfEvent, appliedRow, appliesBy, changeBy, overflows, writesAt}
+pub use Rattle.row.specs.Machine.{causeBy}
 pub use Rattle.row.specs.Machine.{brokenState, closeAt, concerns, crowding, decide, eventAt, itemsOf, machineOf, machines, mark, noEvent}
-pub use Rattle.row.specs.Machine.{rowFrom, stays, tickAt}
+pub use Rattle.row.specs.Machine.{momentBy, rowFrom, stays, tickAt}
 pub use Rattle.row.specs.Stored.{Changes, RestZero, Unused, endedRow, endedSaves, eventKeeps, eventRow, eventSaves, slotsUsedBy, keptAtPlace}
 pub use Rattle.row.specs.Stored.{savedRegisters, larger, nothing, undoRecordOf, hintAfterRow, stateAt}
 pub use Rattle.row.specs.Undo.{rowUndoOf, noRowUndo, noState, savedAt, savedRow}

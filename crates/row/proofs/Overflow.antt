@@ -18,26 +18,26 @@ crowds o r =
     (cond (concerns (r .parameters) (o .kind)) (cond (ltb waitingLimit (r .now .len)) true (kind-overflows (changeBy r o) (itemsOf r))) false))
 
 -- it is crowded and stays as it is, or it takes the step
-by-tests : (broken late own full breaks more unkept : Bool) (r x y : Row)
+by-tests : (broken late own full breaks more unkept : Bool) (r x e y : Row)
     → cond broken (stays r) (cond late (stays x)
-    (cond own (cond full (crowding r) (cond breaks (stays x) (cond more (crowding r) (stays y)))) (cond unkept (stays x) (stays r))))
+    (cond own (cond full (crowding r) (cond breaks (stays e) (cond more (crowding r) (stays y)))) (cond unkept (stays x) (stays r))))
     ≡ cond (cond broken false (cond late false (cond own (cond full true (cond breaks false more)) false))) (crowding r)
-    (stays (cond broken r (cond late x (cond own (cond breaks x y) (cond unkept x r)))))
-by-tests true late own full breaks more unkept r x y = refl
-by-tests false true own full breaks more unkept r x y = refl
-by-tests false false true true breaks more unkept r x y = refl
-by-tests false false true false true more unkept r x y = refl
-by-tests false false true false false true unkept r x y = refl
-by-tests false false true false false false unkept r x y = refl
-by-tests false false false full breaks more true r x y = refl
-by-tests false false false full breaks more false r x y = refl
+    (stays (cond broken r (cond late x (cond own (cond breaks e y) (cond unkept x r)))))
+by-tests true late own full breaks more unkept r x e y = refl
+by-tests false true own full breaks more unkept r x e y = refl
+by-tests false false true true breaks more unkept r x e y = refl
+by-tests false false true false true more unkept r x e y = refl
+by-tests false false true false false true unkept r x e y = refl
+by-tests false false true false false false unkept r x e y = refl
+by-tests false false false full breaks more true r x e y = refl
+by-tests false false false full breaks more false r x e y = refl
 
 step-either : (r : Row) (o : StepInput) (number : ℕ) → rowStep r o number ≡ cond (crowds o r) (crowding r) (stays (steppedRow o number r))
 unfolding rowStep changedRow steppedRow withChange
 step-either r o number =
     by-tests (ltb 0 (r .now .broken)) (ltb (r .now .due) (o .time)) (concerns (r .parameters) (o .kind)) (ltb waitingLimit (r .now .len))
     (changeBy r o .breaks) (ltb waitingLimit (length (changed (changeBy r o .edit) (itemsOf r)))) (o .closes && eqb (r .now .kept) 0) r
-    (brokenRow r number) (applied r (changeBy r o))
+    (brokenRow r (o .time) (o .closes) number) (brokenRow r (o .time) false number) (applied r (changeBy r o))
 
 pub step-crowds : (r : Row) (o : StepInput) (number : ℕ) → rowStep r o number .crowded ≡ crowds o r
 step-crowds r o number = ap (λ (s : RowStep). s .crowded) (step-either r o number) ∙ by-crowds (crowds o r) r (steppedRow o number r)

@@ -52,23 +52,23 @@ module _ (r : Row) (o : StepInput) (number : ℕ) where
   abbrev was : ℕ
   was = taken (r .parameters) (r .now)
 
-  emptied : taken (r .parameters) (brokenRow r number .now) ≤ was
+  emptied : taken (r .parameters) (brokenRow r (o .time) (o .closes) number .now) ≤ was
   unfolding brokenRow
   emptied = taken-rises (r .parameters .tag) (r .parameters .span) 0 (r .now .len) (omega arith)
 
   abbrev ends : RowStep
-  ends = cond (o .closes && eqb (r .now .kept) 0) (stays (brokenRow r number)) (stays r)
+  ends = cond (o .closes && eqb (r .now .kept) 0) (stays (brokenRow r (o .time) (o .closes) number)) (stays r)
 
   ends-taken : taken (r .parameters) (ends .row .now) ≤ was
-  ends-taken = at-most was (o .closes && eqb (r .now .kept) 0) (stays (brokenRow r number)) (stays r) emptied (omega arith)
+  ends-taken = at-most was (o .closes && eqb (r .now .kept) 0) (stays (brokenRow r (o .time) (o .closes) number)) (stays r) emptied (omega arith)
 
   by-step : (limit : ℕ) (own : RowStep) → was ≤ limit → taken (r .parameters) (own .row .now) ≤ limit
       → taken (r .parameters) (cond {A = RowStep} (ltb 0 (r .now .broken)) (stays r)
-      (cond (ltb (r .now .due) (o .time)) (stays (brokenRow r number)) own)
+      (cond (ltb (r .now .due) (o .time)) (stays (brokenRow r (o .time) (o .closes) number)) own)
       .row .now) ≤ limit
   by-step limit own l k =
-      at-most limit (ltb 0 (r .now .broken)) (stays r) (cond (ltb (r .now .due) (o .time)) (stays (brokenRow r number)) own) l
-      (at-most limit (ltb (r .now .due) (o .time)) (stays (brokenRow r number)) own (omega (arith, emptied, l)) k)
+      at-most limit (ltb 0 (r .now .broken)) (stays r) (cond (ltb (r .now .due) (o .time)) (stays (brokenRow r (o .time) (o .closes) number)) own) l
+      (at-most limit (ltb (r .now .due) (o .time)) (stays (brokenRow r (o .time) (o .closes) number)) own (omega (arith, emptied, l)) k)
 
   -- one that does not concern the row takes none
   pub quiet-taken : concerns (r .parameters) (o .kind) ≡ false → taken (r .parameters) (rowStep r o number .row .now) ≤ was

@@ -48,7 +48,7 @@ module _ (r : Row) (o : StepInput) (number : ℕ) where
   unfolding endsBy endedState rowStep brokenRow
   step-ended e =
       by-tests (ltb 0 (r .now .broken)) (ltb (r .now .due) (o .time)) (o .closes) (concerns (r .parameters) (o .kind)) (eqb (r .now .kept) 0)
-      (changedRow r (changeBy r o) number) (brokenState number) (r .now) e
+      (changedRow r (changeBy r o) (o .time) number) (brokenState (r .now) (o .time) (o .closes) number) (r .now) e
 
   by-saves : (broken late closes own : Bool) (place : ℕ) (b : RowUndo)
       → cond broken false (cond late true (cond closes (cond own false true) false)) ≡ true
@@ -73,9 +73,9 @@ same-parameters : (parameters : Parameters) (b : Bool) (x y : RowStep) → x .ro
 same-parameters parameters true x y p q = p
 same-parameters parameters false x y p q = q
 
-changed-parameters : (r : Row) (change : Change) (number : ℕ) → changedRow r change number .row .parameters ≡ r .parameters
+changed-parameters : (r : Row) (change : Change) (t number : ℕ) → changedRow r change t number .row .parameters ≡ r .parameters
 unfolding changedRow brokenRow applied
-changed-parameters r change number =
+changed-parameters r change t number =
     same-parameters (r .parameters) (ltb waitingLimit (r .now .len)) _ _ refl
     (same-parameters (r .parameters) (change .breaks) _ _ refl
     (same-parameters (r .parameters) (ltb waitingLimit (length (changed (change .edit) (itemsOf r)))) _ _ refl refl))
@@ -85,7 +85,7 @@ unfolding rowStep brokenRow
 parameters-stays r o number =
     same-parameters (r .parameters) (ltb 0 (r .now .broken)) _ _ refl
     (same-parameters (r .parameters) (ltb (r .now .due) (o .time)) _ _ refl
-    (same-parameters (r .parameters) (concerns (r .parameters) (o .kind)) _ _ (changed-parameters r (changeBy r o) number)
+    (same-parameters (r .parameters) (concerns (r .parameters) (o .kind)) _ _ (changed-parameters r (changeBy r o) (o .time) number)
     (same-parameters (r .parameters) (o .closes && eqb (r .now .kept) 0) _ _ refl refl)))
 
 -- ---- what is kept of a row is what it was, now or before; and so is what it keeps without a step
@@ -132,24 +132,25 @@ few-by : (b : Bool) (x y : RowStep) → x .row .now .len ≤ 64 → y .row .now 
 few-by true x y p q = p
 few-by false x y p q = q
 
-changed-few : (r : Row) (change : Change) (number : ℕ) → Roomy (r .now) → Roomy (changedRow r change number .row .now)
+changed-few : (r : Row) (change : Change) (t number : ℕ) → Roomy (r .now) → Roomy (changedRow r change t number .row .now)
 unfolding changedRow brokenRow applied
-changed-few r change number few =
+changed-few r change t number few =
     let more : Bool = ltb waitingLimit (length (changed (change .edit) (itemsOf r))) in
     let goes : RowStep = cond more (crowding r) (stays (applied r change)) in
-    few-by (ltb waitingLimit (r .now .len)) (crowding r) (cond (change .breaks) (stays (brokenRow r number)) goes) few
-    (few-by (change .breaks) (stays (brokenRow r number)) goes (omega arith)
+    few-by (ltb waitingLimit (r .now .len)) (crowding r) (cond (change .breaks) (stays (brokenRow r t false number)) goes) few
+    (few-by (change .breaks) (stays (brokenRow r t false number)) goes (omega arith)
     (few-by more (crowding r) (stays (applied r change)) few (edited-few (change .edit) (ringOf (r .times) (r .now .head) (r .now .len)) few)))
 
 pub step-few : (r : Row) (o : StepInput) (number : ℕ) → Roomy (r .now) → Roomy (rowStep r o number .row .now)
 unfolding rowStep brokenRow
 step-few r o number few =
-    let ends : RowStep = cond (o .closes && eqb (r .now .kept) 0) (stays (brokenRow r number)) (stays r) in
-    let own : RowStep = cond (concerns (r .parameters) (o .kind)) (changedRow r (changeBy r o) number) ends in
-    few-by (ltb 0 (r .now .broken)) (stays r) (cond (ltb (r .now .due) (o .time)) (stays (brokenRow r number)) own) few
-    (few-by (ltb (r .now .due) (o .time)) (stays (brokenRow r number)) own (omega arith)
-    (few-by (concerns (r .parameters) (o .kind)) (changedRow r (changeBy r o) number) ends (changed-few r (changeBy r o) number few)
-    (few-by (o .closes && eqb (r .now .kept) 0) (stays (brokenRow r number)) (stays r) (omega arith) few)))
+    let ends : RowStep = cond (o .closes && eqb (r .now .kept) 0) (stays (brokenRow r (o .time) (o .closes) number)) (stays r) in
+    let own : RowStep = cond (concerns (r .parameters) (o .kind)) (changedRow r (changeBy r o) (o .time) number) ends in
+    few-by (ltb 0 (r .now .broken)) (stays r) (cond (ltb (r .now .due) (o .time)) (stays (brokenRow r (o .time) (o .closes) number)) own) few
+    (few-by (ltb (r .now .due) (o .time)) (stays (brokenRow r (o .time) (o .closes) number)) own (omega arith)
+    (few-by (concerns (r .parameters) (o .kind)) (changedRow r (changeBy r o) (o .time) number) ends
+    (changed-few r (changeBy r o) (o .time) number few)
+    (few-by (o .closes && eqb (r .now .kept) 0) (stays (brokenRow r (o .time) (o .closes) number)) (stays r) (omega arith) few)))
 
 pub saved-few : (r : Row) (o : StepInput) (number : ℕ) (b : RowUndo) → Roomy (r .now) → Roomy (b .state) → Roomy (savedBy o number r b .state)
 saved-few r o number b few kept = saved-state Roomy r o number b few kept

@@ -12,7 +12,11 @@ use Rattle.row.proofs.Names.{streamCount, streams, subst, sym, tick, ti
 use Rattle.row.proofs.Names.{words-few, ℕ, ⊎-elim}
 use Rattle.row.proofs.Names.{constantsOf, length-append, length-replicate, length-take-le, replicate, startRing, startWordCount, startWords}
 use Rattle.row.proofs.Exact.{ByOutcome, Exact, GoesOn, Sound, Waits}
-use Rattle.row.proofs.OwnKinds.{among-own, concerns-none, concerns-own}
+use Rattle.row.proofs.OwnKinds.{among-own, concerns-none, concerns-own, concerns-stream}
+use Rattle.row.proofs.Names.{causeBy, kindOf, kinds, momentBy}
+use Rattle.constraint.proofs.{History.past-tick, Library.append-assoc, Library.by-cases}
+use Rattle.constraint.proofs.Library.{decLt}
+use Rattle.row.specs.Cause.{Cause, StepAt, at-close, by-event, overdue}
 
 -- ---- what holds between the steps and a row
 
@@ -28,14 +32,15 @@ module _ (c : Constraint) (exact : Exact c) where
     pub met : closed steps ≡ true → Meets c steps
 
   -- a broken row
-  pub record Broken (steps : List Step) (broken : ℕ) : Type 0 where
-    pub counted : 0 < broken
-    pub first : BrokenAt c steps broken
+  pub record Broken (steps : List Step) (now : State) : Type 0 where
+    pub counted : 0 < now .broken
+    pub first : BrokenAt c steps (now .broken)
+    pub why : Cause c steps (now .broken) (now .head) (now .kept)
 
   pub record Fits (steps : List Step) (r : Row) : Type 0 where
     pub parameters-is : r .parameters ≡ parametersOf c
     pub whole : length (r .times) ≡ 64
-    pub state : Going steps (r .times) (r .now) ⊎ Broken steps (r .now .broken)
+    pub state : Going steps (r .times) (r .now) ⊎ Broken steps (r .now)
 
 -- what a step makes of a row: crowded, it would be open with more than 64 waiting; else it fits the steps with the step
 abbrev pub After : (c : Constraint) → Exact c → List Step → Bool → Row → Type 0
@@ -91,6 +96,15 @@ fits-start c exact =
     from-start : ring (startRing c) 0 (startWordCount (parametersOf c)) ≡ startWords c
     from-start = let few = words-few (parametersOf c) in ring-take (startRing c) (startWordCount (parametersOf c)) few (omega (arith, few, whole))
 
+-- a step keeps its number and what is before it
+at-later : {steps : List Step} (s : Step) (n : ℕ) (before : List Step) (x : Step) → StepAt steps n before x → StepAt (steps ++ (s ∷ [])) n before x
+at-later s n before x at =
+    record {
+      rest = at .rest ++ (s ∷ []);
+      splits = ap (λ (l : List Step). l ++ (s ∷ [])) (at .splits) ∙ append-assoc before (x ∷ at .rest) (s ∷ []);
+      numbered = at .numbered;
+    }
+
 module _ (c : Constraint) (exact : Exact c) (steps : List Step) (valid : Valid steps) where
   past : Past steps
   past = past-of valid
@@ -102,7 +116,7 @@ module _ (c : Constraint) (exact : Exact c) (steps : List Step) (valid : Valid s
   by-state : (P : Row → Type 0) (r : Row) → Fits c exact steps r
       → ((words : List ℕ) (s : State) → length words ≡ 64 → ltb 0 (s .broken) ≡ false → Going c exact steps words s
       → P (rowFrom (parametersOf c) words s))
-      → (ltb 0 (r .now .broken) ≡ true → Broken c exact steps (r .now .broken) → P r) → P r
+      → (ltb 0 (r .now .broken) ≡ true → Broken c exact steps (r .now) → P r) → P r
   by-state P r f going broken =
       ⊎-elim
       (λ (g : Going c exact steps (r .times) (r .now)).
@@ -129,21 +143,67 @@ module _ (c : Constraint) (exact : Exact c) (steps : List Step) (valid : Valid s
 
   -- ---- Steps that break a row
 
+  -- a tick to a time past the due time
+  tick-late : (words : List ℕ) (was : State) (t : ℕ) → Going c exact steps words was → was .due < t → t ≤ lastTime → ¬ Open c (steps ++ (tick t ∷ []))
+  tick-late words was t g later small = exact .late past (g .live) (subst (λ (n : ℕ). n < t) (g .due-is) later) small
+
   -- the row that the machine makes of one that breaks
-  broken-fits : (s : Step) (words : List ℕ) (was : State) → length words ≡ 64 → Open c steps → ¬ Open c (steps ++ (s ∷ []))
-      → Fits c exact (steps ++ (s ∷ [])) (brokenRow (rowFrom (parametersOf c) words was) (length steps + 1))
+  broken-fits : (s : Step) (words : List ℕ) (was : State) (t : ℕ) (closes : Bool) → length words ≡ 64 → Open c steps → ¬ Open c (steps ++ (s ∷ []))
+      → Cause c (steps ++ (s ∷ [])) (length steps + 1) (causeBy (was .due) t closes) (momentBy (was .due) t)
+      → Fits c exact (steps ++ (s ∷ [])) (brokenRow (rowFrom (parametersOf c) words was) t closes (length steps + 1))
   unfolding brokenRow
-  broken-fits s words was whole o shut =
-      record { parameters-is = refl; whole = whole; state = inr (record { counted = omega arith; first = broken-now c steps s valid o shut }) }
+  broken-fits s words was t closes whole o shut why =
+      record {
+        parameters-is = refl;
+        whole = whole;
+        state = inr (record {
+          counted = omega arith;
+          first = broken-now c steps s valid o shut;
+          why = rw (lt-ltb 0 (length steps + 1) (omega arith)) why;
+        });
+      }
+
+  -- this step is the last
+  here : (s : Step) → StepAt (steps ++ (s ∷ [])) (length steps + 1) steps s
+  here s = record { rest = []; splits = refl; numbered = refl }
+
+  -- a row that goes on is open after a tick exactly until its due time
+  open-tick : (words : List ℕ) (was : State) → Going c exact steps words was → closed steps ≡ false → (t : ℕ) → clock steps < t → t ≤ lastTime
+      → t ≤ was .due → Open c (steps ++ (tick t ∷ []))
+  open-tick words was g o t later small soon =
+      exact .is-open (past-tick t steps past small later) (closed-tick t steps ∙ o) (exact .same (sym (own-tick (streams c) t steps)) (g .live))
+      (rw (clock-tick t steps) (subst (λ (n : ℕ). t ≤ n) (g .due-is) soon))
+
+  -- the row is overdue at a step that moves the clock past its due time
+  late-why : (s : Step) (words : List ℕ) (was : State) (t : ℕ) (closes : Bool) → Going c exact steps words was → closed steps ≡ false → t ≤ lastTime
+      → clock (steps ++ (s ∷ [])) ≡ t → was .due < t
+      → Cause c (steps ++ (s ∷ [])) (length steps + 1) (causeBy (was .due) t closes) (momentBy (was .due) t)
+  late-why s words was t closes g o small is later =
+      rw (lt-ltb (was .due) t later)
+      (overdue steps s (was .due) (here s) (g .in-time) (subst (λ (n : ℕ). was .due < n) (sym is) later) (λ time after small-too. (
+        λ is-open.
+            by-cases (decLt (was .due) time) (λ passed. absurd (tick-late words was time g passed small-too is-open)) (λ soon. omega (arith, soon)),
+        open-tick words was g o time after small-too,
+      )))
+
+  -- a later step does not change why
+  why-later : (s : Step) (n cause moment : ℕ) → Cause c steps n cause moment → Cause c (steps ++ (s ∷ [])) n cause moment
+  why-later s n cause moment (overdue before x d at lower upper each) = overdue before x d (at-later s n before x at) lower upper each
+  why-later s n cause moment (by-event before k t at own is) = by-event before k t (at-later s n before (event k t) at) own is
+  why-later s n cause moment (at-close before at) = at-close before (at-later s n before close at)
 
   -- one that is broken stays so
-  broken-stays : (s : Step) (r : Row) → r .parameters ≡ parametersOf c → length (r .times) ≡ 64 → Broken c exact steps (r .now .broken)
+  broken-stays : (s : Step) (r : Row) → r .parameters ≡ parametersOf c → length (r .times) ≡ 64 → Broken c exact steps (r .now)
       → Fits c exact (steps ++ (s ∷ [])) r
   broken-stays s r parameters whole b =
       record {
         parameters-is = parameters;
         whole = whole;
-        state = inr (record { counted = b .counted; first = broken-later c steps s (r .now .broken) (b .first) });
+        state = inr (record {
+          counted = b .counted;
+          first = broken-later c steps s (r .now .broken) (b .first);
+          why = why-later s (r .now .broken) (r .now .head) (r .now .kept) (b .why);
+        });
       }
 
   -- a step that records nothing of the row's streams, at a clock that is not past the due time
@@ -166,10 +226,6 @@ module _ (c : Constraint) (exact : Exact c) (steps : List Step) (valid : Valid s
         });
       }
 
-  -- a tick to a time past the due time
-  tick-late : (words : List ℕ) (was : State) (t : ℕ) → Going c exact steps words was → was .due < t → t ≤ lastTime → ¬ Open c (steps ++ (tick t ∷ []))
-  tick-late words was t g later small = exact .late past (g .live) (subst (λ (n : ℕ). n < t) (g .due-is) later) small
-
   -- ---- Events
 
   module _ (k t : ℕ) (accepts : Accepts steps (event k t)) where
@@ -181,11 +237,19 @@ module _ (c : Constraint) (exact : Exact c) (steps : List Step) (valid : Valid s
       row-was = rowFrom (parametersOf c) words was
 
       -- at a time past the due time no continuation was left already
-      event-late : was .due < t → Fits c exact (steps ++ (event k t ∷ [])) (brokenRow row-was (length steps + 1))
+      event-late : was .due < t → Fits c exact (steps ++ (event k t ∷ [])) (brokenRow row-was t false (length steps + 1))
       event-late later =
-          broken-fits (event k t) words was whole (going-open words was (accepts .not-closed) g)
+          broken-fits (event k t) words was t false whole (going-open words was (accepts .not-closed) g)
           (λ o. tick-late words was t g later (accepts .time-small)
           (open-at-tick c steps k t (accepts .not-closed) (accepts .stream-small) (accepts .in-order) o))
+          (late-why (event k t) words was t false g (accepts .not-closed) (accepts .time-small) (clock-event k t steps) later)
+
+      -- an event of the row's own that comes in time breaks it by itself
+      event-why : among (kindOf k) (kinds c) ≡ true → t ≤ was .due
+          → Cause c (steps ++ (event k t ∷ [])) (length steps + 1) (causeBy (was .due) t false) (momentBy (was .due) t)
+      event-why own soon =
+          rw (le-ltb (was .due) t soon)
+          (by-event steps k t (here (event k t)) own (λ later. open-tick words was g (accepts .not-closed) t later (accepts .time-small) soon))
 
       -- an event of no stream of the row's
       event-other : t ≤ was .due → among k (streams c) ≡ false → Fits c exact (steps ++ (event k t ∷ [])) row-was
@@ -240,27 +304,33 @@ module _ (c : Constraint) (exact : Exact c) (steps : List Step) (valid : Valid s
             (λ e. applied-fits (ltb-false waitingLimit (length kept-times) e))
 
       -- any change
-      changed-after : (change : Change) → ByOutcome (¬ Open c (steps ++ (event k t ∷ []))) Goes change
-          → Holds (changedRow row-was change (length steps + 1))
+      changed-after : (change : Change) → among (kindOf k) (kinds c) ≡ true → t ≤ was .due
+          → ByOutcome (¬ Open c (steps ++ (event k t ∷ []))) Goes change → Holds (changedRow row-was change t (length steps + 1))
       unfolding changedRow
-      changed-after change by =
+      changed-after change own soon by =
           rw (le-ltb waitingLimit (was .len) (g .room))
           (split (change .breaks)
           (λ x. cond x (¬ Open c (steps ++ (event k t ∷ []))) (Goes change)
-          → Holds (cond x (stays (brokenRow row-was (length steps + 1)))
+          → Holds (cond x (stays (brokenRow row-was t false (length steps + 1)))
           (cond (ltb waitingLimit (length (changed (change .edit) (itemsOf row-was)))) (crowding row-was) (stays (applied row-was change)))))
-          (λ e shut. broken-fits (event k t) words was whole (going-open words was (accepts .not-closed) g) shut)
+          (λ e shut. broken-fits (event k t) words was t false whole (going-open words was (accepts .not-closed) g) shut (event-why own soon))
           (λ e goes. goes-after change goes) by)
+
+      -- the event is of one of the row's kinds
+      own-kind : Sound c → among k (streams c) ≡ true → among (kindOf k) (kinds c) ≡ true
+      own-kind sound f =
+          sym (concerns-stream c (sound .known) k (accepts .stream-small)) ∙ concerns-own c sound k (accepts .stream-small) ∙ f
 
       event-going : Sound c → ltb 0 (was .broken) ≡ false → Holds (rowStep row-was (eventAt k t) (length steps + 1))
       unfolding rowStep
       event-going sound unbroken =
           rw (concerns-own c sound k (accepts .stream-small))
           (subst (λ (b : Bool). Holds (cond b (stays row-was) open-row)) (sym unbroken)
-          (split (ltb (was .due) t) (λ x. Holds (cond x (stays (brokenRow row-was number)) in-time-row)) (λ e. event-late (ltb-true (was .due) t e))
-          (λ e. split (among k (streams c)) (λ y. Holds (cond y (changedRow row-was change number) (stays row-was)))
+          (split (ltb (was .due) t) (λ x. Holds (cond x (stays (brokenRow row-was t false number)) in-time-row))
+          (λ e. event-late (ltb-true (was .due) t e))
+          (λ e. split (among k (streams c)) (λ y. Holds (cond y (changedRow row-was change t number) (stays row-was)))
           (λ f. let soon : t ≤ exact .due (was .registers) (itemsOf row-was) = subst (λ (n : ℕ). t ≤ n) (g .due-is) (ltb-false (was .due) t e) in
-          changed-after change (exact .does past (g .live) (among-own c k f) accepts soon))
+          changed-after change (own-kind sound f) (ltb-false (was .due) t e) (exact .does past (g .live) (among-own c k f) accepts soon))
           (λ f. event-other (ltb-false (was .due) t e) f))))
         where
           number : ℕ
@@ -270,10 +340,10 @@ module _ (c : Constraint) (exact : Exact c) (steps : List Step) (valid : Valid s
           change = decide (parametersOf c) (was .registers) (itemsOf row-was) k t
 
           in-time-row : RowStep
-          in-time-row = cond (among k (streams c)) (changedRow row-was change number) (stays row-was)
+          in-time-row = cond (among k (streams c)) (changedRow row-was change t number) (stays row-was)
 
           open-row : RowStep
-          open-row = cond (ltb (was .due) t) (stays (brokenRow row-was number)) in-time-row
+          open-row = cond (ltb (was .due) t) (stays (brokenRow row-was t false number)) in-time-row
 
   -- ---- Ticks and the close
 
@@ -282,7 +352,8 @@ module _ (c : Constraint) (exact : Exact c) (steps : List Step) (valid : Valid s
     -- what is left of the machine's tests where no event is of one of the row's streams
     abbrev other-row : Row → ℕ → Bool → ℕ → RowStep
     other-row r t closes number =
-        cond (ltb (r .now .due) t) (stays (brokenRow r number)) (cond (closes && eqb (r .now .kept) 0) (stays (brokenRow r number)) (stays r))
+        cond (ltb (r .now .due) t) (stays (brokenRow r t closes number))
+        (cond (closes && eqb (r .now .kept) 0) (stays (brokenRow r t closes number)) (stays r))
 
     no-event : (words : List ℕ) (was : State) (t : ℕ) (closes : Bool) (number : ℕ) → ltb 0 (was .broken) ≡ false
         → rowStep (rowFrom (parametersOf c) words was) (record { kind = noEvent; stream = streamCount; time = t; closes = closes }) number
@@ -294,9 +365,10 @@ module _ (c : Constraint) (exact : Exact c) (steps : List Step) (valid : Valid s
         → After c exact (steps ++ (tick t ∷ [])) (other-row (rowFrom (parametersOf c) words was) t false (length steps + 1) .crowded)
         (other-row (rowFrom (parametersOf c) words was) t false (length steps + 1) .row)
     tick-going t accepts words was whole g =
-        split (ltb (was .due) t) (λ x. Holds (cond x (stays (brokenRow row-was (length steps + 1))) (stays row-was)))
-        (λ e. broken-fits (tick t) words was whole (going-open words was (accepts .not-closed) g)
-        (tick-late words was t g (ltb-true (was .due) t e) (accepts .time-small)))
+        split (ltb (was .due) t) (λ x. Holds (cond x (stays (brokenRow row-was t false (length steps + 1))) (stays row-was)))
+        (λ e. broken-fits (tick t) words was t false whole (going-open words was (accepts .not-closed) g)
+        (tick-late words was t g (ltb-true (was .due) t e) (accepts .time-small))
+        (late-why (tick t) words was t false g (accepts .not-closed) (accepts .time-small) (clock-tick t steps) (ltb-true (was .due) t e)))
         (λ e. going-on (tick t) words was whole g (own-tick (streams c) t steps) (rw (clock-tick t steps) (ltb-false (was .due) t e))
         (λ shut. both (sym shut ∙ closed-tick t steps ∙ accepts .not-closed)))
       where
@@ -316,11 +388,12 @@ module _ (c : Constraint) (exact : Exact c) (steps : List Step) (valid : Valid s
         → After c exact (steps ++ (close ∷ [])) (other-row (rowFrom (parametersOf c) words was) (clock steps) true (length steps + 1) .crowded)
         (other-row (rowFrom (parametersOf c) words was) (clock steps) true (length steps + 1) .row)
     close-going not-closed words was whole g =
-        subst (λ (b : Bool). Holds (cond b (stays (brokenRow row-was (length steps + 1))) closing-row))
+        subst (λ (b : Bool). Holds (cond b (stays (brokenRow row-was (clock steps) true (length steps + 1))) closing-row))
         (sym (le-ltb (was .due) (clock steps) (g .in-time)))
-        (split (eqb (was .kept) 0) (λ x. Holds (cond x (stays (brokenRow row-was (length steps + 1))) (stays row-was)))
-        (λ e. broken-fits close words was whole (going-open words was not-closed g)
-        (close-shut (exact .not-kept past (g .live) (unmarked (eqb-true (was .kept) 0 e)))))
+        (split (eqb (was .kept) 0) (λ x. Holds (cond x (stays (brokenRow row-was (clock steps) true (length steps + 1))) (stays row-was)))
+        (λ e. broken-fits close words was (clock steps) true whole (going-open words was not-closed g)
+        (close-shut (exact .not-kept past (g .live) (unmarked (eqb-true (was .kept) 0 e))))
+        (rw (le-ltb (was .due) (clock steps) (g .in-time)) (at-close steps (here close))))
         (λ e. going-on close words was whole g (own-close (streams c) steps) (rw (clock-close steps) (g .in-time))
         (λ shut. meets-same c steps (steps ++ (close ∷ [])) (sym (own-close (streams c) steps)) (rw (clock-close steps) (omega arith))
         (exact .is-kept past (g .live) (by-due words was g) (marked (eqb-false (was .kept) 0 e))))))
@@ -332,7 +405,7 @@ module _ (c : Constraint) (exact : Exact c) (steps : List Step) (valid : Valid s
         Holds s = After c exact (steps ++ (close ∷ [])) (s .crowded) (s .row)
 
         closing-row : RowStep
-        closing-row = cond (eqb (was .kept) 0) (stays (brokenRow row-was (length steps + 1))) (stays row-was)
+        closing-row = cond (eqb (was .kept) 0) (stays (brokenRow row-was (clock steps) true (length steps + 1))) (stays row-was)
 
         kept-now : Bool
         kept-now = exact .kept (was .registers) (ring words (was .head) (was .len))

@@ -18,9 +18,9 @@ module _ (r : Row) (whole : length (r .times) ≡ 64) where
   unfolding backRow
   back-same place number = ap (λ (words : List ℕ). rowFrom (r .parameters) words (r .now)) (back-words place)
 
-  back-broken : (place n : ℕ) → Back place (brokenRow r n)
+  back-broken : (place t : ℕ) (closes : Bool) (n : ℕ) → Back place (brokenRow r t closes n)
   unfolding backRow brokenRow
-  back-broken place n number = ap (λ (words : List ℕ). rowFrom (r .parameters) words (r .now)) (back-words place)
+  back-broken place t closes n number = ap (λ (words : List ℕ). rowFrom (r .parameters) words (r .now)) (back-words place)
 
   -- one with a change
   abbrev at : Change → ℕ
@@ -32,12 +32,13 @@ module _ (r : Row) (whole : length (r .times) ≡ 64) where
       ap (λ (words : List ℕ). rowFrom (r .parameters) words (r .now))
       (edit-back (ringOf (r .times) (r .now .head) (r .now .len)) (change .edit) whole)
 
-  back-changed : (change : Change) (n : ℕ) → Back (at change) (changedRow r change n .row)
+  back-changed : (change : Change) (t n : ℕ) → Back (at change) (changedRow r change t n .row)
   unfolding changedRow
-  back-changed change n =
-      split (ltb waitingLimit (r .now .len)) (λ x. Back (at change) (cond x (crowding r) (cond (change .breaks) (stays (brokenRow r n)) goes) .row))
+  back-changed change t n =
+      split (ltb waitingLimit (r .now .len))
+      (λ x. Back (at change) (cond x (crowding r) (cond (change .breaks) (stays (brokenRow r t false n)) goes) .row))
       (λ e. back-same (at change))
-      (λ e. split (change .breaks) (λ x. Back (at change) (cond x (stays (brokenRow r n)) goes .row)) (λ f. back-broken (at change) n)
+      (λ e. split (change .breaks) (λ x. Back (at change) (cond x (stays (brokenRow r t false n)) goes .row)) (λ f. back-broken (at change) t false n)
       (λ f. split more (λ x. Back (at change) (cond x (crowding r) (stays (applied r change)) .row)) (λ g. back-same (at change))
       (λ g. back-applied change)))
     where
@@ -52,11 +53,13 @@ module _ (r : Row) (whole : length (r .times) ≡ 64) where
   unfolding rowStep stepPlace
   step-back o n =
       split (ltb 0 (r .now .broken)) (λ x. Back (cond x 0 late-place) (cond x (stays r) late .row)) (λ e. back-same 0) (λ e.
-      split (ltb (r .now .due) (o .time)) (λ x. Back (cond x 0 own-place) (cond x (stays (brokenRow r n)) own .row)) (λ f. back-broken 0 n) (λ f.
-      split (concerns (r .parameters) (o .kind)) (λ x. Back (cond x (at change) 0) (cond x (changedRow r change n) end .row))
-      (λ g. back-changed change n)
+      split (ltb (r .now .due) (o .time)) (λ x. Back (cond x 0 own-place) (cond x (stays (brokenRow r (o .time) (o .closes) n)) own .row))
+      (λ f. back-broken 0 (o .time) (o .closes) n) (λ f.
+      split (concerns (r .parameters) (o .kind)) (λ x. Back (cond x (at change) 0) (cond x (changedRow r change (o .time) n) end .row))
+      (λ g. back-changed change (o .time) n)
       (λ g.
-      split unkept (λ x. Back 0 (cond x (stays (brokenRow r n)) (stays r) .row)) (λ h. back-broken 0 n) (λ h. back-same 0))))
+      split unkept (λ x. Back 0 (cond x (stays (brokenRow r (o .time) (o .closes) n)) (stays r) .row))
+      (λ h. back-broken 0 (o .time) (o .closes) n) (λ h. back-same 0))))
     where
       change : Change
       change = decide (r .parameters) (r .now .registers) (itemsOf r) (o .stream) (o .time)
@@ -65,16 +68,16 @@ module _ (r : Row) (whole : length (r .times) ≡ 64) where
       unkept = o .closes && eqb (r .now .kept) 0
 
       end : RowStep
-      end = cond unkept (stays (brokenRow r n)) (stays r)
+      end = cond unkept (stays (brokenRow r (o .time) (o .closes) n)) (stays r)
 
       own : RowStep
-      own = cond (concerns (r .parameters) (o .kind)) (changedRow r change n) end
+      own = cond (concerns (r .parameters) (o .kind)) (changedRow r change (o .time) n) end
 
       own-place : ℕ
       own-place = cond (concerns (r .parameters) (o .kind)) (at change) 0
 
       late : RowStep
-      late = cond (ltb (r .now .due) (o .time)) (stays (brokenRow r n)) own
+      late = cond (ltb (r .now .due) (o .time)) (stays (brokenRow r (o .time) (o .closes) n)) own
 
       late-place : ℕ
       late-place = cond (ltb (r .now .due) (o .time)) 0 own-place
@@ -85,9 +88,9 @@ unfolding movesBy rowStep
 still r o n e = by-tests (ltb 0 (r .now .broken)) (ltb (r .now .due) (o .time)) (o .closes) (concerns (r .parameters) (o .kind)) e
   where
     by-tests : (broken late closes own : Bool) → cond broken false (cond late true (cond closes true own)) ≡ false
-        → cond broken (stays r) (cond late (stays (brokenRow r n))
-        (cond own (changedRow r (decide (r .parameters) (r .now .registers) (itemsOf r) (o .stream) (o .time)) n)
-        (cond (closes && eqb (r .now .kept) 0) (stays (brokenRow r n)) (stays r)))) .row ≡ r
+        → cond broken (stays r) (cond late (stays (brokenRow r (o .time) (o .closes) n))
+        (cond own (changedRow r (decide (r .parameters) (r .now .registers) (itemsOf r) (o .stream) (o .time)) (o .time) n)
+        (cond (closes && eqb (r .now .kept) 0) (stays (brokenRow r (o .time) (o .closes) n)) (stays r)))) .row ≡ r
     by-tests true late closes own e = refl
     by-tests false true closes own e = both e
     by-tests false false true own e = both e

@@ -73,7 +73,7 @@ module _ (r : Row) (b : RowUndo) where
   unfolding withChange brokenRow applied
   applied-rest-zero o number f is-open =
       split (changeBy r o .breaks)
-      (λ x. RestZero (cond x (brokenRow r number) (applied r (changeBy r o))) (undoOfEvent r o number))
+      (λ x. RestZero (cond x (brokenRow r (o .time) false number) (applied r (changeBy r o))) (undoOfEvent r o number))
       (λ _. record { now-unused = none-unused (r .parameters .tag); past-unused = f .now-unused; past-open = is-open })
       (λ _.
       record {
@@ -101,10 +101,13 @@ module _ (r : Row) (b : RowUndo) where
   unfolding endedState
   ended-unused o number unused =
       split (ltb (r .now .due) (o .time))
-      (λ x. Unused (r .parameters .tag) (cond x (brokenState number) (cond (eqb (r .now .kept) 0) (brokenState number) (r .now)) .registers))
+      (λ x. Unused (r .parameters .tag) (cond x broken (cond (eqb (r .now .kept) 0) broken (r .now)) .registers))
       (λ _. none-unused (r .parameters .tag))
-      (λ _. split (eqb (r .now .kept) 0) (λ x. Unused (r .parameters .tag) (cond x (brokenState number) (r .now) .registers))
+      (λ _. split (eqb (r .now .kept) 0) (λ x. Unused (r .parameters .tag) (cond x broken (r .now) .registers))
       (λ _. none-unused (r .parameters .tag)) (λ _. unused))
+    where
+      broken : State
+      broken = brokenState (r .now) (o .time) (o .closes) number
 
   pub rest-zero-ended : (o : StepInput) (number : ℕ) → RestZero r b → RestZero (endedRow o number r) (endedSaves o number r b)
   rest-zero-ended o number f =

@@ -3,3 +3,4 @@ pub mod Machine
 pub mod Undo
 pub mod StepParts
 pub mod Stored
+pub mod Cause

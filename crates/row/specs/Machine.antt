@@ -90,13 +90,30 @@ freshState parameters = record { registers = noRegisters; head = 0; len = startW
 unfoldable pub rowOf : Constraint → Row
 rowOf c = rowFrom (parametersOf c) (startRing c) (freshState (parametersOf c))
 
--- the row broken at a step: it keeps the step and holds nothing waiting
-abbrev pub brokenState : ℕ → State
-brokenState number = record { registers = noRegisters; head = 0; len = 0; due = noLimit; kept = 0; broken = number }
+-- why a step to a time breaks a row that was due: 1 it is overdue, 2 an event breaks it, 3 the close does; and the moment: the due time that has
+-- passed, or the time of the step
+abbrev pub causeBy : ℕ → ℕ → Bool → ℕ
+causeBy due t closes = cond (ltb due t) 1 (cond closes 3 2)
+
+abbrev pub momentBy : ℕ → ℕ → ℕ
+momentBy due t = cond (ltb due t) due t
+
+-- the row broken at a step: it keeps the step, the cause and the moment, and holds nothing waiting. Cause and moment stand where an open row has the
+-- start of its ring and the mark for kept
+abbrev pub brokenState : State → ℕ → Bool → ℕ → State
+brokenState was t closes number =
+    record {
+      registers = noRegisters;
+      head = cond (ltb 0 number) (causeBy (was .due) t closes) 0;
+      len = 0;
+      due = noLimit;
+      kept = cond (ltb 0 number) (momentBy (was .due) t) 0;
+      broken = number;
+    }
 
 -- §6.4
-unfoldable pub brokenRow : Row → ℕ → Row
-brokenRow r number = rowFrom (r .parameters) (r .times) (brokenState number)
+unfoldable pub brokenRow : Row → ℕ → Bool → ℕ → Row
+brokenRow r t closes number = rowFrom (r .parameters) (r .times) (brokenState (r .now) t closes number)
 
 -- the row with a ring and what a change says of the rest
 abbrev pub goingRow : Parameters → Ring → Change → Row
@@ -116,10 +133,10 @@ crowding r = record { crowded = true; row = r }
 
 -- a change that breaks the row, one that crowds it (it would go on with more than 64 waiting), or one that it goes on with; more than 64 times, which
 -- no step leaves, are crowded as they are
-unfoldable pub changedRow : Row → Change → ℕ → RowStep
-changedRow r change number =
+unfoldable pub changedRow : Row → Change → ℕ → ℕ → RowStep
+changedRow r change t number =
     cond (ltb waitingLimit (r .now .len)) (crowding r)
-    (cond (change .breaks) (stays (brokenRow r number))
+    (cond (change .breaks) (stays (brokenRow r t false number))
     (cond (ltb waitingLimit (length (changed (change .edit) (itemsOf r)))) (crowding r)
     (stays (applied r change))))
 
@@ -142,9 +159,10 @@ closeAt t = record { kind = noEvent; stream = streamCount; time = t; closes = tr
 unfoldable pub rowStep : Row → StepInput → ℕ → RowStep
 rowStep r o number =
     cond (ltb 0 (r .now .broken)) (stays r)
-    (cond (ltb (r .now .due) (o .time)) (stays (brokenRow r number))
-    (cond (concerns (r .parameters) (o .kind)) (changedRow r (decide (r .parameters) (r .now .registers) (itemsOf r) (o .stream) (o .time)) number)
-    (cond (o .closes && eqb (r .now .kept) 0) (stays (brokenRow r number))
+    (cond (ltb (r .now .due) (o .time)) (stays (brokenRow r (o .time) (o .closes) number))
+    (cond (concerns (r .parameters) (o .kind))
+    (changedRow r (decide (r .parameters) (r .now .registers) (itemsOf r) (o .stream) (o .time)) (o .time) number)
+    (cond (o .closes && eqb (r .now .kept) 0) (stays (brokenRow r (o .time) (o .closes) number))
     (stays r))))
 
 -- the row's verdict, the recording being closed or not

@@ -46,7 +46,9 @@ endsBy parameters now o =
 
 -- what the row keeps then: it is broken where it is overdue or not kept
 unfoldable pub endedState : State → StepInput → ℕ → State
-endedState now o number = cond (ltb (now .due) (o .time)) (brokenState number) (cond (eqb (now .kept) 0) (brokenState number) now)
+endedState now o number =
+    cond (ltb (now .due) (o .time)) (brokenState now (o .time) (o .closes) number)
+    (cond (eqb (now .kept) 0) (brokenState now (o .time) (o .closes) number) now)
 
 -- ---- an event
 
@@ -55,12 +57,12 @@ abbrev pub changeBy : Row → StepInput → Change
 changeBy r o = decide (r .parameters) (r .now .registers) (itemsOf r) (o .stream) (o .time)
 
 -- the row with a change that does not crowd it: broken, or with the change
-unfoldable pub withChange : Row → Change → ℕ → Row
-withChange r change number = cond (change .breaks) (brokenRow r number) (applied r change)
+unfoldable pub withChange : Row → Change → ℕ → ℕ → Row
+withChange r change t number = cond (change .breaks) (brokenRow r t false number) (applied r change)
 
 -- the row after an event that concerns it, where it is not overdue and has room
 abbrev pub appliedRow : Row → StepInput → ℕ → Row
-appliedRow r o number = withChange r (changeBy r o) number
+appliedRow r o number = withChange r (changeBy r o) (o .time) number
 
 -- where the event writes into the row's ring, and what the row was before it
 abbrev pub writesAt : Row → StepInput → ℕ
@@ -75,7 +77,7 @@ undoOfEvent r o number = savedAt r (writesAt r o) number
 unfoldable pub steppedRow : StepInput → ℕ → Row → Row
 steppedRow o number r =
     cond (ltb 0 (r .now .broken)) r
-    (cond (ltb (r .now .due) (o .time)) (brokenRow r number)
+    (cond (ltb (r .now .due) (o .time)) (brokenRow r (o .time) (o .closes) number)
     (cond (concerns (r .parameters) (o .kind)) (appliedRow r o number)
-    (cond (o .closes && eqb (r .now .kept) 0) (brokenRow r number)
+    (cond (o .closes && eqb (r .now .kept) 0) (brokenRow r (o .time) (o .closes) number)
     r)))

@@ -43,6 +43,10 @@ ghost use Rattle.row.specs.Machine.{eventAt, rowOf, rowStep};
 ghost use Rattle.row.specs.declared.RowUndo.{RowUndo};
 ghost use Rattle.row.specs.declared.Row.{Row};
 ghost use Rattle.row.specs.Stored.{undoRecordOf, wordsOfRow, eventRow, eventKeeps, endedRow, endedSaves, stepKeeps, Changes};
+ghost use Rattle.row.specs.Stored.{noted, appliedKeeps};
+ghost use Rattle.row.specs.Machine.{brokenRow, causeBy, momentBy};
+ghost use Rattle.row.specs.StepParts.{appliedRow};
+ghost use Rattle.row.specs.Undo.{savedAt};
 ghost use Rattle.row.specs.Stored.{larger, slotsUsedBy, slotsUsedIn, hintAfterRow, Becomes, Withdraws, stateAt, nothing};
 
 // A row with fewer waiting has room for two more words.
@@ -87,12 +91,73 @@ fn apply_by_type(row: &mut [[u64; SIZE]; 2], stream: u64, t: u64, number: u64)
     }
 }
 
+// Why a row is broken: it was overdue, an event broke it, or the close did.
+pub const OVERDUE: u64 = 1;
+
+pub const BY_EVENT: u64 = 2;
+
+pub const AT_CLOSE: u64 = 3;
+
+// Returns why a step to a time breaks a row that was due.
+fn cause_of(due: u64, time: u64, closes: bool) -> u64
+    ensures { λ r. ⌜ r ≡ causeBy due time closes ⌝ }
+{
+    if due < time {
+        return OVERDUE;
+    }
+    if closes {
+        return AT_CLOSE;
+    }
+    BY_EVENT
+}
+
+// Returns the moment of the break.
+fn moment_of(due: u64, time: u64) -> u64
+    ensures { λ r. ⌜ r ≡ momentBy due time ⌝ }
+{
+    if due < time {
+        return due;
+    }
+    time
+}
+
+// Notes the cause and the moment of a break, if a step to a time has broken the row, which was due at a time. They take the places of two words that
+// a broken row does not use.
+fn note_cause(w: &mut [u64; SIZE], due: u64, time: u64, closes: bool)
+    ensures { λ _. ⌜ NumbersBecome (λ state past. noted state due time closes) (λ state past. past) (now (w .entry)) (now (w .exit)) ⌝ }
+{
+    if w[row_words::BROKEN] == 0 {
+        return;
+    }
+    w[row_words::HEAD] = cause_of(due, time, closes);
+    w[row_words::KEPT] = moment_of(due, time);
+}
+
+// The row breaks at the step of that number, to a time.
+fn break_for(row: &mut [[u64; SIZE]; 2], time: u64, closes: bool, number: u64)
+    ensures { λ _. ⌜ Becomes (now (row .entry)) (λ r. brokenRow r time closes number) (λ r b. savedAt r 0 number) (now (row .exit)) ⌝ }
+{
+    let due = row[1][row_words::DUE];
+    row_words::break_at(row, number);
+    note_cause(&mut row[1], due, time, closes);
+}
+
+// What an event of one of its streams makes of a row that is not broken.
+fn apply_event(row: &mut [[u64; SIZE]; 2], stream: u64, t: u64, number: u64)
+    ensures { λ _. ⌜ ((r : Row) (b : RowUndo) → now (row .entry) ≡ wordsOfRow r b → r .now .broken ≡ 0
+        → now (row .exit) ≡ wordsOfRow (appliedRow r (eventAt stream t) number) (appliedKeeps r b (eventAt stream t) number)) ⌝ }
+{
+    let due = row[1][row_words::DUE];
+    apply_by_type(row, stream, t, number);
+    note_cause(&mut row[1], due, t, false);
+}
+
 // The row after an event that concerns it, which is the step of that number.
 pub fn event(row: &mut [[u64; SIZE]; 2], stream: u64, t: u64, number: u64)
     ensures { λ _. ⌜ Becomes (now (row .entry)) (eventRow (eventAt stream t) number) (eventKeeps (eventAt stream t) number) (now (row .exit)) ⌝ }
 {
     if row[1][row_words::BROKEN] == 0 {
-        apply_by_type(row, stream, t, number);
+        apply_event(row, stream, t, number);
     }
 }
 
@@ -104,7 +169,7 @@ pub fn apply_clock(row: &mut [[u64; SIZE]; 2], o: StepInput, number: u64)
         return;
     }
     if row[1][row_words::DUE] < o.time {
-        row_words::break_at(row, number);
+        break_for(row, o.time, o.closes, number);
         return;
     }
     if !o.closes {
@@ -114,7 +179,7 @@ pub fn apply_clock(row: &mut [[u64; SIZE]; 2], o: StepInput, number: u64)
         return;
     }
     if row[1][row_words::KEPT] == 0 {
-        row_words::break_at(row, number);
+        break_for(row, o.time, o.closes, number);
         return;
     }
     row_words::save_undo_all(row, number);

@@ -2,6 +2,8 @@
 use Rattle.sessions.proofs.Names.{Accepted, Answer, QueryAnswer, Constraint, HoldsMonitor, Left, List, Memory, Pages, ReadsAs, ReadsRow}
 use Rattle.sessions.proofs.Names.{ReportsSteps}
 use Rattle.sessions.proofs.Names.{Request, Run, Step, after, monitor-is-exact, noneLeft, play, refl, run-once, subst, verdictOf, ℕ}
+use Rattle.sessions.proofs.Names.{sym}
+use Rattle.queries.specs.Contract.{RowCause}
 
 module _ (rows : List Constraint) (requests : List Request) (answers : List Answer) (left : Left) (accepted : Accepted rows)
     (run : Run rows noneLeft requests answers left) where
@@ -37,5 +39,7 @@ module _ (rows : List Constraint) (requests : List Request) (answers : List Answ
         row-waiting = λ i number a. asked-says (a m holds);
         row-deadline = λ i time a. asked-says (a m holds);
         deadline = λ time a. asked-says (a m holds);
+        row-cause = λ i cause moment a b.
+            subst (RowCause rows (left .steps) i cause) (sym (b m holds .equals)) (asked-says (a m holds));
         crowded-row = λ kind time i a. asked-says (a m holds);
       }

@@ -19,9 +19,9 @@ use Rattle.delkuthi.specs.Printed.{WritesPage}
 use Rattle.delkuthi.specs.Reporting.{ReportsSteps, ReportsOf}
 use Rattle.queries.specs.Deadlines.{RowDeadline, LeastDeadline}
 use Rattle.queries.specs.Contract.{BrokenRows, RowWaiting, CrowdedRow, AsksClock, AsksSteps, AsksClosed, AsksBrokenRows, AsksWaiting}
-use Rattle.queries.specs.Contract.{AsksRowDeadline, AsksDeadline, AsksCrowdedRow}
+use Rattle.queries.specs.Contract.{AsksRowDeadline, AsksDeadline, AsksCrowdedRow, AsksCause, AsksMoment, RowCause}
 
--- §11.2: each of the thirteen answers what the definitions say of the rows after these steps
+-- §11.2: each of the fifteen answers what the definitions say of the rows after these steps
 pub record ReadsAs (h : Memory) (rows : List Constraint) (steps : List Step) : Type 0 where
   -- §11.5: `delkuthi_row_verdict` and `delkuthi_row_step`: the word and the step of what the row reads
   pub verdicts : (i : ℕ) → (v : Option Verdict) × ReadsRow rows steps i v
@@ -46,6 +46,9 @@ pub record ReadsAs (h : Memory) (rows : List Constraint) (steps : List Step) : T
   -- §15.8, §15.9: `delkuthi_row_deadline` and `delkuthi_deadline`
   pub row-deadline : (i time : ℕ) → ReadOff h (λ m. AsksRowDeadline m i) time → RowDeadline rows steps i time
   pub deadline : (time : ℕ) → ReadOff h AsksDeadline time → LeastDeadline rows steps time
+  -- §15.14 to §15.16: `delkuthi_row_cause` and `delkuthi_row_moment`
+  pub row-cause : (i cause moment : ℕ) → ReadOff h (λ m. AsksCause m i) cause → ReadOff h (λ m. AsksMoment m i) moment
+      → RowCause rows steps i cause moment
   -- §15.11: `delkuthi_crowded_row`
   pub crowded-row : (kind time i : ℕ) → ReadOff h (λ m. AsksCrowdedRow m (Call.Event kind time)) i
       → CrowdedRow rows steps (Call.Event kind time) i

@@ -1,14 +1,14 @@
 //! The contract in words, `docs/CONTRACT.md`: every example in it is what library and model do.
 
 use checks::beside::{fresh, put, take, take_all, verdict};
-use checks::contract::{Asked, Example, WRITES_ROOM, blocks, clauses, examples, files, pages, takes, text, writes};
+use checks::contract::{Asked, Example, WRITES_ROOM, blocks, clauses, example, examples, files, pages, takes, text, writes};
 use checks::pages::page_in;
 use checks::refusals::refusal;
 use checks::reports::report_in;
 use delkuthi::Recording;
 use model::recording::put_record;
 use model::types::delay;
-use model::{Constraint, page_text, report_text};
+use model::{Constraint, Step, page_text, report_text};
 use std::collections::HashSet;
 
 /// What the rows read, as the contract writes it.
@@ -82,6 +82,24 @@ fn the_takes_are_so() {
         }
         assert_eq!(read(model.verdicts().into_iter()), takes.reads, "{line}");
         assert_eq!(verdict(&library, 0).map(|verdict| verdict.to_string()), Ok(takes.reads), "{line}");
+    }
+}
+
+#[test]
+fn the_causes_are_so() {
+    let text = text();
+    let examples: Vec<Example> = blocks(&text, "cause").iter().map(|lines| example(lines)).collect();
+    assert!(examples.len() >= 3);
+    for Example { rows, recordings } in examples {
+        for recording in recordings {
+            let (mut model, mut library) = (model::Monitor::fresh(&rows).expect("an accepted table"), fresh(&rows));
+            let steps: Vec<Step> = recording.iter().map(|(asked, _)| asked.step()).collect();
+            steps.iter().for_each(|step| model.step(*step).expect("a step that is taken"));
+            assert!(take_all(&mut library, &steps).iter().all(Result::is_ok));
+            let said = recording.last().and_then(|(_, said)| said.clone());
+            assert_eq!(model.row_cause(0).map(|cause| cause.to_string()), said, "{rows:?}: {steps:?}");
+            assert_eq!(library.cause(0).map(|cause| cause.to_string()), said, "{rows:?}: {steps:?}");
+        }
     }
 }
 

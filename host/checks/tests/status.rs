@@ -1,10 +1,10 @@
 //! What a host asks while it runs, after random lists of calls and withdrawals, beside the model, which finds the first
 //! tick that breaks a row by search.
-//! Clauses: §15.1 to §15.9, §15.11.
+//! Clauses: §15.1 to §15.9, §15.11, §15.14 to §15.16.
 
 use checks::beside::{fresh, take};
 use checks::words::untouched;
-use delkuthi::{LAST_TIME, Monitor, NO_LIMIT, ROW_LIMIT};
+use delkuthi::{Cause, LAST_TIME, Monitor, NO_LIMIT, ROW_LIMIT};
 use model::random::Random;
 use model::random::calls::calls;
 use model::random::tables::{any_table, table};
@@ -171,4 +171,40 @@ fn crowding_table(random: &mut Random) -> Vec<Constraint> {
         rows.insert(random.place(rows.len() + 1), row);
     }
     rows
+}
+
+/// The library's cause as numbers.
+fn numbers(cause: Cause) -> (u8, u64) {
+    match cause {
+        Cause::Overdue(moment) => (1, moment),
+        Cause::Event(moment) => (2, moment),
+        Cause::Close(moment) => (3, moment),
+    }
+}
+
+/// Why each row broke and when, whenever a row breaks or a withdrawal opens it again, and now and then of other rows.
+#[test]
+fn why_rows_broke() {
+    let mut random = Random::new(155);
+    let mut seen = [0; 4];
+    for _ in 0..900 {
+        let rows = any_table(&mut random);
+        let (mut monitor, mut model) = (fresh(&rows), model::Monitor::fresh(&rows).expect("an accepted table"));
+        for call in calls(&mut random, &rows, 40) {
+            let before = model.broken_rows();
+            if random.below(5) == 0 {
+                assert_eq!(monitor.withdraw().map_err(|refusal| refusal.number()), model.withdraw());
+            } else {
+                assert_eq!(take(&mut monitor, call), model.step(call));
+            }
+            let changed = before ^ model.broken_rows();
+            for row in (0..rows.len()).filter(|row| changed >> row & 1 == 1 || random.chance(5)) {
+                let expected = model.row_cause(row).map(model::Cause::numbers);
+                assert_eq!(monitor.cause(row).map(numbers), expected, "row {row} of {rows:?} after {:?}", model.steps());
+                seen[expected.map_or(0, |(cause, _)| usize::from(cause))] += 1;
+            }
+        }
+        assert_eq!((monitor.cause(rows.len()), monitor.cause(usize::MAX)), (None, None));
+    }
+    assert!(seen.iter().all(|number| *number > 200), "{seen:?}");
 }

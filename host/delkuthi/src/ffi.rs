@@ -37,6 +37,8 @@ safe! {
     fn delkuthi_withdraw_step(monitor: &mut Monitor, step: u64) -> u8;
     fn delkuthi_row_verdict(monitor: &Monitor, row: u64) -> u8;
     fn delkuthi_row_step(monitor: &Monitor, row: u64) -> u64;
+    fn delkuthi_row_cause(monitor: &Monitor, row: u64) -> u8;
+    fn delkuthi_row_moment(monitor: &Monitor, row: u64) -> u64;
     fn delkuthi_rows(monitor: &Monitor) -> u64;
     fn delkuthi_clock(monitor: &Monitor) -> u64;
     fn delkuthi_steps(monitor: &Monitor) -> u64;

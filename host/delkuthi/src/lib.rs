@@ -63,7 +63,7 @@ mod version;
 mod writer;
 
 pub use join::{Input, JoinRefusal, join};
-pub use monitor::{Monitor, Verdict, WORDS};
+pub use monitor::{Cause, Monitor, Verdict, WORDS};
 pub use page::PAGE_LIMIT;
 pub use refusal::{Refusal, refusal_text};
 pub use report::{REPORT_LIMIT, report};

@@ -30,6 +30,27 @@ pub enum Verdict {
     Broken(u64),
 }
 
+/// Why a row broke, with the moment. It is written as in the contract: "overdue 13", "event 10", "close 10".
+#[derive(Clone, Copy, Debug, PartialEq, Eq, Hash)]
+pub enum Cause {
+    /// The clock passed the row's deadline, which this is. A tick in place of the step that broke the row would have broken it too.
+    Overdue(u64),
+    /// An event of one of the row's kinds broke it, at this time.
+    Event(u64),
+    /// The close broke it, at this clock.
+    Close(u64),
+}
+
+impl fmt::Display for Cause {
+    fn fmt(&self, f: &mut fmt::Formatter) -> fmt::Result {
+        match self {
+            Cause::Overdue(moment) => write!(f, "overdue {moment}"),
+            Cause::Event(moment) => write!(f, "event {moment}"),
+            Cause::Close(moment) => write!(f, "close {moment}"),
+        }
+    }
+}
+
 impl fmt::Display for Verdict {
     fn fmt(&self, f: &mut fmt::Formatter) -> fmt::Result {
         match self {
@@ -172,6 +193,29 @@ impl Monitor {
             KEPT => Ok(Verdict::Kept),
             BROKEN => Ok(Verdict::Broken(ffi::delkuthi_row_step(self, row))),
             _ => Err(Refusal::NO_ROW),
+        }
+    }
+
+    /// Why a row broke, and when. None if it is not broken, and if there is no row of that number.
+    ///
+    /// ```
+    /// # use delkuthi::{Cause, Monitor, Row, TABLE_LIMIT, write_table};
+    /// # let mut table = [0; TABLE_LIMIT];
+    /// # let length = write_table(&[Row::Delay { source: 0, target: 1, lower: 2, upper: 3 }], &mut table)?;
+    /// let mut monitor = Monitor::fresh(&table[..length])?;
+    /// monitor.event(0, 10)?;
+    /// assert_eq!(monitor.cause(0), None);
+    /// monitor.event(1, 20)?;
+    /// assert_eq!(monitor.cause(0), Some(Cause::Overdue(13)));
+    /// # Ok::<(), delkuthi::Refusal>(())
+    /// ```
+    pub fn cause(&self, row: usize) -> Option<Cause> {
+        let moment = ffi::delkuthi_row_moment(self, row as u64);
+        match ffi::delkuthi_row_cause(self, row as u64) {
+            1 => Some(Cause::Overdue(moment)),
+            2 => Some(Cause::Event(moment)),
+            3 => Some(Cause::Close(moment)),
+            _ => None,
         }
     }
 

@@ -27,7 +27,8 @@ enum item {
 static struct {
     uint64_t rows, clock, count;
     uint8_t closed;
-    uint8_t verdicts[DELKUTHI_ROW_LIMIT];
+    uint8_t verdicts[DELKUTHI_ROW_LIMIT], causes[DELKUTHI_ROW_LIMIT];
+    uint64_t moments[DELKUTHI_ROW_LIMIT];
     uint64_t steps[DELKUTHI_ROW_LIMIT], waiting[DELKUTHI_ROW_LIMIT], deadlines[DELKUTHI_ROW_LIMIT];
 } expected;
 
@@ -157,6 +158,8 @@ static void same_row(uint64_t row)
 {
     same("verdict of a row", delkuthi_row_verdict(&monitor, row), expected.verdicts[row]);
     same("step of a row", delkuthi_row_step(&monitor, row), expected.steps[row]);
+    same("cause of a row", delkuthi_row_cause(&monitor, row), expected.causes[row]);
+    same("moment of a row", delkuthi_row_moment(&monitor, row), expected.moments[row]);
     same("waiting in a row", delkuthi_row_waiting(&monitor, row), expected.waiting[row]);
     same("deadline of a row", delkuthi_row_deadline(&monitor, row), expected.deadlines[row]);
 }
@@ -166,6 +169,8 @@ static void no_row(uint64_t row)
 {
     same("verdict of no row", delkuthi_row_verdict(&monitor, row), DELKUTHI_NO_ROW);
     same("step of no row", delkuthi_row_step(&monitor, row), 0);
+    same("cause of no row", delkuthi_row_cause(&monitor, row), 0);
+    same("moment of no row", delkuthi_row_moment(&monitor, row), DELKUTHI_NO_LIMIT);
     same("waiting in no row", delkuthi_row_waiting(&monitor, row), 0);
     same("deadline of no row", delkuthi_row_deadline(&monitor, row), DELKUTHI_NO_LIMIT);
 }
@@ -207,6 +212,8 @@ static void state(void)
         row = byte() % DELKUTHI_ROW_LIMIT;
         expected.verdicts[row] = byte();
         expected.steps[row] = expected.verdicts[row] == DELKUTHI_BROKEN ? number() : 0;
+        expected.causes[row] = expected.verdicts[row] == DELKUTHI_BROKEN ? byte() : 0;
+        expected.moments[row] = expected.verdicts[row] == DELKUTHI_BROKEN ? number() : DELKUTHI_NO_LIMIT;
         expected.waiting[row] = number();
         expected.deadlines[row] = number() - 1;
     }
@@ -221,7 +228,7 @@ static void expect_fresh(uint64_t rows)
     memset(&expected, 0, sizeof expected);
     expected.rows = rows <= DELKUTHI_ROW_LIMIT ? rows : DELKUTHI_ROW_LIMIT;
     for (row = 0; row < DELKUTHI_ROW_LIMIT; row++)
-        expected.deadlines[row] = DELKUTHI_NO_LIMIT;
+        expected.deadlines[row] = expected.moments[row] = DELKUTHI_NO_LIMIT;
     has_monitor = 1;
 }
 

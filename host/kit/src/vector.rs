@@ -5,7 +5,7 @@ use crate::bytes::{put_bytes, put_number, put_text, put_way};
 use model::join::{Input, join};
 use model::recording::{put_record, read_record};
 use model::{
-    Constraint, Monitor, NEWEST_EDITION, NO_LIMIT, Refusal, Stamped, Step, Verdict, page_text, read_table_up_to,
+    Cause, Constraint, Monitor, NEWEST_EDITION, NO_LIMIT, Refusal, Stamped, Step, Verdict, page_text, read_table_up_to,
     refused_short_in, report_of, report_text_up_to, short_body, shortest_stretch_up_to, stamped_up_to, table_bytes_in,
     write_short_in,
 };
@@ -43,6 +43,8 @@ struct State {
     verdicts: Vec<Verdict>,
     waiting: Vec<u64>,
     deadlines: Vec<u64>,
+    /// The cause and the moment of a break, where there is one.
+    causes: Vec<(u8, u64)>,
     clock: u64,
     count: u64,
 }
@@ -53,14 +55,23 @@ impl State {
             verdicts: vec![Verdict::Open; rows],
             waiting: vec![0; rows],
             deadlines: vec![NO_LIMIT; rows],
+            causes: vec![(0, NO_LIMIT); rows],
             ..State::default()
         }
     }
 
-    fn of(monitor: &Monitor) -> State {
+    /// What the monitor says, after what it said before.
+    fn of(monitor: &Monitor, before: &State) -> State {
         let rows = 0..monitor.rows().len();
+        let verdicts = monitor.verdicts();
+        let cause = |row: usize| match verdicts[row] {
+            verdict if before.verdicts.get(row) == Some(&verdict) => before.causes[row],
+            _ => monitor.row_cause(row).map_or((0, NO_LIMIT), Cause::numbers),
+        };
+        let causes = rows.clone().map(cause).collect();
         State {
-            verdicts: monitor.verdicts(),
+            verdicts,
+            causes,
             waiting: rows.clone().map(|row| monitor.row_waiting(row) as u64).collect(),
             deadlines: rows.map(|row| if monitor.closed() { NO_LIMIT } else { monitor.row_deadline(row) }).collect(),
             clock: monitor.clock(),
@@ -292,7 +303,7 @@ impl Vector {
     /// What the runner expects of the monitor now: the ways of clock and count, and what has changed in the rows.
     fn put_state(&mut self) {
         let Some(monitor) = &self.monitor else { return };
-        let (before, after) = (&self.state, State::of(monitor));
+        let (before, after) = (&self.state, State::of(monitor, &self.state));
         put_way(&mut self.bytes, before.clock, after.clock);
         put_way(&mut self.bytes, before.count, after.count);
         self.bytes.push(monitor.closed().into());
@@ -305,7 +316,10 @@ impl Vector {
         put_number(&mut self.bytes, rows.len() as u64);
         for row in rows {
             let waiting = after.waiting[row];
-            put_row(&mut self.bytes, row, after.verdicts[row], waiting, after.deadlines[row]);
+            put_row(&mut self.bytes, row, after.verdicts[row], after.causes[row], waiting, after.deadlines[row]);
+            if after.causes[row].0 > 0 {
+                self.facts.insert(format!("cause {}", after.causes[row].0));
+            }
             if waiting > 0 {
                 self.facts.insert(format!("waits {}", monitor.rows()[row].type_byte()));
             }
@@ -509,7 +523,7 @@ impl Vector {
 }
 
 /// The bytes of a row that has changed: its number, its verdict with the step of a break, what waits, and the deadline plus 1.
-fn put_row(bytes: &mut Vec<u8>, row: usize, verdict: Verdict, waiting: u64, deadline: u64) {
+fn put_row(bytes: &mut Vec<u8>, row: usize, verdict: Verdict, (cause, moment): (u8, u64), waiting: u64, deadline: u64) {
     bytes.push(row as u8);
     match verdict {
         Verdict::Open => bytes.push(0),
@@ -517,6 +531,8 @@ fn put_row(bytes: &mut Vec<u8>, row: usize, verdict: Verdict, waiting: u64, dead
         Verdict::Broken(step) => {
             bytes.push(2);
             put_number(bytes, step);
+            bytes.push(cause);
+            put_number(bytes, moment);
         }
     }
     put_number(bytes, waiting);

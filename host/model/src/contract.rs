@@ -194,7 +194,10 @@ fn in_full(step: &str) -> Vec<String> {
 
 impl Asked {
     /// The step that is asked for.
-    fn step(self) -> Step {
+    ///
+    /// # Panics
+    /// If it is a withdrawal.
+    pub fn step(self) -> Step {
         match self {
             Asked::Step(step) => step,
             _ => panic!("no step: {self:?}"),

@@ -52,6 +52,7 @@ pub use questions::{Answer, Refusal};
 pub use recording::{read_recording, recording_bytes};
 pub use report::{program_output, program_output_up_to, report, report_of, report_text, report_text_up_to};
 pub use stamps::{Stamped, Stamps, stamped, stamped_up_to};
+pub use status::Cause;
 pub use steps::{Events, History, Step};
 pub use stretches::{RECORD_LIMIT, Stretch, first_breaking, shortest_stretch, shortest_stretch_up_to};
 pub use table::{

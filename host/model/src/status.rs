@@ -6,6 +6,33 @@ use crate::monitor::{Monitor, Verdict};
 use crate::open::open;
 use crate::questions::step_questions;
 use crate::steps::Step;
+use std::fmt;
+
+/// Why a row broke, with the moment (§15.14, §15.15). It is written as in the contract: "overdue 13".
+#[derive(Clone, Copy, Debug, PartialEq, Eq)]
+pub enum Cause {
+    Overdue(u64),
+    Event(u64),
+    Close(u64),
+}
+
+impl Cause {
+    /// The number of the cause and the moment, as the calls answer them (§15.16).
+    pub fn numbers(self) -> (u8, u64) {
+        match self {
+            Cause::Overdue(moment) => (1, moment),
+            Cause::Event(moment) => (2, moment),
+            Cause::Close(moment) => (3, moment),
+        }
+    }
+}
+
+impl fmt::Display for Cause {
+    fn fmt(&self, f: &mut fmt::Formatter) -> fmt::Result {
+        let (cause, moment) = self.numbers();
+        write!(f, "{} {moment}", ["overdue", "event", "close"][usize::from(cause) - 1])
+    }
+}
 
 impl Monitor {
     /// The clock (§15.1).
@@ -51,6 +78,24 @@ impl Monitor {
             if self.open_at(row, middle) { still = middle } else { not = middle }
         }
         still
+    }
+
+    /// Why the row broke and when (§15.14, §15.15): the steps before the one that broke it are taken again.
+    pub fn row_cause(&self, row: usize) -> Option<Cause> {
+        let Ok(Verdict::Broken(step)) = self.verdict(row) else { return None };
+        let first = self.count() - self.steps().len() as u64;
+        let place = (step - first) as usize - 1;
+        let mut before = Monitor::counting_from(self.rows(), first).expect("an accepted table");
+        self.steps()[..place].iter().for_each(|step| before.step(*step).expect("a step that was taken"));
+        let breaking = self.steps()[place];
+        let clock = before.recorded().after(breaking).clock();
+        Some(if before.clock() < clock && !before.open_at(row, clock) {
+            Cause::Overdue(before.row_deadline(row))
+        } else if breaking == Step::Close {
+            Cause::Close(clock)
+        } else {
+            Cause::Event(clock)
+        })
     }
 
     /// The least of the rows' deadlines (§15.9).

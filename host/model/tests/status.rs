@@ -74,3 +74,18 @@ fn the_first_row_that_is_crowded() {
     assert_eq!(monitor.crowded_row(Step::Event { kind: 1, time: 65 }), ROW_LIMIT);
     assert_eq!(monitor.event(0, 65), Err(12));
 }
+
+/// The causes of the contract's examples (§15.17).
+#[test]
+fn causes() {
+    let text = model::contract::text();
+    for lines in model::contract::blocks(&text, "cause") {
+        let example = model::contract::example(&lines);
+        for recording in example.recordings {
+            let mut monitor = Monitor::fresh(&example.rows).expect("an accepted table");
+            recording.iter().for_each(|(asked, _)| monitor.step(asked.step()).expect("a step that is taken"));
+            let said = recording.last().and_then(|(_, said)| said.clone());
+            assert_eq!(monitor.row_cause(0).map(|cause| cause.to_string()), said, "{recording:?}");
+        }
+    }
+}

@@ -1,6 +1,9 @@
 -- A broken row stays; an overdue one breaks; the close keeps the past of one that it does not concern, and breaks it where it is not kept.
-use Rattle.row.proofs.Names.{List, [], _∙_, ap, concerns, endedState, endsBy, eq-eqb, eqb, getD, le-ltb, lt-ltb, ltb, ne-eqb, needs, not-false}
+use Rattle.row.proofs.Names.{List, [], _∙_, ap, brokenRow, concerns, endedState, endsBy}
+use Rattle.row.proofs.Names.{eq-eqb, eqb, getD, le-ltb, lt-ltb, ltb, ne-eqb, needs, not-false}
 use Rattle.row.proofs.Names.{not-true, numberWords, undoRecordOf, rowWords, parametersAt, sym, wordsOfRow, ℕ}
+use Rattle.row.proofs.Names.{Row, RowUndo, _≡_, endedRow, endedSaves, refl, savedAt}
+use Rattle.constraint.proofs.Library.{ap₂}
 use Rattle.row.proofs.stored.apply_clock.Statement.{statement}
 use Rattle.row.proofs.stored.apply_clock.Tie as tie
 
@@ -13,12 +16,15 @@ unfolding wordsOfRow rowWords numberWords endsBy
 returns c r b e = rw (ap (λ m. ltb 0 (at 19 m)) (sym e) ∙ lt-ltb _ _ (c .if1 .taken)) e
 
 returns-2 : tie.Need-returns-2
-unfolding wordsOfRow rowWords numberWords endsBy endedState
+unfolding wordsOfRow rowWords numberWords endsBy endedState brokenRow
 returns-2 c r b e =
     let i = c .before .before in let s = i .before .before in
     let goes = ap (λ m. ltb 0 (at 19 m)) (sym e) ∙ le-ltb _ _ (s .before .if1 .left) in
     let late = ap (λ m. ltb (at 17 m) (s .before .before .before .args .o .time)) (sym e) ∙ lt-ltb _ _ (i .if2 .taken) in
-    rw (goes, late) (c .break-at .ensures (r .parameters) (r .times) (r .now) (undoRecordOf b) e)
+    let o = s .before .before .before .args .o in let number = s .before .before .before .args .number in
+    let row : endedRow o number r ≡ brokenRow r (o .time) (o .closes) number = rw (goes, late) refl in
+    let saves : endedSaves o number r b ≡ savedAt r 0 number = rw (goes, late) refl in
+    c .break-for .ensures r b e ∙ ap₂ (λ (x : Row) (y : RowUndo). wordsOfRow x y) (sym row) (sym saves)
 
 returns-3 : tie.Need-returns-3
 unfolding wordsOfRow rowWords numberWords endsBy
@@ -40,7 +46,7 @@ returns-4 c r b e =
     rw (goes, early, not-false (s .before .before .before .args .o .closes) (t .if3 .left), own) e
 
 returns-5 : tie.Need-returns-5
-unfolding wordsOfRow rowWords numberWords endsBy endedState
+unfolding wordsOfRow rowWords numberWords endsBy endedState brokenRow
 returns-5 c r b e =
     let f = c .before .before in let x = f .before .before in let k = x .before in let u = k .before in let t = u .before .before in
     let j = t .before .before in let s = j .before .before in
@@ -49,8 +55,11 @@ returns-5 c r b e =
     let own = ap (λ m. concerns (parametersAt (getD m 1 [])) (s .before .before .before .args .o .kind)) (sym e)
     ∙ ap (λ w. concerns w (s .before .before .before .args .o .kind)) (sym (u .parameters-at .ensures)) ∙ sym (k .concerns .ensures) ∙ x .if4 .left in
     let unkept = ap (λ m. eqb (at 18 m) 0) (sym e) ∙ eq-eqb _ _ (f .if5 .taken) in
-    rw (goes, early, not-false (s .before .before .before .args .o .closes) (t .if3 .left), own, unkept)
-    (c .break-at2 .ensures (r .parameters) (r .times) (r .now) (undoRecordOf b) e)
+    let o = s .before .before .before .args .o in let number = s .before .before .before .args .number in
+    let closes = not-false (o .closes) (t .if3 .left) in
+    let row : endedRow o number r ≡ brokenRow r (o .time) (o .closes) number = rw (goes, early, closes, own, unkept) refl in
+    let saves : endedSaves o number r b ≡ savedAt r 0 number = rw (goes, early, closes, own) refl in
+    c .break-for2 .ensures r b e ∙ ap₂ (λ (x : Row) (y : RowUndo). wordsOfRow x y) (sym row) (sym saves)
 
 returns-6 : tie.Need-returns-6
 unfolding wordsOfRow rowWords numberWords endsBy endedState

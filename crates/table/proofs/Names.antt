@@ -21,7 +21,7 @@ pub use Rattle.table_row.specs.{Tables.rowsOf, declared.Table.Table, declared.T
 pub use Rattle.constraint.specs.Accepted.{Accepted, AcceptedIn, rowQuestions, rowQuestionsIn}
 pub use Rattle.constraint.specs.Bytes.{bytesAt, bytesOf}
 pub use Rattle.constraint.specs.Records.{Decides, filler}
-pub use Rattle.constraint.specs.Table.{ReadsRows, ReadsTableUpTo, RowAt, Same, ShapeFits, StandsFor, TableRead, FieldsFit, VersionUpTo, WholeAt}
+pub use Rattle.constraint.specs.Table.{ReadsRows, ReadsTableUpTo, RowAt, Same, ShapeFits, StandsFor, TableRead, VersionUpTo, WholeAt}
 pub use Rattle.constraint.specs.Table.{bodyAt, lengthAt, no-more, row-refused, row-taken, rowThen, table-of, table-refused, version-refused}
 pub use Rattle.constraint.specs.Table.{version-taken, writerQuestions}
 pub use Rattle.constraint.specs.Types.{TypeKnown, countOf, lastType, lengthOf, typeOf}

@@ -705,14 +705,14 @@ static inline const char *delkuthi_refusal_text(uint8_t number)
     case DELKUTHI_ROW_TOO_MANY:
         return "the table has more than 32 rows";
     case DELKUTHI_ROW_SHAPE:
-        return "a row has no type of the table's edition, no known n, or the "
-               "wrong length";
+        return "a row has no type of the table's edition, no known n or "
+               "operator, or the wrong length";
     case DELKUTHI_ROW_KINDS:
         return "a row has a kind above 63, or one kind twice";
     case DELKUTHI_ROW_RANGE:
         return "a row has a time, span or maximum out of range";
     case DELKUTHI_ROW_BOUNDS:
-        return "a row has a lower that is more than its upper";
+        return "a row has times that are not in order, or a false comparison";
     case DELKUTHI_CLOSED:
         return "the recording is closed";
     case DELKUTHI_KIND:

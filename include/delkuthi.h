@@ -705,14 +705,14 @@ static inline const char *delkuthi_refusal_text(uint8_t number)
     case DELKUTHI_ROW_TOO_MANY:
         return "the table has more than 32 rows";
     case DELKUTHI_ROW_SHAPE:
-        return "a row has no type of the table's edition, no known n, or the "
-               "wrong length";
+        return "a row has no type of the table's edition, no known n or "
+               "operator, or the wrong length";
     case DELKUTHI_ROW_KINDS:
         return "a row has a kind above 63, or one kind twice";
     case DELKUTHI_ROW_RANGE:
         return "a row has a time, span or maximum out of range";
     case DELKUTHI_ROW_BOUNDS:
-        return "a row has a lower that is more than its upper";
+        return "a row has times that are not in order, or a false comparison";
     case DELKUTHI_CLOSED:
         return "the recording is closed";
     case DELKUTHI_KIND:
@@ -1107,7 +1107,8 @@ static inline delkuthi_long_row delkuthi_as_long(delkuthi_row given)
 
 /*
  * Puts a row behind the first `length` bytes of a table, with its length field.
- * The table then has edition 2. A table of no rows is one byte, its version.
+ * The table then has edition 2 if the row needs it. A table of no rows is one
+ * byte, its version.
  *
  * Returns the new length of the table, or 0 if the buffer is too short; then
  * it stays as it was. Nothing is asked about the row: delkuthi_fresh_2 and the
@@ -1123,7 +1124,8 @@ static inline size_t delkuthi_put_row(uint8_t *table, size_t table_length,
 
     if (length > table_length || table_length - length < 2 + row->length)
         return 0;
-    table[0] = 2;
+    if (row->body[0] > DELKUTHI_FIRST_EDITION_TYPES)
+        table[0] = 2;
     table[length] = DELKUTHI_LOW(row->length >> 8, 255);
     table[length + 1] = DELKUTHI_LOW(row->length, 255);
     for (i = 0; i < row->length; i++)

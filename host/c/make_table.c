@@ -124,6 +124,7 @@ static uint64_t make_long(const delkuthi_long_row *rows, size_t count,
     size_t used = 1, place = 1, i;
     uint64_t answer;
 
+    made[0] = 1;
     for (i = 0; i < count && used; i++)
         used = delkuthi_put_row(made, sizeof made, used, &rows[i]);
     answer = delkuthi_fresh_2(&monitor, made, used);

@@ -139,7 +139,7 @@ ROWS = [
      ['"x" Delay a -> b, 1 ms .. 2 ms'], None),
     ("OFFSET-TIMING-CONSTRAINT", [event("a", "SOURCE-REF"), event("b", "TARGET-REF")], ['"x" Delay a -> b, 0 .. none'], None),
     ("OFFSET-TIMING-CONSTRAINT", [event("a", "SOURCE-REF"), event("b", "TARGET-REF"), time("MINIMUM", 3 * MS), time("MAXIMUM", 2 * MS)], [],
-     "Delay, lower: a row has a lower that is more than its upper (refused with 7): found 3 ms above 2 ms"),
+     "Delay, lower: a row has times that are not in order, or a false comparison (refused with 7): found 3 ms above 2 ms"),
     ("OFFSET-TIMING-CONSTRAINT", [event("a", "SOURCE-REF"), event("a", "TARGET-REF")], [], "or one kind twice (refused with 5)"),
     ("EXECUTION-ORDER-CONSTRAINT", [ordered("a", "b", "c")], ['"x (1)" Order a -> b', '"x (2)" Order b -> c'], None),
     ("EXECUTION-ORDER-CONSTRAINT", [element("EXECUTION-ORDER-CONSTRAINT-TYPE", "ORDINARY-EOC"), executed("Run", "Walk")],

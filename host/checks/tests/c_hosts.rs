@@ -1,5 +1,5 @@
 //! The header and the archive in C and C++: hosts compiled at -O0 and -O2, run, and run under valgrind.
-//! Clauses: §3.4, §3.5, §9.7, §9.8, §11.1 to §11.6.
+//! Clauses: §3.4, §3.5, §9.7, §9.8, §9.12, §11.1 to §11.6.
 
 use checks::hosts::{
     Host, Ran, c_compiler, c_host, c_host_alone, c_host_with_header, compile_with, cpp_compiler, cpp_host, cpp17_host,
@@ -308,7 +308,11 @@ fn tables_made_in_c() {
     let (mut given, mut expected) = (String::new(), String::new());
     for turn in 0..1_500 {
         let rows = if turn % 3 == 0 { any_table(&mut random) } else { damaged_rows(&mut random) };
-        let length = if turn % 2 == 0 { delkuthi::TABLE_LIMIT } else { random.place(600) };
+        let length = match turn % 20 {
+            0 => delkuthi::TABLE_LIMIT,
+            even if even % 2 == 0 => 1_200,
+            _ => random.place(600),
+        };
         let (tables, printed) = made(&rows, length, &mut seen);
         given += &tables;
         expected += &printed;

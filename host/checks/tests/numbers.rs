@@ -113,6 +113,7 @@ fn refusals() -> BTreeMap<String, u64> {
         ("CLOSED", question("closed steps ")),
         ("COUNT_FULL", question("length steps < lastCount)")),
         ("NOTHING_TO_WITHDRAW", question("left .may ")),
+        ("OTHER_STEP", question("length (left .steps) ≡ step)")),
         ("KIND", question("k ≤ lastKind)")),
         ("FORM", question("k < firstColoured)")),
         ("TIME_RANGE", question("t ≤ lastTime)")),
@@ -158,6 +159,7 @@ fn every_number_of_the_header_is_the_crates() {
         "TABLE_STACK",
         "MONITOR_STACK",
         "STEP_STACK",
+        "TAKE_STACK",
     ]
     .map(String::from);
     let known: BTreeSet<String> = defined.keys().cloned().chain(measured).collect();
@@ -167,7 +169,7 @@ fn every_number_of_the_header_is_the_crates() {
 #[test]
 fn every_limit_of_the_manual_is_the_headers() {
     let header = Header::read();
-    assert_eq!(header.limits.len(), 18, "{:?}", header.limits);
+    assert_eq!(header.limits.len(), 19, "{:?}", header.limits);
     for (name, limit) in &header.limits {
         assert_eq!(header.defined.get(name), Some(limit), "{name}");
     }
@@ -303,10 +305,11 @@ fn the_places_of_words_are_the_crates() {
     assert_eq!(words::past(1), of_row("UNDO_LAST")..of_row("UNDO_STEP") + 1);
 }
 
-/// A row for the writer has as many bytes as the longest row, in the header, in the Rust crate and in the definitions.
+/// A row for the writer has as many bytes in the header, in the Rust crate and in the definitions, and so has the longest row.
 #[test]
 fn the_size_of_a_row_is_the_same_everywhere() {
-    let size = longest_row();
+    assert_eq!(longest_row(), constant("host/delkuthi/src/table.rs", "LONGEST"));
+    let size = model::limits::SHORT_ROW as u64;
     assert_eq!(size, number_between(&Header::read().text, "uint8_t body[", "]"));
     assert_eq!(size, constant("host/delkuthi/src/table.rs", "ROW_SIZE"));
     assert_eq!(size, number_between(&text("crates/table/specs/Raw.antt"), "\nrawSize = ", "\n"));

@@ -38,7 +38,11 @@ fn block_vectors(block: &Block) -> Vec<Vector> {
 
 fn example_vectors(block: &Block) -> Vec<Vector> {
     let example = example(&block.lines);
-    example.recordings.iter().map(|recording| played(&example.rows, recording.iter().map(|(asked, _)| *asked))).collect()
+    example
+        .recordings
+        .iter()
+        .map(|recording| played(&example.rows, recording.iter().map(|(asked, _)| *asked)))
+        .collect()
 }
 
 /// A vector of steps and withdrawals over rows, with the page before the close and after, and reports.

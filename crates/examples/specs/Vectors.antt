@@ -289,7 +289,7 @@ output-synchronizations =
     (ColouredEvent 48 1 5 ∷ ColouredEvent 48 2 5 ∷ ColouredEvent 49 1 6 ∷ ColouredEvent 50 2 7 ∷ ColouredEvent 50 1 8
     ∷ ColouredEvent 49 2 9 ∷ Close ∷ []) Kept
     -- four kinds of responses, in any order
-    ∷ reads fourResponses (ColouredEvent 48 7 5 ∷ ColouredEvent 52 7 20 ∷ ColouredEvent 50 7 21 ∷ ColouredEvent 49 7 22 ∷ Tick 22 ∷ []) Open
+    ∷ reads fourResponses (ColouredEvent 48 7 5 ∷ ColouredEvent 52 7 20 ∷ ColouredEvent 50 7 21 ∷ ColouredEvent 49 7 22 ∷ []) Open
     ∷ reads fourResponses
     (ColouredEvent 48 7 5 ∷ ColouredEvent 52 7 20 ∷ ColouredEvent 50 7 21 ∷ ColouredEvent 49 7 22 ∷ ColouredEvent 51 7 22 ∷ Close ∷ []) Kept
     ∷ reads fourResponses

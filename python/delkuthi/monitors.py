@@ -5,7 +5,7 @@ from array import array
 from itertools import chain, compress
 from typing import Iterable, Sequence
 
-from .batches import OTHER, Codes, NeedsSlowPath, Records, rising
+from .batches import Codes, NeedsSlowPath, Records, rising
 from .library import Refused
 from .monitor import Monitor, Verdict
 from .signals import signal

@@ -599,14 +599,14 @@ static inline uint64_t delkuthi_answer_row(uint64_t answer)
 
 static inline size_t delkuthi_answer_length(uint64_t answer)
 {
-    return delkuthi_answer_number(answer) == DELKUTHI_TAKEN
+    return (delkuthi_answer_number(answer) == DELKUTHI_TAKEN)
                ? DELKUTHI_LENGTH(answer)
                : 0;
 }
 
 static inline uint64_t delkuthi_answer_word(uint64_t answer)
 {
-    return delkuthi_answer_number(answer) == DELKUTHI_TAKEN
+    return (delkuthi_answer_number(answer) == DELKUTHI_TAKEN)
                ? DELKUTHI_WORD(answer)
                : 0;
 }

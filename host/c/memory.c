@@ -56,6 +56,7 @@ static void calls(delkuthi_monitor *monitor)
     uint8_t page[DELKUTHI_PAGE_LIMIT];
     int i;
 
+    memset(page, 1, sizeof page);
     for (i = 0; i < 16; i++) {
         uint64_t time = number() >> (number() % 64);
 

@@ -20,4 +20,6 @@ returns-4 c =
     (omega arith, simp (lt-ltb _ _ (above-zero _ (c .before .before .if1 .left)), ne-eqb _ _ (c .before .if2 .left), ne-eqb _ _ (c .if3 .left)))
 
 pub cause-by-spec : {M : Type 1} → statement M
-cause-by-spec = tie.close (tie.spec (λ c. (omega arith, simp (le-ltb 0 (c .before .args .broken) (omega (arith, c .if1 .taken))))) returns-2 returns-3 returns-4)
+cause-by-spec =
+    tie.close (tie.spec (λ c. (omega arith, simp (le-ltb 0 (c .before .args .broken) (omega (arith, c .if1 .taken))))) returns-2 returns-3
+    returns-4)

@@ -349,7 +349,7 @@ fn one_of_each() -> Vec<Constraint> {
     };
     let mut random = Random::new(409);
     let later = types_in(NEWEST_EDITION).into_iter().filter(|one| !types_in(1).contains(one));
-    let later = later.flat_map(|one| [one; 3]).map(|one| row_of_type(&mut random, one, Scale::Patient, &[0, 1, 2, 3]));
+    let later = later.flat_map(|one| [one; 2]).map(|one| row_of_type(&mut random, one, Scale::Patient, &[0, 1, 2, 3]));
     let rows = [
         Constraint::Delay(Delay { source: 0, target: 1, lower: 2, upper: 30 }),
         Constraint::Delay(Delay { source: 0, target: 1, lower: 2, upper: NO_LIMIT }),

@@ -13,6 +13,7 @@ pub mod Printing
 pub mod RecordNumbers
 mod WrittenRecords
 pub mod Refusals
+pub mod Adding
 pub mod JoinNumbers
 pub mod StampWords
 pub mod Decoded

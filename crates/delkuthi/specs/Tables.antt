@@ -5,7 +5,9 @@ use mathlib.Core.Bool.{cond}
 use mathlib.Core.List.{List}
 use lib.Dec.{eqb}
 use Rattle.table.specs.Raw.{FirstRefused, WritesRaw}
+use Rattle.table.specs.Appending.{AddsRow}
 use Rattle.table.specs.declared.WriteAnswer.{WriteAnswer}
+use Rattle.table.specs.declared.append.AddAnswer.{AddAnswer}
 
 -- §11.5: 256 times the number of bytes written; or 256 times the row and the refusal's number, and 16 alone
 abbrev pub tableNumber : WriteAnswer → ℕ → ℕ
@@ -24,3 +26,15 @@ pub record MakesTableIn (edition : ℕ) (bytes before : List ℕ) (number : ℕ)
 -- §11.5: in the first edition
 abbrev pub MakesTable : List ℕ → List ℕ → ℕ → List ℕ → Type 0
 MakesTable = MakesTableIn 1
+
+-- §9.12, §11.5: 256 times the length of the table with the row more; or 256 times the place of the refusal, and its number
+abbrev pub addNumber : AddAnswer → ℕ
+addNumber (AddAnswer.Added n) = n * 256
+addNumber (AddAnswer.Refused n place) = place * 256 + n
+
+-- §9.12, §11.5: the number of what adding a row gives; it tells a refusal from a table, as a refusal has a number from 1 to 255
+pub record AddsNumbered (before : List ℕ) (size : ℕ) (body : List ℕ) (number : ℕ) (after : List ℕ) : Type 0 where
+  pub answer : AddAnswer
+  pub adds : AddsRow before size body answer after
+  pub equals : number ≡ addNumber answer
+  pub small : (n place : ℕ) → answer ≡ AddAnswer.Refused n place → (0 < n) × (n < 256)

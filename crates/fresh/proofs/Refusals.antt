@@ -33,23 +33,28 @@ row-number edition bytes i place n c judged =
     number-above (placeQuestions edition bytes i place c) n
     (omega arith, (omega arith, (omega arith, (omega arith, (omega arith, (omega arith, (omega arith, tt))))))) judged
 
--- a refusal from a place on, with i rows before
-abbrev SmallBehind : ℕ → ℕ → TableRead → Type 0
-SmallBehind i start (table-of rows) = Unit {0}
-SmallBehind i start (table-refused n place) = (0 < n) × (place ≤ start + 164 * (rowLimit - i))
+-- what is read from a place on, with i rows before: the end of the bytes is close, or the place of the refusal is
+abbrev SmallBehind : List ℕ → ℕ → ℕ → TableRead → Type 0
+SmallBehind bytes i start (table-of rows) = length bytes ≤ start + 164 * (rowLimit - i)
+SmallBehind bytes i start (table-refused n place) = (0 < n) × (place ≤ start + 164 * (rowLimit - i))
 
-small-more : (i start size : ℕ) (c : Constraint) (later : TableRead) → i < rowLimit → size ≤ 162
-    → SmallBehind (i + 1) (start + 2 + size) later → SmallBehind i start (rowThen c later)
-small-more i start size c (table-of rows) room short small = tt
-small-more i start size c (table-refused n place) room short small = (small .0, omega (arith, small .1))
+small-more : (bytes : List ℕ) (i start size : ℕ) (c : Constraint) (later : TableRead) → i < rowLimit → size ≤ 162
+    → SmallBehind bytes (i + 1) (start + 2 + size) later → SmallBehind bytes i start (rowThen c later)
+small-more bytes i start size c (table-of rows) room short small = omega (arith, small)
+small-more bytes i start size c (table-refused n place) room short small = (small .0, omega (arith, small .1))
 
-rows-small : {edition : ℕ} (bytes : List ℕ) {i start : ℕ} {read : TableRead} → ReadsRows edition bytes i start read → SmallBehind i start read
-rows-small bytes (no-more end) = tt
+rows-small : {edition : ℕ} (bytes : List ℕ) {i start : ℕ} {read : TableRead} → ReadsRows edition bytes i start read
+    → SmallBehind bytes i start read
+rows-small bytes (no-more end) = omega (arith, end)
 rows-small {edition} bytes (row-refused {i} {place} n c there at-c judged) = (row-number edition bytes i place n c judged, omega arith)
 rows-small {edition} bytes (row-taken {i} {place} {later} c there at-c judged reads) =
     let short = row-short edition bytes i place c judged in
-    small-more i place (lengthAt bytes place) c later (short .0) (short .1) (rows-small bytes reads)
+    small-more bytes i place (lengthAt bytes place) c later (short .0) (short .1) (rows-small bytes reads)
 
 pub refused-small : {newest : ℕ} (bytes : List ℕ) (n place : ℕ) → ReadsTableUpTo newest bytes (table-refused n place) → (0 < n) × (place ≤ 5249)
 refused-small bytes n place (version-refused one) = (omega arith, omega arith)
 refused-small bytes n place (version-taken one reads) = rows-small bytes reads
+
+-- and bytes that are read as a table are short
+pub accepted-small : {newest : ℕ} (bytes : List ℕ) (rows : List Constraint) → ReadsTableUpTo newest bytes (table-of rows) → length bytes ≤ 5249
+accepted-small bytes rows (version-taken one reads) = rows-small bytes reads

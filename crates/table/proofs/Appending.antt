@@ -4,13 +4,14 @@ use Rattle.table.proofs.Names.{AcceptedIn, Answer, Bytes, Constraint, J
 use Rattle.table.proofs.Names.{TypeKnown, [], _++_, _+_, _<_, _∙_, _∷_, _≡_, _≤_, ap, append-assoc, ap₂, arith, at, bytes-length, bytesOf}
 use Rattle.table.proofs.Names.{countOf, drop, getD-take, judged-all, judged-first, judged-later, judged-no, judged-none, judged-parts}
 use Rattle.table.proofs.Names.{judged-yes, lastType, length, length-append, length-take, ltb, ltb-false, refl, row-stands, rowBody}
+use Rattle.table.proofs.Names.{length-drop, never, take-at}
 use Rattle.table.proofs.Names.{rowBytes, rowFrom, rowIn, rowLimit, rowQuestionsIn, rows-taken, rowsBytes, rowsQuestions, sets}
 use Rattle.table.proofs.Names.{split, stands-known, subst, suc, sym, table-of, tableBytesIn, take, take-all, typeOf, version-taken, zero, ℕ}
 use Rattle.constraint.proofs.Editions.{accepted-later}
 use Rattle.constraint.proofs.Library.{append-nil, by-cases, cond, decLt, min, sets-eq, suc-add}
 use Rattle.table.proofs.AcceptedRows.{read-accepted}
 use Rattle.table.proofs.RoundTrip.{read-then-write, write-then-read}
-use Rattle.table.specs.Appending.{AddsRow, AddsTo, addQuestions, bodyQuestions, editionWith, row-right, row-wrong, withRow}
+use Rattle.table.specs.Appending.{AddsRow, AddsTo, Grown, addQuestions, bodyQuestions, editionWith, row-right, row-wrong, withRow}
 use Rattle.table.specs.declared.append.AddAnswer.{AddAnswer}
 
 -- ---- bytes
@@ -160,7 +161,11 @@ module _ (before : List ℕ) (size place : ℕ) (body : List ℕ) (is : place �
   pub adds-none : (number p : ℕ) → AddsTo first body (length before) (AddAnswer.Refused number p)
       → AddsRow before size body (AddAnswer.Refused number p) before
   adds-none number p adds =
-      record { answer = subst (λ (t : List ℕ). AddsTo t body (length before) (AddAnswer.Refused number p)) part adds; buffer = refl }
+      record {
+        answer = subst (λ (t : List ℕ). AddsTo t body (length before) (AddAnswer.Refused number p)) part adds;
+        buffer = refl;
+        grown = λ n e. never (cc);
+      }
 
   -- a table that is read has a version byte, and the buffer has room
   version-there : (rows : List Constraint) → ReadsTableUpTo 2 first (table-of rows) → 0 < length first
@@ -175,10 +180,30 @@ module _ (before : List ℕ) (size place : ℕ) (body : List ℕ) (is : place �
     refl,
   )
 
+  -- the first n bytes are then the table with the row more
+  all-first : Bytes before → Bytes first
+  unfolding Bytes
+  all-first all i h =
+      let low : i < place = omega (arith, h, length-take place before) in
+      let high : i < length before = omega (arith, h, length-take place before) in
+      subst (λ (x : ℕ). x < 256) (sym (getD-take place before i 0 low)) (all i high)
+
+  read-back : (n : ℕ) (after : List ℕ) → Bytes before → take n after ≡ withRow first body → AddsTo first body (length before) (AddAnswer.Added n)
+      → Grown before size body n after
+  read-back n after all is-table (row-right rows c reads stands judged) =
+      record {
+        rows = rows;
+        row = c;
+        were = subst (λ (t : List ℕ). ReadsTableUpTo 2 t (table-of rows)) part reads;
+        stands = stands;
+        are = subst (λ (t : List ℕ). ReadsTableUpTo 2 t (table-of (rows ++ (c ∷ [])))) (sym is-table)
+            (added-reads first body rows c reads stands (all-first all) (length first) (length before) judged);
+      }
+
   pub adds-one : (n : ℕ) (after : List ℕ) → AddsTo first body (length before) (AddAnswer.Added n)
       → after ≡ sets (sets before 0 (editionWith (at before 0) (at body 0) ∷ [])) place (bytesOf 2 (length body) ++ body)
-      → AddsRow before size body (AddAnswer.Added n) after
-  adds-one n after adds stored =
+      → Bytes before → AddsRow before size body (AddAnswer.Added n) after
+  adds-one n after adds stored all =
       let (some, room, count) = has-room n adds in
       let edition = editionWith (at before 0) (at body 0) in
       let row = bytesOf 2 (length body) ++ body in
@@ -187,10 +212,15 @@ module _ (before : List ℕ) (size place : ℕ) (body : List ℕ) (is : place �
       length-append (bytesOf 2 (length body)) body ∙ ap (λ (k : ℕ). k + length body) (bytes-length 2 (length body)) in
       let end : length first + length row ≡ n = omega (arith, row-long, count) in
       let version : at before 0 ≡ at first 0 = sym (getD-take place before 0 0 (omega (arith, some, long))) in
+      let written : after ≡ withRow first body ++ drop n before =
+      stored ∙ ap (λ (k : ℕ). sets (sets before 0 (edition ∷ [])) k row) (sym long)
+      ∙ stores-row edition row before place some (omega (arith, row-long, room))
+      ∙ ap₂ (λ (v : ℕ) (k : ℕ). (editionWith v (at body 0) ∷ drop 1 first ++ row) ++ drop k before) version end in
+      let table-long : length (withRow first body) ≡ n =
+      omega (arith, length-append (drop 1 first) row, length-drop 1 first, row-long, count, some) in
+      let is-table : take n after ≡ withRow first body = ap (take n) written ∙ take-at (withRow first body) (drop n before) n table-long in
       record {
         answer = subst (λ (t : List ℕ). AddsTo t body (length before) (AddAnswer.Added n)) part adds;
-        buffer = stored ∙ ap (λ (k : ℕ). sets (sets before 0 (edition ∷ [])) k row) (sym long)
-            ∙ stores-row edition row before place some (omega (arith, row-long, room))
-            ∙ ap₂ (λ (v : ℕ) (k : ℕ). (editionWith v (at body 0) ∷ drop 1 first ++ row) ++ drop k before) version end
-            ∙ ap (λ (t : List ℕ). withRow t body ++ drop n before) part;
+        buffer = written ∙ ap (λ (t : List ℕ). withRow t body ++ drop n before) part;
+        grown = λ m e. let same : n ≡ m = cc in subst (λ (k : ℕ). Grown before size body k after) same (read-back n after all is-table adds);
       }

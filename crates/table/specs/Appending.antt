@@ -47,7 +47,16 @@ abbrev pub addedTo : List ℕ → List ℕ → List ℕ → AddAnswer → List �
 addedTo before table body (AddAnswer.Added n) = withRow table body ++ drop n before
 addedTo before table body (AddAnswer.Refused number place) = before
 
+-- §9.12: a table with a row more: the rows that were read before, the row that the body stands for, and both read from the first n bytes after it
+pub record Grown (before : List ℕ) (size : ℕ) (body : List ℕ) (n : ℕ) (after : List ℕ) : Type 0 where
+  pub rows : List Constraint
+  pub row : Constraint
+  pub were : ReadsTableUpTo 2 (take size before) (table-of rows)
+  pub stands : StandsFor body row
+  pub are : ReadsTableUpTo 2 (take n after) (table-of (rows ++ (row ∷ [])))
+
 -- §9.12: the promise of adding a row to the table in the first bytes of a buffer, `size` of them
 pub record AddsRow (before : List ℕ) (size : ℕ) (body : List ℕ) (r : AddAnswer) (after : List ℕ) : Type 0 where
   pub answer : AddsTo (take size before) body (length before) r
   pub buffer : after ≡ addedTo before (take size before) body r
+  pub grown : (n : ℕ) → r ≡ AddAnswer.Added n → Grown before size body n after

@@ -1,8 +1,13 @@
 -- The first bytes of the buffer are judged with the body, and the row is stored behind them.
-use Rattle.table.proofs.Names.{arith, length-take, needs, now}
+use Rattle.table.proofs.Names.{Bytes, arith, length-take, needs, now}
 use Rattle.table.proofs.Appending.{adds-none, adds-one}
 use Rattle.table.proofs.append.add_row.Statement.{statement}
 use Rattle.table.proofs.append.add_row.Tie as tie
+
+-- a slice of bytes holds bytes
+each : (c : tie.After-slice-known) → Bytes (now (c .before .args .buffer))
+unfolding Bytes
+each c i h = omega (arith, c .slice-known .given i)
 
 slice-aggregate-answer : tie.Need-slice-aggregate-answer
 slice-aggregate-answer c =
@@ -23,7 +28,7 @@ returns-2 c =
     let at-put = c .before .before in let at-count = at-put .before .before .before in let at-answer = at-count .before .before in
     let at-place = at-answer .before .before in let a = at-place .before .before .before .args in
     adds-one (now (a .buffer)) (a .size) (at-place .within .result) (now (a .body)) (at-place .within .ensures) _ _
-    (rw (at-count .count .given .1) at (at-answer .answer .ensures)) (at-put .put-row .ensures)
+    (rw (at-count .count .given .1) at (at-answer .answer .ensures)) (at-put .put-row .ensures) (each (at-place .before .before))
 
 pub add-row-spec : {M : Type 1} → statement M
 add-row-spec =

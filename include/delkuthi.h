@@ -1131,6 +1131,27 @@ static inline size_t delkuthi_put_row(uint8_t *table, size_t table_length,
     return length + 2 + row->length;
 }
 
+/*
+ * Adds a row of any length to a table, and asks the questions that reading the
+ * table would ask. `table` is a buffer of table_length bytes; its first
+ * `length` bytes are a table of edition 1 or 2. A table of no rows is one
+ * byte, its version. `body` is the row: its type and its fields, without a
+ * length field, as in the body of a delkuthi_long_row.
+ *
+ * If DELKUTHI_NUMBER of the answer is DELKUTHI_TAKEN, DELKUTHI_LENGTH is the
+ * length of the table with the row. The version becomes 2 if the table's
+ * edition does not have the row's type. Bytes behind the row stay as they
+ * were.
+ *
+ * Otherwise the call is refused and the buffer stays as it was. If the table
+ * is refused, number and place are those of delkuthi_fresh_2. If the row is
+ * refused, with 3 to 7 or 18 or with DELKUTHI_TABLE_ROOM, the place is
+ * `length`.
+ */
+DELKUTHI_CHECKED DELKUTHI_NONNULL
+uint64_t delkuthi_add_row(uint8_t *table, size_t table_length, size_t length,
+                          const uint8_t *body, size_t body_length);
+
 /* The table writer; rows_size is in bytes. Call delkuthi_make_table instead. */
 DELKUTHI_CHECKED DELKUTHI_NONNULL
 uint64_t delkuthi_table(const delkuthi_row *rows, size_t rows_size,

@@ -16,6 +16,9 @@ use Rattle.constraint.specs.Constraint.{Delay, Repeat}
 use Rattle.constraint.specs.declared.Verdict.{Verdict}
 use Rattle.constraint.specs.declared.Verdict.the-variants.{Open, Kept, Broken}
 use Rattle.constraint.proofs.Lists.{both}
+use Rattle.examples.specs.Vectors.{patterns, arbitraries, comparisons}
+use Rattle.patterns.specs.Pattern.{decidePattern, laterPattern, placedIn, decideInWords as decidePatternWords}
+use Rattle.repeat_burst.specs.Arbitrary.{decideArbitrary, lateEnough, dueAfter, decideInWords as decideArbitraryWords}
 use Rattle.row.specs.Machine.{rowOf, brokenRow, applied, changedRow, rowStep, rowVerdict}
 use Rattle.ring.specs.Ring.{ring, pushRing, putRing, putBack}
 use Rattle.row.specs.Undo.{movesBy, stepPlace, savedBy, backRow, rowWithout, keptWithout}
@@ -188,6 +191,37 @@ input-synchronizations-hold = all-read input-synchronizations (chains-computed .
 -- §5.11 to §5.11.5
 pub synchronizations-hold : AllRead synchronizations
 synchronizations-hold = all-read synchronizations (all-computed .7)
+
+-- ---- rows with offsets and pairs, and a row of no kind
+
+patterns-computed : allCompute patterns ≡ true
+unfolding allCompute computes playOf sameAnswers isVerdict play rowOf brokenRow applied changedRow rowStep rowVerdict ring pushRing putRing putBack
+    movesBy stepPlace savedBy backRow rowWithout keptWithout monitorOf mapFirst zipFirst anyFirst takenCall stepOf withdrawn withdrawOf verdictOf
+    decidePattern laterPattern placedIn decidePatternWords
+patterns-computed = refl
+
+arbitraries-computed : allCompute arbitraries ≡ true
+unfolding allCompute computes playOf sameAnswers isVerdict play rowOf brokenRow applied changedRow rowStep rowVerdict ring pushRing putRing putBack
+    movesBy stepPlace savedBy backRow rowWithout keptWithout monitorOf mapFirst zipFirst anyFirst takenCall stepOf withdrawn withdrawOf verdictOf
+    decideArbitrary lateEnough dueAfter decideArbitraryWords
+arbitraries-computed = refl
+
+comparisons-computed : allCompute comparisons ≡ true
+unfolding allCompute computes playOf sameAnswers isVerdict play rowOf brokenRow applied changedRow rowStep rowVerdict ring pushRing putRing putBack
+    movesBy stepPlace savedBy backRow rowWithout keptWithout monitorOf mapFirst zipFirst anyFirst takenCall stepOf withdrawn withdrawOf verdictOf
+comparisons-computed = refl
+
+-- §5.15
+pub patterns-hold : AllRead patterns
+patterns-hold = all-read patterns patterns-computed
+
+-- §5.16
+pub arbitraries-hold : AllRead arbitraries
+arbitraries-hold = all-read arbitraries arbitraries-computed
+
+-- §5.17
+pub comparisons-hold : AllRead comparisons
+comparisons-hold = all-read comparisons comparisons-computed
 
 -- ---- a table of two rows
 

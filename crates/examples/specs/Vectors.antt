@@ -4,6 +4,7 @@ use Prim.Native.Nat.{ℕ, zero, suc, _+_, _-_, _^_}
 use mathlib.Core.List.{List, [], _∷_, _++_}
 use lib.ListN.{replicate}
 use Rattle.constraint.specs.Limits.{lastTime, noLimit}
+use Rattle.constraint.specs.Constraint.{Pattern, Arbitrary, Comparison}
 use Rattle.constraint.specs.Examples.{Example, reads}
 use Rattle.constraint.specs.declared.Answer.{Answer}
 use Rattle.constraint.specs.declared.Answer.the-variants.{Taken, Refused}
@@ -177,6 +178,103 @@ long-clocks =
     ∷ reads (Sporadic 0 lastTime lastTime 0 0) (Event 0 0 ∷ Event 0 lastTime ∷ Close ∷ []) Kept
     ∷ reads (Sporadic 0 lastTime lastTime 0 0) (Event 0 1 ∷ Event 0 lastTime ∷ []) (Broken 2)
     ∷ reads (ExecutionTime 0 1 2 3 0 lastTime) (Event 0 (lastTime - 1) ∷ Event 1 lastTime ∷ Close ∷ []) Kept
+    ∷ []
+
+-- §5.15: Patterns of one kind: period, jitter, minimum, offsets
+abbrev pub patterns : List Example
+patterns =
+    -- figure 2.16 of the language's definition, in tenths: all events hang on one start
+    reads (Pattern 0 50 5 5 (10 ∷ 20 ∷ 25 ∷ []))
+    (Event 0 12 ∷ Event 0 22 ∷ Event 0 28 ∷ Event 0 60 ∷ Event 0 70 ∷ Event 0 80 ∷ Event 0 115 ∷ Event 0 120 ∷ Event 0 125 ∷ Close ∷ []) Kept
+    ∷ reads (Pattern 0 50 5 5 (10 ∷ 20 ∷ 25 ∷ []))
+    (Event 0 12 ∷ Event 0 22 ∷ Event 0 28 ∷ Event 0 60 ∷ Event 0 70 ∷ Event 0 80 ∷ Event 0 116 ∷ []) (Broken 7)
+    -- two events in each group; a group may be begun at the close
+    ∷ reads (Pattern 0 10 1 0 (0 ∷ 3 ∷ [])) (Event 0 5 ∷ Event 0 8 ∷ Close ∷ []) Kept
+    ∷ reads (Pattern 0 10 1 0 (0 ∷ 3 ∷ [])) (Event 0 5 ∷ Close ∷ []) Kept
+    ∷ reads (Pattern 0 10 1 0 (0 ∷ 3 ∷ [])) (Event 0 5 ∷ Tick 9 ∷ []) Open
+    ∷ reads (Pattern 0 10 1 0 (0 ∷ 3 ∷ [])) (Event 0 5 ∷ Tick 9 ∷ Tick 10 ∷ []) (Broken 3)
+    ∷ reads (Pattern 0 10 1 0 (0 ∷ 3 ∷ [])) (Event 0 5 ∷ Event 0 9 ∷ Event 0 15 ∷ []) Open
+    ∷ reads (Pattern 0 10 1 0 (0 ∷ 3 ∷ [])) (Event 0 5 ∷ Event 0 9 ∷ Event 0 16 ∷ []) Open
+    ∷ reads (Pattern 0 10 1 0 (0 ∷ 3 ∷ [])) (Event 0 5 ∷ Event 0 9 ∷ Event 0 14 ∷ []) (Broken 3)
+    ∷ reads (Pattern 0 10 1 0 (0 ∷ 3 ∷ [])) (Event 0 5 ∷ Event 0 9 ∷ Event 0 17 ∷ []) (Broken 3)
+    ∷ reads (Pattern 0 10 1 0 (0 ∷ 3 ∷ [])) (Event 0 5 ∷ Event 0 8 ∷ Tick 16 ∷ []) Open
+    ∷ reads (Pattern 0 10 1 0 (0 ∷ 3 ∷ [])) (Event 0 5 ∷ Event 0 8 ∷ Tick 17 ∷ []) (Broken 3)
+    -- the start is not below 0
+    ∷ reads (Pattern 0 10 0 0 (4 ∷ 6 ∷ [])) (Event 0 4 ∷ Event 0 6 ∷ Close ∷ []) Kept
+    ∷ reads (Pattern 0 10 0 0 (4 ∷ 6 ∷ [])) (Event 0 3 ∷ []) (Broken 1)
+    ∷ reads (Pattern 0 3 0 0 (1 ∷ 2 ∷ [])) (Event 0 0 ∷ []) (Broken 1)
+    -- without a period there is one group
+    ∷ reads (Pattern 0 0 0 0 (0 ∷ 2 ∷ [])) (Event 0 1 ∷ []) Open
+    ∷ reads (Pattern 0 0 0 0 (0 ∷ 2 ∷ [])) (Event 0 1 ∷ Event 0 3 ∷ []) (Broken 2)
+    ∷ reads (Pattern 0 0 1 0 (0 ∷ [])) (Event 0 2 ∷ Event 0 3 ∷ []) (Broken 2)
+    -- neighbours are at least minimum apart
+    ∷ reads (Pattern 0 10 2 5 (0 ∷ 3 ∷ [])) (Event 0 7 ∷ Event 0 12 ∷ Event 0 17 ∷ []) Open
+    ∷ reads (Pattern 0 10 2 5 (0 ∷ 3 ∷ [])) (Event 0 7 ∷ Event 0 12 ∷ Event 0 18 ∷ []) Open
+    ∷ reads (Pattern 0 10 2 5 (0 ∷ 3 ∷ [])) (Event 0 7 ∷ Event 0 11 ∷ []) (Broken 2)
+    ∷ reads (Pattern 0 10 2 5 (0 ∷ 3 ∷ [])) (Event 0 7 ∷ Tick 12 ∷ []) Open
+    ∷ reads (Pattern 0 10 2 5 (0 ∷ 3 ∷ [])) (Event 0 7 ∷ Tick 13 ∷ []) (Broken 2)
+    -- offsets may exceed the period
+    ∷ reads (Pattern 0 5 1 0 (7 ∷ 9 ∷ [])) (Event 0 7 ∷ Event 0 9 ∷ Event 0 12 ∷ Event 0 14 ∷ Close ∷ []) Kept
+    ∷ reads (Pattern 0 5 1 0 (7 ∷ 9 ∷ [])) (Event 0 6 ∷ []) (Broken 1)
+    ∷ reads (Pattern 0 3 2 0 (0 ∷ 4 ∷ [])) (Event 0 0 ∷ Event 0 4 ∷ Event 0 5 ∷ Event 0 8 ∷ Close ∷ []) Kept
+    ∷ reads (Pattern 0 3 2 0 (0 ∷ 4 ∷ [])) (Event 0 0 ∷ Event 0 3 ∷ []) (Broken 2)
+    -- jitter does not add up, and the due time goes by the start
+    ∷ reads (Pattern 0 2 1 3 (0 ∷ [])) (Event 0 1 ∷ Event 0 4 ∷ Event 0 7 ∷ []) (Broken 3)
+    ∷ reads (Pattern 0 5 1 0 (0 ∷ [])) (Event 0 0 ∷ Event 0 6 ∷ []) Open
+    ∷ reads (Pattern 0 5 1 0 (0 ∷ [])) (Event 0 0 ∷ Event 0 6 ∷ Event 0 12 ∷ []) (Broken 3)
+    ∷ reads (Pattern 0 0 2 0 (1 ∷ 3 ∷ [])) (Event 0 1 ∷ Tick 5 ∷ []) Open
+    ∷ reads (Pattern 0 0 2 0 (1 ∷ 3 ∷ [])) (Event 0 1 ∷ Tick 6 ∷ []) (Broken 2)
+    -- nothing is due before the first event
+    ∷ reads (Pattern 0 10 0 0 (0 ∷ [])) (Tick 1000 ∷ Close ∷ []) Kept
+    ∷ []
+
+-- §5.16: Arbitraries of one kind, by their pairs
+abbrev pub arbitraries : List Example
+arbitraries =
+    -- figure 2.17 of the language's definition
+    reads (Arbitrary 0 ((1, 5) ∷ (2, 6) ∷ (3, 7) ∷ [])) (Event 0 1 ∷ Event 0 2 ∷ Event 0 3 ∷ Event 0 5 ∷ Event 0 8 ∷ Event 0 10 ∷ Close ∷ []) Kept
+    ∷ reads (Arbitrary 0 ((1, 5) ∷ (2, 6) ∷ (3, 7) ∷ [])) (Event 0 1 ∷ Event 0 2 ∷ Event 0 3 ∷ Event 0 5 ∷ Event 0 8 ∷ Event 0 11 ∷ []) (Broken 6)
+    -- each pair has its own minimum and its own maximum
+    ∷ reads (Arbitrary 0 ((2, noLimit) ∷ (5, noLimit) ∷ [])) (Event 0 0 ∷ Event 0 2 ∷ Event 0 5 ∷ []) Open
+    ∷ reads (Arbitrary 0 ((2, noLimit) ∷ (5, noLimit) ∷ [])) (Event 0 0 ∷ Event 0 2 ∷ Event 0 4 ∷ []) (Broken 3)
+    ∷ reads (Arbitrary 0 ((0, 4) ∷ (0, 6) ∷ [])) (Event 0 0 ∷ Event 0 4 ∷ Event 0 6 ∷ []) Open
+    ∷ reads (Arbitrary 0 ((0, 4) ∷ (0, 6) ∷ [])) (Event 0 0 ∷ Event 0 4 ∷ Event 0 7 ∷ []) (Broken 3)
+    -- a later pair counts, not the first alone
+    ∷ reads (Arbitrary 0 ((1, noLimit) ∷ (0, 1) ∷ [])) (Event 0 0 ∷ Event 0 3 ∷ []) (Broken 2)
+    ∷ reads (Arbitrary 0 ((1, noLimit) ∷ (0, 1) ∷ [])) (Event 0 0 ∷ Event 0 1 ∷ Event 0 2 ∷ []) (Broken 3)
+    -- the oldest event that has none i places after it counts, also among the first ones
+    ∷ reads (Arbitrary 0 ((0, 5) ∷ (0, 6) ∷ [])) (Event 0 0 ∷ Event 0 1 ∷ Tick 6 ∷ []) Open
+    ∷ reads (Arbitrary 0 ((0, 5) ∷ (0, 6) ∷ [])) (Event 0 0 ∷ Event 0 1 ∷ Tick 6 ∷ Tick 7 ∷ []) (Broken 4)
+    ∷ reads (Arbitrary 0 ((0, noLimit) ∷ (0, 3) ∷ [])) (Event 0 2 ∷ Tick 5 ∷ []) Open
+    ∷ reads (Arbitrary 0 ((0, noLimit) ∷ (0, 3) ∷ [])) (Event 0 2 ∷ Tick 5 ∷ Tick 6 ∷ []) (Broken 3)
+    -- pairs that contradict each other leave room for two events
+    ∷ reads (Arbitrary 0 ((0, 4) ∷ (10, 12) ∷ [])) (Event 0 0 ∷ Event 0 4 ∷ []) Open
+    ∷ reads (Arbitrary 0 ((0, 4) ∷ (10, 12) ∷ [])) (Event 0 0 ∷ Event 0 4 ∷ Event 0 8 ∷ []) (Broken 3)
+    ∷ reads (Arbitrary 0 ((0, 4) ∷ (10, 12) ∷ [])) (Event 0 0 ∷ Event 0 4 ∷ Tick 8 ∷ []) Open
+    ∷ reads (Arbitrary 0 ((0, 4) ∷ (10, 12) ∷ [])) (Event 0 0 ∷ Event 0 4 ∷ Tick 9 ∷ []) (Broken 3)
+    -- as a Burst of at most 2 in 5
+    ∷ reads (Arbitrary 0 ((0, noLimit) ∷ (5, noLimit) ∷ [])) (Event 0 0 ∷ Event 0 1 ∷ Event 0 5 ∷ []) Open
+    ∷ reads (Arbitrary 0 ((0, noLimit) ∷ (5, noLimit) ∷ [])) (Event 0 0 ∷ Event 0 1 ∷ Event 0 4 ∷ []) (Broken 3)
+    -- eight pairs
+    ∷ reads (Arbitrary 0 ((10, 10) ∷ (20, 20) ∷ (30, 30) ∷ (40, 40) ∷ (50, 50) ∷ (60, 60) ∷ (70, 70) ∷ (80, 80) ∷ []))
+    (Event 0 0 ∷ Event 0 10 ∷ Event 0 20 ∷ Event 0 30 ∷ Event 0 40 ∷ Event 0 50 ∷ Event 0 60 ∷ Event 0 70 ∷ Event 0 80 ∷ Event 0 90 ∷ []) Open
+    ∷ reads (Arbitrary 0 ((10, 10) ∷ (20, 20) ∷ (30, 30) ∷ (40, 40) ∷ (50, 50) ∷ (60, 60) ∷ (70, 70) ∷ (80, 80) ∷ []))
+    (Event 0 0 ∷ Event 0 10 ∷ Event 0 20 ∷ Event 0 30 ∷ Event 0 40 ∷ Event 0 50 ∷ Event 0 60 ∷ Event 0 70 ∷ Event 0 80 ∷ Event 0 91
+    ∷ []) (Broken 10)
+    -- nothing is due before the first event
+    ∷ reads (Arbitrary 0 ((0, 1) ∷ [])) (Tick 1000 ∷ Close ∷ []) Kept
+    ∷ []
+
+-- §5.17: Comparisons
+abbrev pub comparisons : List Example
+comparisons =
+    -- a true one is kept, whatever comes
+    reads (Comparison 1 3 3) (Close ∷ []) Kept
+    ∷ reads (Comparison 3 5 3) (Event 0 4 ∷ Tick 9 ∷ []) Open
+    ∷ reads (Comparison 3 5 3) (Event 0 4 ∷ Tick 9 ∷ Close ∷ []) Kept
+    ∷ reads (Comparison 5 4 4) (Close ∷ []) Kept
+    ∷ reads (Comparison 2 3 4) (Event 0 7 ∷ []) Open
+    ∷ reads (Comparison 4 5 3) (Event 0 7 ∷ Close ∷ []) Kept
     ∷ []
 
 -- §5.3.5; CR 3: a table of two rows: sources crowd the first, and the second falls silent

@@ -1,9 +1,10 @@
 -- The laws of each type.
 mod Words
-mod Colour
 mod ByColour
+mod ByPairs
 mod ByWords
 mod Firsts
+mod Colour
 pub mod Reaction
 pub mod Age
 pub mod OutputSynchronization

@@ -1,31 +1,27 @@
 -- An Age is exact, colour by colour: only the latest stimulus counts, and a stimulus to come is not before the clock, so a response that none suits
 -- now can only get one at its own time.
-use Rattle.event_chain.proofs.Laws.ByColour.{ByColour, Colouring, Lost, Nearer, Turned, exactByColour, with-one}
-use Rattle.event_chain.proofs.Laws.Colour.{ByPair}
+use Rattle.event_chain.proofs.Laws.ByPairs.{ByPair, ByPairs, LostPair, NearerPair, exactByPairs, maximum-small, minimum-first, steady-pair}
 use Rattle.event_chain.proofs.Laws.Firsts.{each-snoc, latest-new, latest-old}
-use Rattle.event_chain.proofs.Laws.Words.{highOf, latest-some, lowOf, other-high, other-low, stored, stored-high, stored-low, stored-whole}
+use Rattle.event_chain.proofs.Laws.Words.{highOf, latest-some, lowOf, other-high, other-low, stored, stored-high, stored-low}
 use Rattle.event_chain.specs.Coloured.{leastOf}
-use Rattle.event_chain.specs.Age.{afterResponseAge, afterStimulusAge, aged, decideAge, dueAge, machineAge, owed, owedBut, suits}
+use Rattle.event_chain.specs.Age.{afterResponseAge, afterStimulusAge, decideAge, dueAge, machineAge, owed, owedBut, suits}
 use Rattle.event_chain.specs.Reaction.{noPair, pairOf}
 use Rattle.event_chain.specs.declared.reaction.Pair.{Pair}
 use Rattle.constraint.proofs.Library.{List, [], _%_, _*_, _&&_, _++_, _+_, _-_, _<_, _∙_, _∷_, _≡_, _≤_, and-eq-true-iff, ap, ap₂, arith, by-cases}
 use Rattle.constraint.proofs.Library.{cond, decLt, eq-eqb, eqb, eqb-false, eqb-true, false, false≢true, getD, le-leb, leb, leb-false, leb-true}
 use Rattle.constraint.proofs.Library.{length}
-use Rattle.constraint.proofs.Library.{length-append, lt-ltb, ltb, ltb-true, min, ne-eqb, refl, replicate, subst, subst₂, suc, sym, true, zero, ℕ}
+use Rattle.constraint.proofs.Library.{length-append, lt-ltb, ltb, ltb-true, min, ne-eqb, refl, subst, suc, sym, true, zero, ℕ}
 use Rattle.constraint.proofs.Library.{ℕ-discrete}
-use Rattle.constraint.proofs.Lists.{Each, at-left, at-next, each-cons, each-none, split}
-use Rattle.constraint.proofs.Streams.{stream-kind}
+use Rattle.constraint.proofs.Lists.{Each, at-left, at-next, each-none, split}
 use Rattle.constraint.specs.Steps.{at}
-use Rattle.constraint.specs.{Accepted.InRange, Accepted.KindsSuit, Accepted.LowerFirst, Limits.firstColoured, Limits.lastColour, Limits.lastTime}
-use Rattle.constraint.specs.{Limits.noLimit, Meets.Between, Meets.Meets, Meets.MeetsAge, Meets.latestOf, Streams.kindOf, Streams.stream}
+use Rattle.constraint.specs.{Limits.lastTime}
+use Rattle.constraint.specs.{Limits.noLimit, Meets.Between, Meets.Meets, Meets.MeetsAge, Meets.latestOf, Streams.kindOf}
 use Rattle.constraint.specs.{Waiting.waiting}
-use Rattle.constraint.specs.{Constraint.Constraint, Constraint.Age}
-use Rattle.row_type.proofs.Exact.{ByOutcome, Exact, Sound}
-use Rattle.row_type.proofs.FitsRow.{FitsRow, Steady, fits-steady, keeping-none, steady-breaking, steady-by, steady-store}
-use Rattle.row_type.proofs.SeveralKinds.{kinds-apart}
-use Rattle.row_type.specs.{Parts.breaking, Parts.continuesWith, Parts.plus, Parameters.parametersOf, Words.noneSaved, declared.Registers.Registers}
+use Rattle.constraint.specs.{Constraint.Age}
+use Rattle.row_type.proofs.Exact.{Exact, Sound}
+use Rattle.row_type.proofs.FitsRow.{FitsRow, Steady, fits-steady, keeping-none}
+use Rattle.row_type.specs.{Parts.plus, Parameters.parametersOf, Words.noneSaved, declared.Registers.Registers}
 use Rattle.row_type.specs.{declared.Parameters.Parameters}
-use Rattle.ring.specs.declared.Edit.the-variants.{Store}
 
 plus-is : (t x : ℕ) → t ≤ lastTime + 1 → x ≤ lastTime → plus t x ≡ t + x
 plus-is t x h k = omega arith
@@ -78,8 +74,7 @@ module _ (minimum maximum : ℕ) where
     owes : Owes stimuli responses low high → AgeColour stimuli responses low high
 
   abbrev pub LostAge : ℕ → List ℕ → List ℕ → Type 0
-  LostAge t stimuli responses =
-      (fs gs : List ℕ) → Each (λ s. t ≤ s) fs → Each (λ y. t ≤ y) gs → ¬ MeetsAge minimum maximum (stimuli ++ fs) (responses ++ gs)
+  LostAge = LostPair (MeetsAge minimum maximum)
 
   abbrev pub GoesAge : ℕ → List ℕ → List ℕ → ℕ → ℕ → Type 0
   GoesAge t stimuli responses low high = AgeColour stimuli responses low high × (t ≤ owed low high)
@@ -378,215 +373,71 @@ module _ (words : List ℕ) (whole : length words ≡ 16) (d low high : ℕ) (fe
 
 -- ---- the row
 
-colour-of : (k d : ℕ) → d ≤ lastColour → stream k d % 8 ≡ d
-colour-of k d few = omega arith
-
-zeros : (n i : ℕ) → at (replicate n 0) i ≡ 0
-zeros zero i = refl
-zeros (suc n) zero = refl
-zeros (suc n) (suc i) = zeros n i
-
-module _ (stimulus response minimum maximum : ℕ) (sound : Sound (Age stimulus response minimum maximum)) where
-  abbrev c : Constraint
-  c = Age stimulus response minimum maximum
-
-  abbrev parameters : Parameters
-  parameters = parametersOf c
-
-  abbrev ks : List ℕ
-  ks = stimulus ∷ response ∷ []
-
-  stimulus-coloured : firstColoured ≤ stimulus
-  unfolding KindsSuit
-  stimulus-coloured = sound .kinds-suit .0
-
-  response-coloured : firstColoured ≤ response
-  unfolding KindsSuit
-  response-coloured = sound .kinds-suit .1 .0
-
-  kinds-differ : ¬ (response ≡ stimulus)
-  kinds-differ = kinds-apart ks (sound .kinds-fit) 1 0 (omega arith) (omega arith) (λ e. omega arith)
-
-  min-first : minimum ≤ maximum
-  unfolding LowerFirst
-  min-first = sound .lower-first .1 .1 .1 .0
-
-  max-small : maximum ≤ lastTime
-  unfolding InRange
-  max-small = sound .in-range .1 .1 .1 .0
-
-  abbrev Says : (ℕ → List ℕ) → Type 0
-  Says f = MeetsAge minimum maximum (f 0) (f 1)
-
-  abbrev colouring : Colouring
-  colouring =
-      record {
-        Keeps = λ f d words. (length words ≡ 16) × AgeColour minimum maximum (f 0) (f 1) (lowOf words d) (highOf words d);
-        due = λ words d. owed (lowOf words d) (highOf words d);
-        lacks = λ words d. cond (eqb (lowOf words d) 0) (highOf words d) 0;
-        Alike = λ e a b. (lowOf b e ≡ lowOf a e) × (highOf b e ≡ highOf a e);
-      }
-
-  decides-stimulus : (registers : Registers) (words : List ℕ) (d t : ℕ) → d ≤ lastColour
-      → decideAge parameters registers words (stream stimulus d) t ≡ aged registers words d
-      (afterStimulusAge minimum (highOf words d) t)
-  unfolding decideAge
-  decides-stimulus registers words d t
-      few = rw (colour-of stimulus d few, stream-kind stimulus d stimulus-coloured few, eq-eqb stimulus stimulus refl)
-
-  decides-response : (registers : Registers) (words : List ℕ) (d t : ℕ) → d ≤ lastColour
-      → decideAge parameters registers words (stream response d) t
-      ≡ aged registers words d (afterResponseAge minimum maximum (lowOf words d) (highOf words d) t)
-  unfolding decideAge
-  decides-response registers words d t few =
-      rw (colour-of response d few, stream-kind response d response-coloured few, ne-eqb response stimulus kinds-differ)
-
-  -- the new words of a colour
-  pair-turns : (f : ℕ → List ℕ) (registers : Registers) (words : List ℕ) (d j t : ℕ) (pair : Pair) → d ≤ lastColour → length words ≡ 16
-      → ByPair (LostAge minimum maximum t (with-one f j t 0) (with-one f j t 1))
-      (GoesAge minimum maximum t (with-one f j t 0) (with-one f j t 1)) pair
-      → ByOutcome (Lost 2 Says t (with-one f j t)) (Turned colouring f d j t words) (aged registers words d pair)
-  pair-turns f registers words d j t pair few whole =
-      let low = pair .low in let high = pair .high in
-      let now = dueAge 8 d low high words in
-      split (pair .breaks)
-      (λ x. cond x (LostAge minimum maximum t (with-one f j t 0) (with-one f j t 1))
-      (GoesAge minimum maximum t (with-one f j t 0) (with-one f j t 1) low high)
-      → ByOutcome (Lost 2 Says t (with-one f j t)) (Turned colouring f d j t words)
-      (cond x breaking (continuesWith (Store (2 * d) low high) registers now (eqb now noLimit))))
-      (λ e lost g late. lost (g 0) (g 1) (late 0 (omega arith)) (late 1 (omega arith)))
-      (λ e goes. record {
-        keeps = (
-          stored-whole words whole d low high (omega arith),
-          subst₂ (AgeColour minimum maximum (with-one f j t 0) (with-one f j t 1)) (sym (stored-low words whole d low high (omega arith)))
-              (sym (stored-high words whole d low high (omega arith))) (goes .0),
-        );
-        others = λ x l o. (other-low words whole d low high (omega arith) x o, other-high words whole d low high (omega arith) x o);
-        in-time = subst₂ (λ (a b : ℕ). t ≤ owed a b) (sym (stored-low words whole d low high (omega arith)))
-            (sym (stored-high words whole d low high (omega arith))) (goes .1);
-        due-is = due-stored words whole d low high (omega arith) 8;
-        kept-is = refl;
-      })
-
-  turns : (f : ℕ → List ℕ) (registers : Registers) (words : List ℕ) (d j t : ℕ) → d ≤ lastColour → j < 2
-      → ((i : ℕ) → i < 2 → Each (λ s. s ≤ t) (f i)) → Each (λ s. s < t) (f j) → t ≤ lastTime → colouring .Keeps f d words
-      → t ≤ colouring .due words d
-      → ByOutcome (Lost 2 Says t (with-one f j t)) (Turned colouring f d j t words) (decideAge parameters registers words (stream (at ks j) d) t)
-  turns f registers words d zero t few h past rises small keeps soon =
-      rw (decides-stimulus registers words d t few)
-      (pair-turns f registers words d 0 t (afterStimulusAge minimum (highOf words d) t) few (keeps .0)
-      (stimulus-does minimum maximum (f 0) (f 1) t (past 0 (omega arith)) (past 1 (omega arith)) small (lowOf words d) (highOf words d) (keeps .1)))
-  turns f registers words d (suc zero) t few h past rises small keeps soon =
-      rw (decides-response registers words d t few)
-      (pair-turns f registers words d 1 t (afterResponseAge minimum maximum (lowOf words d) (highOf words d) t) few (keeps .0)
-      (response-does minimum maximum (f 0) (f 1) t (past 0 (omega arith)) rises small (omega (arith, min-first, max-small)) max-small
-      (lowOf words d) (highOf words d) soon (keeps .1)))
-  turns f registers words d (suc (suc j)) t few h past rises small keeps soon = absurd (omega arith)
-
-  nearer : (f : ℕ → List ℕ) (words : List ℕ) (d now : ℕ) → d ≤ lastColour → ((i : ℕ) → i < 2 → Each (λ s. s ≤ now)
-      (f i)) → Unit {0} → colouring .Keeps f d words → now ≤ colouring .due words d
-      → colouring .due words d < noLimit → Nearer colouring (λ x. Unit {0}) 2 f d words now
-  nearer f words d now few past fine (whole, colour) in-time soon =
-      let o = owes-of minimum maximum (f 0) (f 1) (lowOf words d) (highOf words d) colour soon in
+module _ (minimum maximum : ℕ) (low-first : minimum ≤ maximum) (max-small : maximum ≤ lastTime) where
+  near : (f : ℕ → List ℕ) (low high now : ℕ) → AgeColour minimum maximum (f 0) (f 1) low high → now ≤ owed low high → owed low high < noLimit
+      → NearerPair (AgeColour minimum maximum) owed (λ low high. cond (eqb low 0) high 0) f low high now
+  near f low high now colour in-time soon =
+      let o = owes-of minimum maximum (f 0) (f 1) low high colour soon in
       let a = at (f 1) 0 in
-      let is = owed-is (lowOf words d) (highOf words d) a (o .low-is) (o .high-is) in
-      let low-is = stored-low words whole d (a + 1) (a + 1) (omega arith) in
-      let high-is = stored-high words whole d (a + 1) (a + 1) (omega arith) in
+      let is = owed-is low high a (o .low-is) (o .high-is) in
       record {
         kind = 0;
         of-row = omega arith;
         moment = a;
         begun = omega arith;
         soon = omega arith;
-        fine = tt;
         rises = o .before;
-        next = stored words d (a + 1) (a + 1);
-        keeps = (
-          stored-whole words whole d (a + 1) (a + 1) (omega arith),
-          subst₂ (AgeColour minimum maximum (f 0 ++ a ∷ []) (f 1)) (sym low-is) (sym high-is)
-              (answered minimum maximum (f 0) (f 1) (lowOf words d) (highOf words d) o),
-        );
-        others = λ x l other. (
-          other-low words whole d (a + 1) (a + 1) (omega arith) x other,
-          other-high words whole d (a + 1) (a + 1) (omega arith) x other,
-        );
-        in-time = omega (
-          arith,
-          o .small,
-          owed-there (lowOf (stored words d (a + 1) (a + 1)) d) (highOf (stored words d (a + 1) (a + 1)) d)
-              (λ z. omega (arith, low-is)),
-        );
-        fewer = rw (low-is, ne-eqb (a + 1) 0 (λ z. omega arith), o .low-is, o .high-is) (omega arith);
+        new-low = a + 1;
+        new-high = a + 1;
+        keeps = answered minimum maximum (f 0) (f 1) low high o;
+        in-time = omega (arith, o .small, owed-there (a + 1) (a + 1) (λ z. omega arith));
+        fewer = rw (ne-eqb (a + 1) 0 (λ z. omega arith), o .low-is, o .high-is) (omega arith);
       }
 
-  by-colour : ByColour c (decideAge parameters)
-  unfolding Meets waiting
-  by-colour =
+  byAge : ByPairs (MeetsAge minimum maximum) owed (λ low high t. afterStimulusAge minimum high t) (afterResponseAge minimum maximum)
+  byAge =
       record {
-        ks = ks;
-        fit = sound .kinds-fit;
-        coloured-all = each-cons (λ k. firstColoured ≤ k) stimulus (response ∷ []) stimulus-coloured
-            (each-cons (λ k. firstColoured ≤ k) response [] response-coloured (each-none (λ k. firstColoured ≤ k)));
-        streams-are = refl;
-        none-waits = refl;
-        waits-none = λ steps. refl;
-        Says = Says;
-        says-same = λ f g same. subst₂ (MeetsAge minimum maximum) (same 0 (omega arith)) (same 1 (omega arith));
-        meets = λ steps. (λ m. m, λ m. m);
-        k = colouring;
-        keeps-same = λ f g same d words (whole, colour). (
-          whole,
-          subst₂ (λ (x y : List ℕ). AgeColour minimum maximum x y (lowOf words d) (highOf words d)) (same 0 (omega arith))
-              (same 1 (omega arith)) colour,
-        );
-        keeps-alike = λ f e a b alike long (whole, colour). (
-          long ∙ whole,
-          subst₂ (AgeColour minimum maximum (f 0) (f 1)) (sym (alike .0)) (sym (alike .1)) colour,
-        );
-        due-alike = λ e a b alike. ap₂ owed (alike .0) (alike .1);
-        lacks-alike = λ e a b alike. ap₂ (λ (x y : ℕ). cond (eqb x 0) y 0) (alike .0) (alike .1);
-        size = 16;
-        few = omega arith;
-        whole = λ f d words keeps. keeps .0;
-        start-keeps = λ d h. (
-          refl,
-          quiet (record {
-            no-response = refl;
-            high-is = zeros 16 (2 * d + 1);
-            none = λ e. zeros 16 (2 * d);
-            some = λ l. absurd (omega arith);
-            below = each-none (λ s. s < lowOf (replicate 16 0) d);
-          }),
-        );
-        start-due = λ d h. owed-quiet (lowOf (replicate 16 0) d) (highOf (replicate 16 0) d) (zeros 16 (2 * d + 1));
-        turns = turns;
-        late = λ f words d t keeps passed small g late. colour-late minimum maximum (f 0) (f 1) (lowOf words d)
-            (highOf words d) t (keeps .1) passed small
-            (g 0) (g 1) (late 0 (omega arith)) (late 1 (omega arith));
-        says = λ f words d keeps none. colour-says minimum maximum (f 0) (f 1) (lowOf words d) (highOf words d) (keeps .1) none;
-        unsaid = λ f words d keeps soon. colour-unsaid minimum maximum (f 0) (f 1) (lowOf words d) (highOf words d) (keeps .1) soon;
-        Fine = λ x. Unit {0};
-        fine = λ now small. tt;
-        nearer = nearer;
+        Colour = AgeColour minimum maximum;
+        lacks = λ low high. cond (eqb low 0) high 0;
+        start = quiet (record {
+          no-response = refl;
+          high-is = refl;
+          none = λ e. refl;
+          some = λ l. absurd (omega arith);
+          below = each-none (λ s. s < 0);
+        });
+        start-due = refl;
+        stimulus-does = stimulus-does minimum maximum;
+        response-does = λ stimuli responses t past rises small. response-does minimum maximum stimuli responses t past rises small
+            (omega (arith, low-first, max-small)) max-small;
+        late = colour-late minimum maximum;
+        says = colour-says minimum maximum;
+        unsaid = colour-unsaid minimum maximum;
+        nearer = near;
       }
 
-  -- §5.12
-  pub exactAge : Exact c (decideAge parameters)
-  exactAge = exactByColour c (decideAge parameters) by-colour
+-- §5.12
+pub exactAge : (stimulus response minimum maximum : ℕ) → Sound (Age stimulus response minimum maximum)
+    → Exact (Age stimulus response minimum maximum) (decideAge (parametersOf (Age stimulus response minimum maximum)))
+unfolding Meets waiting decideAge
+exactAge stimulus response minimum maximum sound =
+    let c = Age stimulus response minimum maximum in
+    exactByPairs c sound stimulus response minimum maximum refl (MeetsAge minimum maximum) owed (dueAge 8)
+    (λ low high t. afterStimulusAge minimum high t) (afterResponseAge minimum maximum)
+    (byAge minimum maximum (minimum-first c sound stimulus response minimum maximum refl)
+    (maximum-small c sound stimulus response minimum maximum refl))
+    (λ words whole d low high few. due-stored words whole d low high few 8) refl refl refl (λ steps. refl) (λ steps. (λ m. m, λ m. m))
 
 -- ---- In a row
 
--- whatever the words of the event's colour become, they stand where they stood, and no mark changes
 steady-age : (parameters : Parameters) (m : Registers) (words : List ℕ) (s t : ℕ) → Steady noneSaved m words (decideAge parameters m words s t)
 unfolding decideAge
 steady-age parameters m words s t =
     let low = getD words (2 * (s % 8)) 0 in
     let high = getD words (2 * (s % 8) + 1) 0 in
-    kept (cond (eqb (kindOf s) (parameters .first)) (afterStimulusAge (parameters .lower) high t)
+    steady-pair (dueAge 8) m words (s % 8)
+    (cond (eqb (kindOf s) (parameters .first)) (afterStimulusAge (parameters .lower) high t)
     (afterResponseAge (parameters .lower) (parameters .upper) low high t))
-  where
-    kept : (pair : Pair) → Steady noneSaved m words (aged m words (s % 8) pair)
-    kept pair = steady-by (pair .breaks) (steady-breaking keeping-none) (steady-store (2 * (s % 8)) (pair .low) (pair .high) (λ e. e))
 
 pub fitsAge : FitsRow machineAge
 fitsAge = fits-steady keeping-none steady-age

@@ -1,24 +1,18 @@
 -- One colour of a Reaction: its words say where the first response may still come, which is from minimum after the newest stimulus to maximum
 -- after the oldest, or when it came. A response to come can be at any time from the clock on, as its stream is empty.
+use Rattle.event_chain.proofs.Laws.ByPairs.{ByPair, LostPair}
+use Rattle.event_chain.proofs.Laws.Firsts.{each-snoc}
 use Rattle.event_chain.proofs.Laws.Words.{latest-none, latest-some}
 use Rattle.event_chain.specs.Reaction.{afterResponse, afterStimulus, latest, noPair, pairOf}
 use Rattle.event_chain.specs.declared.reaction.Pair.{Pair}
 use Rattle.constraint.proofs.Library.{List, [], _++_, _+_, _<_, _∙_, _∷_, _≡_, _≤_, ap, arith, cond, length, length-append, ltb, ltb-false, ltb-true}
 use Rattle.constraint.proofs.Library.{ne-eqb, refl, sym, ℕ}
-use Rattle.constraint.proofs.Lists.{Each, at-left, at-next, each-append, each-cons, each-none, split}
+use Rattle.constraint.proofs.Lists.{Each, at-left, at-next, split}
 use Rattle.constraint.specs.{Limits.lastTime, Limits.noLimit, Meets.Between, Meets.MeetsReaction, Steps.at}
 use Rattle.row_type.specs.Parts.{plus}
 
 plus-is : (t x : ℕ) → t ≤ lastTime → x ≤ lastTime → plus t x ≡ t + x
 plus-is t x h k = omega arith
-
--- each of a list and of one more
-each-snoc : (P : ℕ → Type 0) (xs : List ℕ) (x : ℕ) → Each P xs → P x → Each P (xs ++ x ∷ [])
-each-snoc P xs x h p = each-append P xs (x ∷ []) h (each-cons P x [] p (each-none P))
-
--- by what an event makes of a colour's words
-abbrev pub ByPair : Type 0 → (ℕ → ℕ → Type 0) → Pair → Type 0
-ByPair Breaks Goes pair = cond (pair .breaks) Breaks (Goes (pair .low) (pair .high))
 
 module _ (minimum maximum : ℕ) where
   pub record Quiet (stimuli responses : List ℕ) (low high : ℕ) : Type 0 where
@@ -48,7 +42,7 @@ module _ (minimum maximum : ℕ) where
 
   -- no further times from t on meet it
   abbrev pub LostColour : ℕ → List ℕ → List ℕ → Type 0
-  LostColour t stimuli responses = (fs gs : List ℕ) → Each (λ y. t ≤ y) gs → ¬ MeetsReaction minimum maximum (stimuli ++ fs) (responses ++ gs)
+  LostColour = LostPair (MeetsReaction minimum maximum)
 
   -- it goes on, and t is not past the last moment
   abbrev pub GoesAt : ℕ → List ℕ → List ℕ → ℕ → ℕ → Type 0
@@ -106,7 +100,7 @@ module _ (minimum maximum : ℕ) where
           pending (moved (ltb-true (t + minimum) high e)),
           omega (arith, ltb-true (t + minimum) high e, latest-some high (λ z. omega (arith, p .room))),
         ))
-        (λ e fs gs late m.
+        (λ e fs gs late-stimuli late m.
         let (j, h, is) = p .oldest in
         let last = asked (stimuli ++ t ∷ []) fs (responses ++ gs) (length stimuli) (omega (arith, longer)) m in
         let first = asked (stimuli ++ t ∷ []) fs (responses ++ gs) j (omega (arith, longer)) m in
@@ -138,7 +132,7 @@ module _ (minimum maximum : ℕ) where
           }),
           omega arith,
         ))
-        (λ e fs gs late m.
+        (λ e fs gs late-stimuli late m.
         let last = asked (stimuli ++ t ∷ []) fs (responses ++ gs) (length stimuli) (omega (arith, longer)) m in
         omega (arith, ltb-false (t + minimum) low e, a .low-is, last .1 .0, last-stimulus stimuli t, first-there responses gs (a .some))))
 
@@ -174,7 +168,7 @@ module _ (minimum maximum : ℕ) where
         let is = latest-some high (λ e. omega (arith, p .room)) in
         rw (ne-eqb high 0 (λ e. omega (arith, p .room)), plus-is t 1 small (omega arith))
         (split (ltb t low) (λ x. ResponseDoes (cond x noPair (pairOf (t + 1) 0)))
-        (λ e fs gs late m.
+        (λ e fs gs late-stimuli late m.
         let (i, h, newest-is) = p .newest in
         let asks = asked stimuli fs ((responses ++ t ∷ []) ++ gs) i h m in
         omega (
@@ -201,7 +195,7 @@ module _ (minimum maximum : ℕ) where
 
   -- past the last moment of a colour that waits
   pub colour-late : (stimuli responses : List ℕ) (low high t : ℕ) → Pending stimuli responses low high → high ≤ t → LostColour t stimuli responses
-  colour-late stimuli responses low high t p passed fs gs late m =
+  colour-late stimuli responses low high t p passed fs gs late-stimuli late m =
       let (j, h, is) = p .oldest in
       let asks = asked stimuli fs (responses ++ gs) j h m in
       let none = p .no-response in

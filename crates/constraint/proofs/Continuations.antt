@@ -8,7 +8,7 @@ use Rattle.constraint.proofs.History.{closed-tick, own-append, own-clos
 use Rattle.constraint.proofs.Lists.{Each, Rising, each-cons, each-none, rising-across, rising-right, split}
 use Rattle.constraint.proofs.{Streams.streams, Types.lawful}
 unfoldable pub use Rattle.constraint.proofs.Lawful.{timesIn}
-pub use Rattle.constraint.proofs.Lawful.{own-times, SameTimes, same-times, of-colour, not-later-earlier}
+pub use Rattle.constraint.proofs.Lawful.{own-times, SameTimes, same-times, not-later-earlier}
 
 -- §2.2: what a row says of some events and a clock it says of the same events and every earlier clock
 pub meets-same : (c : Constraint) (a b : List Step) → own (streams c) a ≡ own (streams c) b → clock b ≤ clock a → Meets c a → Meets c b

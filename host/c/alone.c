@@ -65,6 +65,7 @@ void start(void)
     (void)delkuthi_put_event(bytes, sizeof bytes, 0, 0, 0);
     (void)delkuthi_put_coloured_event(bytes, sizeof bytes, 0, DELKUTHI_FIRST_COLOURED, 0, 0);
     (void)delkuthi_put_tick(bytes, sizeof bytes, 0, 0);
+    (void)delkuthi_add_row(bytes, sizeof bytes, 0, bytes, sizeof bytes);
     (void)delkuthi_withdraw_step(&monitor, 0);
     (void)delkuthi_close(&monitor);
     (void)delkuthi_row_verdict(&monitor, delkuthi_rows(&monitor));

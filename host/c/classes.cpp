@@ -61,6 +61,10 @@ bool longer()
     bool well = table.data()[0] == 1 && table.put(delkuthi_pattern(4, 10, 1, 0, offsets, 2))
         && table.size() == sizeof expected && std::memcmp(table.data(), expected, sizeof expected) == 0;
 
+    delkuthi::table added{delkuthi_order(0, 1)};
+    well = well && added.add(delkuthi_pattern(4, 10, 1, 0, offsets, 2)) && added.size() == sizeof expected
+        && std::memcmp(added.data(), expected, sizeof expected) == 0
+        && added.add(delkuthi_as_long(delkuthi_order(0, 0))).number() == delkuthi::number::row_kinds && added.size() == sizeof expected;
     for (int row = 0; row < DELKUTHI_ROW_LIMIT; row++)
         well = well && full.put(delkuthi_arbitrary(0, pairs, 8));
     return well && full.size() == DELKUTHI_TABLE_LIMIT && !full.put(delkuthi_as_long(delkuthi_order(0, 1)));

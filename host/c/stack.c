@@ -35,6 +35,18 @@ static void make_table(void)
     (void)delkuthi_make_table_2(rows, DELKUTHI_ROW_LIMIT, report, sizeof report);
 }
 
+static void add_row(void)
+{
+    const delkuthi_pair pairs[8] = {{0, 1}, {0, 2}, {0, 3}, {0, 4}, {0, 5}, {0, 6}, {0, 7}, {0, 8}};
+    const delkuthi_long_row row = delkuthi_arbitrary(0, pairs, 8);
+    size_t length = 1;
+    int i;
+
+    joined[0] = 1;
+    for (i = 0; i < DELKUTHI_ROW_LIMIT; i++)
+        length = DELKUTHI_LENGTH(delkuthi_add_row(joined, sizeof joined, length, row.body, row.length));
+}
+
 static void event(void)
 {
     uint64_t time;
@@ -162,6 +174,7 @@ struct measured {
 
 static struct measured calls[] = {
     {"table", make_table, DELKUTHI_TABLE_STACK, 0},
+    {"add_row", add_row, DELKUTHI_TABLE_STACK, 0},
     {"fresh", fresh, DELKUTHI_MONITOR_STACK, 0},
     {"event", event, DELKUTHI_STEP_STACK, 0},
     {"tick", tick, DELKUTHI_STEP_STACK, 0},

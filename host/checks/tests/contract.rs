@@ -77,7 +77,11 @@ fn the_takes_are_so() {
         let mut library = fresh(&[delay(2, 3)]);
         for (recording, expected) in takes.recordings {
             let answer = model.take(&recording).err();
-            assert_eq!(answer.map_or(0, |refusal| 256 * refusal.place as u64 + u64::from(refusal.number)), expected, "{line}");
+            assert_eq!(
+                answer.map_or(0, |refusal| 256 * refusal.place as u64 + u64::from(refusal.number)),
+                expected,
+                "{line}"
+            );
             assert_eq!(library.take(&recording).err().map(refusal), answer, "{line}");
         }
         assert_eq!(read(model.verdicts().into_iter()), takes.reads, "{line}");

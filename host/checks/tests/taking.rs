@@ -156,7 +156,8 @@ fn thousands_of_records_written() {
             assert_eq!(answer, expected.map(|_| ()), "{step:?} behind {size} bytes of {room}");
             if let Ok(end) = expected {
                 assert_eq!(recording.bytes(), &modelled[..end]);
-                let (read, length) = read_record(modelled[0], &modelled[size.max(1)..end]).expect("the record that was written");
+                let (read, length) =
+                    read_record(modelled[0], &modelled[size.max(1)..end]).expect("the record that was written");
                 assert_eq!((read, length), (step, end - size.max(1)));
                 size = end;
             }

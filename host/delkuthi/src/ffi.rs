@@ -65,6 +65,13 @@ extern "C" {
     pub fn delkuthi_put_tick(buffer: *mut u8, buffer_length: usize, size: usize, time: u64) -> u64;
     pub fn delkuthi_table(rows: *const u8, rows_size: usize, table: *mut u8, table_length: usize) -> u64;
     pub fn delkuthi_table_2(rows: *const u8, rows_size: usize, table: *mut u8, table_length: usize) -> u64;
+    pub fn delkuthi_add_row(
+        table: *mut u8,
+        table_length: usize,
+        length: usize,
+        body: *const u8,
+        body_length: usize,
+    ) -> u64;
     pub fn delkuthi_page(monitor: &Monitor, page: *mut u8, page_length: usize) -> usize;
     pub fn delkuthi_report_of(monitor: &Monitor, report: *mut u8, report_length: usize) -> usize;
     pub fn delkuthi_report_2(

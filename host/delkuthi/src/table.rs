@@ -111,6 +111,26 @@ fn write_long_rows(rows: &[Row], table: &mut [u8]) -> Result<usize, Refusal> {
     Ok(length)
 }
 
+/// Adds a row of any length to the table in the first `length` bytes of a buffer. `body` has the row's type and fields, without a length
+/// field. Returns the new length of the table, whose edition becomes 2 if it does not have the row's type. A refusal writes nothing.
+///
+/// ```
+/// let mut table = [0; delkuthi::TABLE_LIMIT];
+/// table[0] = 1;
+/// assert_eq!(delkuthi::add_row(&mut table, 1, &[6, 0, 1])?, 6);
+/// assert_eq!(delkuthi::add_row(&mut table, 6, &[6, 0, 0]).map_err(|refusal| refusal.number()), Err(5));
+/// # Ok::<(), delkuthi::Refusal>(())
+/// ```
+///
+/// # Errors
+/// What [`Monitor::fresh`] refuses in the table; 3 to 7 and 18 of the row, and 16 a buffer too short, at the place `length`.
+pub fn add_row(table: &mut [u8], length: usize, body: &[u8]) -> Result<usize, Refusal> {
+    // SAFETY: the pointers and lengths are slices', and the table's memory is not that of the row.
+    let answer = unsafe { ffi::delkuthi_add_row(table.as_mut_ptr(), table.len(), length, body.as_ptr(), body.len()) };
+    Refusal::of_bytes(answer)?;
+    Ok((answer / 256) as usize)
+}
+
 impl Row<'_> {
     /// The first edition that has the row's type. A table with such a row has this edition or a later one.
     pub fn edition(&self) -> u8 {

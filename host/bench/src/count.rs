@@ -1,7 +1,7 @@
 //! Counts instructions: the program runs itself under callgrind, which counts those inside one function.
 
-use crate::line::Line;
-use crate::measure::{Both, agree, both};
+use crate::line::{Line, all_lines};
+use crate::measure::{Each, agree, each};
 use std::env;
 use std::fs;
 use std::hint::black_box;
@@ -21,18 +21,26 @@ fn counted(act: &mut dyn FnMut()) {
     black_box(());
 }
 
-/// Plays each line once on the library and once on plain Rust, on which both agree.
-pub fn played(lines: &[Line]) {
-    for line in lines {
+/// The lines to be counted: all, or those that the variable ONLY names, with ";" between them.
+pub fn lines() -> Vec<Line> {
+    let only = env::var("ONLY").ok();
+    let named = |line: &Line| only.as_ref().is_none_or(|names| names.split(';').any(|name| name == line.what()));
+    all_lines().into_iter().filter(named).collect()
+}
+
+/// Plays each line once on the library, on plain Rust and on plain Rust behind calls, which agree.
+pub fn played() {
+    for line in &lines() {
         let load = line.load(CALLS);
         agree(&load);
-        both(line, &load, counted);
+        each(line, &load, counted);
     }
 }
 
-/// Instructions per call of each line. This program starts itself again under callgrind, and plays the lines there.  #
+/// The lines with their instructions per call. This program starts itself again under callgrind, and plays the lines there.  #
 /// Errors What went wrong, in a line: there is no valgrind, or it did not count.
-pub fn instructions(lines: &[Line]) -> Result<Vec<Both<f64>>, String> {
+pub fn instructions() -> Result<Vec<(Line, Each<f64>)>, String> {
+    let lines = lines();
     let program = env::current_exe().map_err(|error| format!("the program's own name: {error}"))?;
     let file = env::temp_dir().join(format!("delkuthi-count-{}", std::process::id()));
     let ran = Command::new("valgrind")
@@ -51,14 +59,17 @@ pub fn instructions(lines: &[Line]) -> Result<Vec<Both<f64>>, String> {
         Err(error) => return Err(format!("valgrind cannot be run: {error}")),
     }
     let totals = totals(&written.map_err(|error| format!("what callgrind has written: {error}"))?);
-    if totals.len() < 2 * lines.len() {
-        return Err(format!("callgrind has counted {} times, not {}", totals.len(), 2 * lines.len()));
+    let needed: usize = lines.iter().map(Line::runs).sum();
+    if totals.len() < needed {
+        return Err(format!("callgrind has counted {} times, not {needed}", totals.len()));
     }
-    let each = |line: &Line, two: &[f64]| {
+    let mut totals = totals.into_iter();
+    let mut of_line = |line: Line| {
         let number = line.load(CALLS).number() as f64;
-        Both { library: two[0] / number, plain: two[1] / number }
+        let counts: Vec<f64> = totals.by_ref().take(line.runs()).map(|total| total / number).collect();
+        (line, Each { library: counts[0], plain: counts[1], called: counts[line.runs() - 1] })
     };
-    Ok(lines.iter().zip(totals.chunks(2)).map(|(line, two)| each(line, two)).collect())
+    Ok(lines.into_iter().map(&mut of_line).collect())
 }
 
 /// The counts in what callgrind has written, one after the other.

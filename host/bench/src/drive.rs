@@ -277,11 +277,44 @@ fn multiples(place: usize) -> impl Iterator<Item = u64> {
     (1..=1 + place as u64 % 8).map(|number| number * PERIOD)
 }
 
-/// 32 rows of one of types 12 to 17 alone. An event of a chain concerns four rows or up to 15, one of the others one row or none.
+/// 32 rows of one type alone. Those of types 1 to 10 are over the same kinds, and each event concerns all of them. An event of a chain
+/// of types 12 to 14 concerns four rows or up to 15, one of the later types one row or none.
 ///
 /// # Panics
 /// Where the type is none of these.
 pub fn alone(type_byte: u8) -> Table {
+    if type_byte <= 10 { alike(type_byte) } else { apart(type_byte) }
+}
+
+/// Rows of types 1 to 10, over the same kinds.
+fn alike(type_byte: u8) -> Table {
+    let mut signals = Signals::default();
+    let rows: Vec<Constraint> = match type_byte {
+        1 => vec![delay(signals.pair(40))],
+        2 => vec![strong_delay(signals.pair(40))],
+        3 => with_each(signals.next(0), &SPANS[1..], repeat),
+        4 => with_each(signals.next(0), &UPPERS, sporadic),
+        5 => with_each(signals.next(0), &MAXIMA, burst),
+        6 => vec![order(signals.pair(40))],
+        7 => vec![strong_synchronization(&signals.group(1, 40))],
+        8 => {
+            let [start, preempt, resume, stop] = [0; 4].map(|lag| signals.next(lag));
+            vec![execution_time(start, (preempt, resume), stop)]
+        }
+        9 => vec![signals.chain(4)],
+        10 => vec![repetition(signals.next(0), 8)],
+        _ => panic!("no load of type {type_byte} alone"),
+    };
+    Table { rows: rows.into_iter().cycle().take(32).collect(), signals }
+}
+
+/// A row of the signal with each of the values.
+fn with_each<T: Copy>(event: Signal, values: &[T], row: impl Fn(Signal, T) -> Constraint) -> Vec<Constraint> {
+    values.iter().map(|value| row(event, *value)).collect()
+}
+
+/// Rows of types 12 to 17, over kinds apart.
+fn apart(type_byte: u8) -> Table {
     let mut signals = Signals::default();
     match type_byte {
         12 | 14 => chains(&mut signals, true),

@@ -57,6 +57,16 @@ fn sparse_and_dense(sort: Sort, alone: Option<u8>) -> [Line; 2] {
     [false, true].map(|dense| Line { sort, alone, dense, rows: WHOLE })
 }
 
+/// A line over 32 rows of each type of the first edition alone: events that concern all rows.
+pub fn types() -> Vec<Line> {
+    (1..=10).map(|number| Line { sort: Sort::Steps, alone: Some(number), dense: true, rows: WHOLE }).collect()
+}
+
+/// All lines, in the order in which they are printed.
+pub fn all_lines() -> Vec<Line> {
+    [lines(), sizes(), types(), second_edition()].concat()
+}
+
 /// The lines over tables of more and more rows: events.
 pub fn sizes() -> Vec<Line> {
     let sizes = |dense| [1, 2, 4, 8, 16].map(|rows| Line { sort: Sort::Steps, alone: None, dense, rows });
@@ -70,7 +80,7 @@ impl Line {
         let table = match self.alone {
             None => shape.to_string(),
             Some(SYNCHRONIZATION) => format!("Synchronization, {shape}"),
-            Some(later) => load::alone(later, 0).name,
+            Some(other) => load::alone(other, 0).name,
         };
         match self.sort {
             Sort::Steps if self.rows == 1 => format!("steps, {table}, 1 row"),
@@ -85,6 +95,11 @@ impl Line {
         }
     }
 
+    /// How many monitors play the line: a report is one call of either, so plain Rust plays it once.
+    pub fn runs(&self) -> usize {
+        if self.sort == Sort::Records { 2 } else { 3 }
+    }
+
     /// The calls: this many of those that count.
     pub fn load(&self, calls: usize) -> Load {
         let events = |calls: usize| match (self.alone, self.dense) {
@@ -92,7 +107,7 @@ impl Line {
             (None, true) => dense(calls),
             (Some(SYNCHRONIZATION), false) => sparse_synchronizations(calls),
             (Some(SYNCHRONIZATION), true) => dense_synchronizations(calls),
-            (Some(later), _) => load::alone(later, calls),
+            (Some(other), _) => load::alone(other, calls),
         };
         let full = if self.dense { dense_full } else { sparse_full };
         match self.sort {

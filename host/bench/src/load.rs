@@ -77,7 +77,7 @@ pub fn dense_synchronizations(events: usize) -> Load {
     Load::new("Synchronization, dense", drive::dense_synchronizations(), events)
 }
 
-/// This many events over rows of one of types 12 to 17 alone.
+/// This many events over rows of one of types 1 to 10 or 12 to 17 alone.
 pub fn alone(type_byte: u8, events: usize) -> Load {
     let table = drive::alone(type_byte);
     Load::new(table.rows[0].name(), table, events)

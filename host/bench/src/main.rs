@@ -1,36 +1,40 @@
 //! Prints how fast the proved library is, beside plain Rust: `make bench` the times, `make count` the instructions.
 
 use bench::count::{PLAYED, instructions, played};
-use bench::line::{Line, lines, second_edition, sizes};
-use bench::measure::{Both, Times, times};
+use bench::line::{Line, all_lines};
+use bench::measure::{Each, times};
 use std::process::ExitCode;
 
 /// "A million events".
 const CALLS: usize = 1_000_000;
 const RUNS: usize = 7;
 
-/// The lines over whole tables, then those over more and more rows, and those of the second edition.
-fn all_lines() -> Vec<Line> {
-    lines().into_iter().chain(sizes()).chain(second_edition()).collect()
-}
-
 fn print_times(line: &Line) {
-    let measured: Times = times(line, CALLS, RUNS);
-    let (nanoseconds, ratio) = (measured.nanoseconds(), measured.ratio());
+    let measured = times(line, CALLS, RUNS);
+    let (nanoseconds, ratios) = (measured.nanoseconds(), measured.ratios());
     println!(
-        "| {:<43} | {:>7.1} | {:>7.1} | {:>12.2} | {:>6.2} | {:>8.2} |",
+        "| {:<43} | {:>7.1} | {:>7.1} | {:>5.2} | {:>5.2} | {:>5.2} | {:>7.1} | {:>5.2} | {:>5.2} | {:>5.2} |",
         line.what(),
         nanoseconds.library.middle,
         nanoseconds.plain.middle,
-        ratio.least,
-        ratio.middle,
-        ratio.greatest
+        ratios.plain.least,
+        ratios.plain.middle,
+        ratios.plain.greatest,
+        nanoseconds.called.middle,
+        ratios.called.least,
+        ratios.called.middle,
+        ratios.called.greatest
     );
 }
 
-fn print_counts(line: &Line, count: &Both<f64>) {
-    let Both { library, plain } = count;
-    println!("| {:<43} | {library:>7.1} | {plain:>7.1} | {:>5.2} |", line.what(), library / plain);
+fn print_counts((line, count): &(Line, Each<f64>)) {
+    let Each { library, plain, called } = count;
+    println!(
+        "| {:<43} | {library:>7.1} | {plain:>7.1} | {:>5.2} | {called:>7.1} | {:>5.2} |",
+        line.what(),
+        library / plain,
+        library / called
+    );
 }
 
 /// Times every line.
@@ -39,21 +43,27 @@ fn bench() {
         "nanoseconds of a call, processor time, in the middle of {RUNS} runs of {CALLS} calls on each monitor in turn;"
     );
     println!(
-        "times: how many times as long the library took, in each run for itself. Both monitors agree on every line.\n"
+        "times: how many times as long the library took, in each run for itself: least, middle, greatest; called: plain Rust behind"
     );
-    println!("| what                                        | library | plain   | times, least | middle | greatest |");
-    println!("|---------------------------------------------|--------:|--------:|-------------:|-------:|---------:|");
+    println!("calls that are not inlined. All monitors agree on every line.\n");
+    println!(
+        "| what                                        | library | plain   | times |       |       | called  | times |       |       |"
+    );
+    println!(
+        "|---------------------------------------------|--------:|--------:|------:|------:|------:|--------:|------:|------:|------:|"
+    );
     all_lines().iter().for_each(print_times);
 }
 
 /// Counts the instructions of every line.
 fn count() -> Result<(), String> {
-    let lines = all_lines();
-    let counts = instructions(&lines)?;
-    println!("instructions of a call, by callgrind. Both monitors agree on every line.\n");
-    println!("| what                                        | library | plain   | times |");
-    println!("|---------------------------------------------|--------:|--------:|------:|");
-    lines.iter().zip(&counts).for_each(|(line, count)| print_counts(line, count));
+    let counts = instructions()?;
+    println!(
+        "instructions of a call, by callgrind; called: plain Rust behind calls that are not inlined. All monitors agree on every line.\n"
+    );
+    println!("| what                                        | library | plain   | times | called  | times |");
+    println!("|---------------------------------------------|--------:|--------:|------:|--------:|------:|");
+    counts.iter().for_each(print_counts);
     Ok(())
 }
 
@@ -62,7 +72,7 @@ fn main() -> ExitCode {
     let done = match word.as_deref() {
         None => Ok(bench()),
         Some("count") => count(),
-        Some(PLAYED) => Ok(played(&all_lines())),
+        Some(PLAYED) => Ok(played()),
         Some(other) => Err(format!("no such word: {other}; \"count\" counts instructions, no word takes times")),
     };
     done.map_or_else(

@@ -1,25 +1,34 @@
-//! The measurements: the library and plain Rust in turn, on the same calls.
+//! The measurements: the library, plain Rust inlined and plain Rust behind calls in turn, on the same calls.
 
 use crate::clock::thread_time;
 use crate::line::{Line, Sort};
 use crate::load::{Call, Load};
-use crate::plain::{self, Plain};
+use crate::plain::{self, Called, Plain};
 use delkuthi::Monitor;
 use model::{Answer, Step, Verdict};
 use std::hint::black_box;
 use std::time::Duration;
 
-/// What one measurement found on both.
+/// What one measurement found on each.
 #[derive(Clone, Copy, Debug)]
-pub struct Both<T> {
+pub struct Each<T> {
     pub library: T,
+    /// Plain Rust, inlined into the loop that calls it.
     pub plain: T,
+    /// Plain Rust behind calls that are not inlined, as those of a library are not.
+    pub called: T,
 }
 
-/// How long a line's calls took, in several runs of both in turn.
+/// How long a line's calls took, in several runs of each in turn.
 pub struct Times {
     pub number: usize,
-    pub runs: Vec<Both<Duration>>,
+    pub runs: Vec<Each<Duration>>,
+}
+
+/// The library's time divided by another, each run for itself.
+pub struct Ratios {
+    pub plain: Spread,
+    pub called: Spread,
 }
 
 /// The least, the middle and the greatest of several numbers.
@@ -40,15 +49,18 @@ impl Spread {
 
 impl Times {
     /// How many times as long the library took, each run for itself.
-    pub fn ratio(&self) -> Spread {
-        Spread::of(self.runs.iter().map(|run| run.library.as_secs_f64() / run.plain.as_secs_f64()).collect())
+    pub fn ratios(&self) -> Ratios {
+        let over = |side: fn(&Each<Duration>) -> Duration| {
+            Spread::of(self.runs.iter().map(|run| run.library.as_secs_f64() / side(run).as_secs_f64()).collect())
+        };
+        Ratios { plain: over(|run| run.plain), called: over(|run| run.called) }
     }
 
     /// Nanoseconds of a call.
-    pub fn nanoseconds(&self) -> Both<Spread> {
+    pub fn nanoseconds(&self) -> Each<Spread> {
         let each = |time: Duration| time.as_secs_f64() * 1e9 / self.number as f64;
-        let spread = |side: fn(&Both<Duration>) -> Duration| Spread::of(self.runs.iter().map(side).map(each).collect());
-        Both { library: spread(|run| run.library), plain: spread(|run| run.plain) }
+        let spread = |side: fn(&Each<Duration>) -> Duration| Spread::of(self.runs.iter().map(side).map(each).collect());
+        Each { library: spread(|run| run.library), plain: spread(|run| run.plain), called: spread(|run| run.called) }
     }
 }
 
@@ -74,6 +86,18 @@ impl Played for Plain {
     fn call(&mut self, call: Call) -> Answer {
         match call {
             Call::Step(step) => self.step(step),
+            Call::Withdraw => self.withdraw(),
+        }
+    }
+}
+
+impl Played for Called {
+    fn call(&mut self, call: Call) -> Answer {
+        match call {
+            Call::Step(Step::Event { kind, time }) => self.event(kind, time),
+            Call::Step(Step::Coloured { kind, colour, time }) => self.coloured_event(kind, colour, time),
+            Call::Step(Step::Tick { time }) => self.tick(time),
+            Call::Step(Step::Close) => self.close(),
             Call::Withdraw => self.withdraw(),
         }
     }
@@ -133,22 +157,24 @@ pub fn agree(load: &Load) {
     assert!(buffers[0] == buffers[1] && buffers[0].starts_with(b"closed "), "{}: the reports", load.name);
 }
 
-/// Has the line's calls on the library, and those on plain Rust, run by the meter: nothing else is done in it.
-pub fn both<T>(line: &Line, load: &Load, meter: impl Fn(&mut dyn FnMut()) -> T) -> Both<T> {
+/// Has the line's calls on the library, and those on plain Rust, run by the meter: nothing else is done in it. A report is one call of either.
+pub fn each<T: Copy>(line: &Line, load: &Load, meter: impl Fn(&mut dyn FnMut()) -> T) -> Each<T> {
     if line.sort == Sort::Records {
         let (table, recording) = (load.table(), load.recording());
         let mut buffer = [0; delkuthi::REPORT_LIMIT];
         let library = meter(&mut || _ = black_box(delkuthi::report(&table, &recording, &mut buffer)));
         let plain = meter(&mut || _ = black_box(plain::report::report(&table, &recording, &mut buffer)));
-        return Both { library, plain };
+        return Each { library, plain, called: plain };
     }
     let (mut library, mut plain) = ready(load);
-    let both = Both {
+    let mut called = Called(plain.clone());
+    let each = Each {
         library: meter(&mut || play(&mut library, &load.calls, load.refused)),
         plain: meter(&mut || play(&mut plain, &load.calls, load.refused)),
+        called: meter(&mut || play(&mut called, &load.calls, load.refused)),
     };
-    black_box((library, plain));
-    both
+    black_box((library, plain, called));
+    each
 }
 
 /// The processor time that something takes.
@@ -162,5 +188,5 @@ fn time(act: &mut dyn FnMut()) -> Duration {
 pub fn times(line: &Line, calls: usize, runs: usize) -> Times {
     let load = line.load(calls);
     agree(&load);
-    Times { number: load.number(), runs: (0..runs).map(|_| both(line, &load, time)).collect() }
+    Times { number: load.number(), runs: (0..runs).map(|_| each(line, &load, time)).collect() }
 }

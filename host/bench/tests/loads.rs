@@ -1,6 +1,6 @@
 //! The loads of the benchmark: what they claim to be, and the verdicts of both monitors on them.
 
-use bench::line::{Line, lines, second_edition, sizes};
+use bench::line::{all_lines, lines, second_edition, sizes, types};
 use bench::load::{
     Call, Load, dense, dense_full, dense_synchronizations, sparse, sparse_full, sparse_synchronizations,
 };
@@ -22,10 +22,6 @@ fn alone(events: usize) -> [Load; 2] {
     [sparse_synchronizations(events), dense_synchronizations(events)]
 }
 
-fn all_lines() -> Vec<Line> {
-    [lines(), sizes(), second_edition()].concat()
-}
-
 #[test]
 fn thirty_two_rows_of_all_types_of_the_first_edition() {
     for load in [sparse, dense, sparse_full, dense_full].map(|load| load(10)) {
@@ -40,6 +36,15 @@ fn thirty_two_rows_of_the_type_of_the_second_edition() {
         let numbers: BTreeSet<usize> = load.rows.iter().map(|row| row.kinds().len()).collect();
         assert!(load.rows.len() == 32 && load.rows.iter().all(|row| row.type_byte() == 11), "{}", load.name);
         assert_eq!((numbers, load.table()[0]), (BTreeSet::from([2, 3, 4]), LAST_EDITION));
+    }
+}
+
+#[test]
+fn thirty_two_rows_of_each_type_of_the_first_edition_which_every_event_concerns() {
+    for number in 1..=10 {
+        let load = bench::load::alone(number, 1_000);
+        assert!(load.rows.len() == 32 && load.rows.iter().all(|row| row.type_byte() == number), "{}", load.name);
+        assert_eq!(load.concerned(), 32.0, "{}", load.name);
     }
 }
 
@@ -67,9 +72,9 @@ fn both_monitors_agree_and_rows_stay_open() {
 #[test]
 fn every_line_has_its_own_name_and_as_many_calls_as_asked() {
     let later = usize::from(LAST_TYPE) - 11;
-    assert_eq!((lines().len(), sizes().len(), second_edition().len()), (14, 10, 6 + later));
+    assert_eq!((lines().len(), sizes().len(), types().len(), second_edition().len()), (14, 10, 10, 6 + later));
     let names: BTreeSet<String> = all_lines().iter().map(|line| line.what()).collect();
-    assert_eq!(names.len(), 30 + later, "{names:?}");
+    assert_eq!(names.len(), 40 + later, "{names:?}");
     all_lines().iter().for_each(|line| assert_eq!(line.load(10_000).number(), 10_000, "{}", line.what()));
 }
 

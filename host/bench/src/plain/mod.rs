@@ -260,6 +260,36 @@ impl Plain {
     }
 }
 
+/// The plain monitor behind calls that are not inlined.
+pub struct Called(pub Plain);
+
+impl Called {
+    #[inline(never)]
+    pub fn event(&mut self, kind: u8, time: u64) -> Answer {
+        self.0.event(kind, time)
+    }
+
+    #[inline(never)]
+    pub fn coloured_event(&mut self, kind: u8, colour: u8, time: u64) -> Answer {
+        self.0.coloured_event(kind, colour, time)
+    }
+
+    #[inline(never)]
+    pub fn tick(&mut self, time: u64) -> Answer {
+        self.0.tick(time)
+    }
+
+    #[inline(never)]
+    pub fn close(&mut self) -> Answer {
+        self.0.close()
+    }
+
+    #[inline(never)]
+    pub fn withdraw(&mut self) -> Answer {
+        self.0.withdraw()
+    }
+}
+
 impl Row {
     fn new(row: &Constraint) -> Row {
         Row { rule: Rule::new(row), due: u64::MAX, broken: 0, before: Before::default(), due_before: u64::MAX }

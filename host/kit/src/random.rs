@@ -126,6 +126,8 @@ fn mixed(random: &mut Random) -> Vector {
     vector.take();
     vector.take();
     vector.report_on(2, ROOM);
+    let more = if random.chance(60) { table(random, 1) } else { damaged_rows(random) };
+    vector.add_row(&more[0].body(), if random.chance(80) { 2 * ROOM } else { random.place(400) });
     vector
 }
 

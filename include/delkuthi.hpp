@@ -189,8 +189,20 @@ public:
             size_ = DELKUTHI_LENGTH(made);
     }
 
-    // Puts a row with offsets or pairs behind the others, in edition 2. A
-    // monitor asks about it in `fresh`. Returns false if there is no room.
+    // Adds a row of any length behind the others. A refusal leaves the table as
+    // it was.
+    delkuthi::answer add(const delkuthi_long_row &row) noexcept
+    {
+        const delkuthi::answer added(delkuthi_add_row(
+            bytes_.data(), bytes_.size(), size_, row.body, row.length));
+
+        if (added)
+            size_ += 2 + row.length;
+        return added;
+    }
+
+    // Puts a row of any length behind the others. A monitor asks about it in
+    // `fresh`. Returns false if there is no room.
     [[nodiscard]] bool put(const delkuthi_long_row &row) noexcept
     {
         const std::size_t length = answer_

@@ -1,7 +1,9 @@
 //! The contract in words, `docs/CONTRACT.md`: every example in it is what library and model do.
 
 use checks::beside::{fresh, put, take, take_all, verdict};
-use checks::contract::{Asked, Example, WRITES_ROOM, blocks, clauses, example, examples, files, pages, takes, text, writes};
+use checks::contract::{
+    Asked, Example, WRITES_ROOM, blocks, clauses, example, examples, files, pages, takes, text, writes,
+};
 use checks::pages::page_in;
 use checks::refusals::refusal;
 use checks::reports::report_in;

@@ -200,7 +200,12 @@ fn why_rows_broke() {
             let changed = before ^ model.broken_rows();
             for row in (0..rows.len()).filter(|row| changed >> row & 1 == 1 || random.chance(5)) {
                 let expected = model.row_cause(row).map(model::Cause::numbers);
-                assert_eq!(monitor.cause(row).map(numbers), expected, "row {row} of {rows:?} after {:?}", model.steps());
+                assert_eq!(
+                    monitor.cause(row).map(numbers),
+                    expected,
+                    "row {row} of {rows:?} after {:?}",
+                    model.steps()
+                );
                 seen[expected.map_or(0, |(cause, _)| usize::from(cause))] += 1;
             }
         }

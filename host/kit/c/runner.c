@@ -20,7 +20,7 @@
 enum item {
     TABLE = 1, RECORDING, FRESH, EVENT, COLOURED, TICK, CLOSE, WITHDRAW, PAGE,
     REPORT, REPORT_ON, REPORT_OF, WRITE, JOIN, STAMPS, STRETCH, COUNT, ZEROS,
-    WITHDRAW_STEP, TAKE, PUT
+    WITHDRAW_STEP, TAKE, PUT, ADD_ROW
 };
 
 /* What the vector says of the monitor. */
@@ -420,6 +420,18 @@ static void put(void)
     same_text("a byte of the recording");
 }
 
+/* A row that is added to the table, in a copy of it. */
+static void add_row(void)
+{
+    size_t body_length, length, size = table_length < ROOM_LIMIT ? table_length : ROOM_LIMIT;
+    const uint8_t *body = bytes(&body_length);
+
+    length = room();
+    memcpy(buffer, table, size);
+    same("answer", delkuthi_add_row(buffer, length, size, body, body_length), number());
+    same_text("a byte of the table");
+}
+
 /* Calls that write to a buffer. Returns whether this is one. */
 static int played_writer(enum item item)
 {
@@ -443,6 +455,8 @@ static int played_writer(enum item item)
         written();
     else if (item == PUT)
         put();
+    else if (item == ADD_ROW)
+        add_row();
     else if (item == JOIN) {
         length = room();
         same("answer", delkuthi_join(table, table_length, recording, recording_length, buffer, length), number());

@@ -126,7 +126,7 @@ pub const RULES: &[(&str, &str)] = &[
     ("9.9", "not: a question of the programs; the gate asks it"),
     ("9.10", "report refused 13"),
     ("9.11", "refused 12, tick"),
-    ("9.12", "not: the header writes the row, and the call that reads the table is covered; the gate compares both"),
+    ("9.12", "row added"),
     ("11.1", "refused step, event"),
     ("11.2", "event, withdrawal, page, report of, report on"),
     ("11.3", "not: nothing that a call answers shows it; the archive has no such function"),

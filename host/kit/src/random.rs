@@ -126,6 +126,8 @@ fn mixed(random: &mut Random) -> Vector {
     vector.take();
     vector.take();
     vector.report_on(2, ROOM);
+    let more = if random.chance(60) { table(random, 1) } else { damaged_rows(random) };
+    vector.add_row(&more[0].body(), if random.chance(80) { 2 * ROOM } else { random.place(400) });
     vector
 }
 
@@ -142,6 +144,10 @@ fn damaged(random: &mut Random) -> Vector {
     });
     let (kind, colour, time) = (random.below(70) as u8, random.below(9) as u8, random.below(1 << 50));
     vector.put_record(if kind < 40 { Step::Event { kind, time } } else { Step::Coloured { kind, colour, time } }, ROOM);
+    vector.put_record(
+        Step::Tick { time: time + random.below(3) },
+        if random.chance(90) { ROOM } else { random.place(60) },
+    );
     let form = 1 + random.below(2) as u8;
     vector.fresh(form);
     vector.report(form, if random.chance(80) { ROOM } else { random.place(60) });

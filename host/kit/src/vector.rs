@@ -5,9 +5,9 @@ use crate::bytes::{put_bytes, put_number, put_text, put_way};
 use model::join::{Input, join};
 use model::recording::{put_record, read_record};
 use model::{
-    Cause, Constraint, Monitor, NEWEST_EDITION, NO_LIMIT, Refusal, Stamped, Step, Verdict, page_text, read_table_up_to,
-    refused_short_in, report_of, report_text_up_to, short_body, shortest_stretch_up_to, stamped_up_to, table_bytes_in,
-    write_short_in,
+    Cause, Constraint, Monitor, NEWEST_EDITION, NO_LIMIT, Refusal, Stamped, Step, Verdict, add_row, page_text,
+    read_table_up_to, refused_short_in, report_of, report_text_up_to, short_body, shortest_stretch_up_to,
+    stamped_up_to, table_bytes_in, write_short_in,
 };
 use std::collections::BTreeSet;
 
@@ -35,6 +35,7 @@ enum Item {
     WithdrawStep,
     Take,
     Put,
+    AddRow,
 }
 
 /// What the runner expects of the monitor.
@@ -453,6 +454,26 @@ impl Vector {
         put_text(&mut self.bytes, &bytes);
         if bytes.len() > size {
             self.recording(&bytes);
+        }
+    }
+
+    /// A row, given by its bytes, added to the table in a buffer of this size (§9.12). The table of later calls stays as it was.
+    pub fn add_row(&mut self, body: &[u8], room: usize) {
+        self.item(Item::AddRow);
+        put_bytes(&mut self.bytes, body);
+        put_number(&mut self.bytes, room as u64);
+        match add_row(&self.table, body, room) {
+            Ok(bytes) => {
+                put_number(&mut self.bytes, 256 * bytes.len() as u64);
+                put_text(&mut self.bytes, &bytes);
+                self.shows("row added");
+            }
+            Err(refusal) => {
+                put_number(&mut self.bytes, placed(refusal));
+                put_text(&mut self.bytes, &self.table);
+                self.refused(refusal.number);
+                self.shows("row not added");
+            }
         }
     }
 

@@ -57,6 +57,20 @@ pub fn write_table(rows: &[Constraint], buffer: &mut [u8]) -> Result<usize, u8> 
     write_table_in(edition_of(rows), rows, buffer)
 }
 
+/// Adds a row, given by its bytes without a length field, to a table in a buffer of this many bytes (§9.12): the table with the row.
+pub fn add_row(table: &[u8], body: &[u8], room: usize) -> Result<Vec<u8>, Refusal> {
+    let table = &table[..table.len().min(room)];
+    let rows = read_table(table)?;
+    let refused = |number| Refusal { number, place: table.len() };
+    ask(3, rows.len() < ROW_LIMIT).map_err(refused)?;
+    let row = row_of(body).ok_or(4).map_err(refused)?;
+    fields_questions(&row).map_err(refused)?;
+    ask(16, table.len() + 2 + body.len() <= room).map_err(refused)?;
+    let mut bytes = [table, &with_length(body)].concat();
+    bytes[0] = bytes[0].max(row.edition());
+    Ok(bytes)
+}
+
 /// The number of the first row that is refused, as the writer of an edition puts its questions row by row (§11.5).
 pub fn refused_row_in(edition: u8, rows: &[Constraint]) -> Option<usize> {
     (0..rows.len()).find(|row| rows_questions(edition, &rows[..=*row]).is_err())

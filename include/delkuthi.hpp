@@ -213,19 +213,6 @@ public:
         return length != 0;
     }
 
-    // Adds a row of any length behind the others. The table's questions are
-    // asked about it here. If it is refused, the table stays as it was.
-    delkuthi::answer add(const delkuthi_long_row &row) noexcept
-    {
-        const std::uint64_t added = delkuthi_add_row(
-            bytes_.data(), bytes_.size(), size_, row.body, row.length);
-        const delkuthi::answer given(added);
-
-        if (given)
-            size_ = DELKUTHI_LENGTH(added);
-        return given;
-    }
-
     // Whether the rows were taken; or the number of the refusal and the row.
     delkuthi::answer answer() const noexcept { return answer_; }
     const std::uint8_t *data() const noexcept { return bytes_.data(); }

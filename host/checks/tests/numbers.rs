@@ -34,6 +34,14 @@ fn by_code() -> BTreeMap<String, u64> {
 }
 
 /// The same by their definitions; the crates' code has no constant for some.
+/// The number of a cause in its definition.
+fn cause(name: &str) -> u64 {
+    let text = text("crates/row/specs/Cause.antt");
+    let (_, from) = text.split_once(&format!("  {name} :")).expect("a cause");
+    let (_, number) = from.split_once("→ Cause c steps n ").expect("its number");
+    number.split(' ').next().and_then(|word| word.parse().ok()).expect("a number")
+}
+
 fn by_definitions() -> BTreeMap<String, u64> {
     by_name([
         ("VERSION", definition(LENT_DEFINED, "version")),
@@ -54,6 +62,9 @@ fn by_definitions() -> BTreeMap<String, u64> {
         ("OPEN", definition(LENT_DEFINED, "wordOf (some Verdict.Open)")),
         ("KEPT", definition(LENT_DEFINED, "wordOf (some Verdict.Kept)")),
         ("BROKEN", definition(LENT_DEFINED, "wordOf (some (Verdict.Broken n))")),
+        ("OVERDUE", cause("overdue")),
+        ("BY_EVENT", cause("by-event")),
+        ("AT_CLOSE", cause("at-close")),
         ("TAKEN", definition("crates/in_place/specs/Steps.antt", "answerTo h Call.Close")),
         ("REPORT_LIMIT", definition("crates/text/proofs/Reports.antt", "reportLimit")),
         ("PAGE_LIMIT", page_limit()),

@@ -9,7 +9,7 @@ use model::examples::{RECORDING, REPORT, TABLE};
 use model::random::Random;
 use model::random::recordings::{damaged_recording, recording};
 use model::random::seen::Seen;
-use model::random::tables::{any_table, damaged_table};
+use model::random::tables::{any_table_in, damaged_table};
 use model::types::{delay, order};
 use model::{Step, recording_bytes, table_bytes, table_bytes_in};
 use std::fs::File;
@@ -183,10 +183,12 @@ fn random_files() {
     let mut random = Random::new(501);
     let mut seen = Seen::default();
     for _ in 0..150 {
-        let rows = any_table(&mut random);
+        let rows = any_table_in(1, &mut random);
         compare(&table_bytes(&rows), &recording(&mut random, &rows, 60), &mut seen);
         compare(&table_bytes(&rows), &damaged_recording(&mut random, &rows, 10), &mut seen);
         compare(&damaged_table(&mut random), &RECORDING, &mut seen);
+        let damaged = std::iter::repeat_with(|| damaged_table(&mut random)).find(|bytes| bytes.first() == Some(&1));
+        compare(&damaged.expect("a table of the first edition"), &RECORDING, &mut seen);
     }
     seen.demand_refusals(1..=2);
     seen.demand_refusals((4..=7).chain([18]));

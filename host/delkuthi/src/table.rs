@@ -106,7 +106,7 @@ fn write_long_rows(rows: &[Row], table: &mut [u8]) -> Result<usize, Refusal> {
         let place = refusal.place().unwrap_or(0);
         Refusal::of_row(refusal.number(), ends.take_while(|begin| *begin < place).count())
     })?;
-    let Some(place) = table.get_mut(..length) else { return Err(Refusal::NO_ROOM) };
+    let place = table.get_mut(..length).ok_or(Refusal::NO_ROOM)?;
     place.copy_from_slice(&made[..length]);
     Ok(length)
 }

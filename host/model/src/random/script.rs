@@ -63,13 +63,15 @@ fn put_texts(random: &mut Random, rows: &[Constraint], script: &mut Vec<String>)
         let room = if random.chance(80) { 1_024 } else { random.place(300) };
         script.push(format!("{call}{} {} {} {room}", any_form(random), hex(&table), hex(&taken)));
     }
-    let rows = match random.below(10) {
-        0 => vec![repeat(1, 0, NO_LIMIT); 33],
-        1..=5 => any_table(random),
-        _ => damaged_rows(random),
-    };
-    let bodies: Vec<u8> = rows.iter().flat_map(short_body).collect();
-    script.push(format!("table{} {} {}", any_form(random), hex(&bodies), random.place(1_300)));
+    for _ in 0..4 {
+        let rows = match random.below(10) {
+            0 => vec![repeat(1, 0, NO_LIMIT); 33],
+            1..=5 => any_table(random),
+            _ => damaged_rows(random),
+        };
+        let bodies: Vec<u8> = rows.iter().flat_map(short_body).collect();
+        script.push(format!("table{} {} {}", any_form(random), hex(&bodies), random.place(1_300)));
+    }
 }
 
 /// Events of some kinds at rising times, with a tick now and then.

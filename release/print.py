@@ -14,7 +14,7 @@ import tempfile
 from pathlib import Path
 
 STYLE = """@page { size: A4; margin: 11mm 12mm }
-body { font: 8.5pt/1.22 'DejaVu Sans Condensed', 'DejaVu Sans', sans-serif; margin: 0 }
+body { font: 8.3pt/1.2 'DejaVu Sans Condensed', 'DejaVu Sans', sans-serif; margin: 0 }
 h1 { font-size: 13pt; margin: 0 0 1.5mm } h2 { font-size: 9.5pt; margin: 2.2mm 0 0.8mm } p, ul { margin: 0.8mm 0 } ul { padding-left: 4mm }
 table { border-collapse: collapse; width: 100%; margin: 0.8mm 0 } th, td { border: 0.2mm solid #999; padding: 0.25mm 0.9mm; text-align: left;
 vertical-align: top } tr { break-inside: avoid } thead:not(:has(th:not(:empty))) { display: none } code { font: 0.92em 'DejaVu Sans Mono', monospace }

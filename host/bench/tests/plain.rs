@@ -87,6 +87,8 @@ impl Beside {
     fn alike(&self) {
         let Beside { plain, left } = self;
         assert_eq!(plain.verdicts(), left.monitor.verdicts(), "{:?}", left.monitor);
+        let rows = 0..left.monitor.rows().len();
+        rows.for_each(|row| assert_eq!(plain.cause(row), left.monitor.row_cause(row), "{:?}", left.monitor));
         assert_eq!(plain.count(), left.monitor.recorded().count());
     }
 

@@ -1,5 +1,5 @@
 //! A monitor in plain Rust, written for speed: everything changed in place, and only the rows looked at that a step
-//! concerns. It keeps the same waiting sources and gives the same answers and verdicts as the proved one; it can withdraw the last
+//! concerns. It keeps the same waiting sources and gives the same answers, verdicts and causes as the proved one; it can withdraw the last
 //! step, for which each row keeps the few numbers that an event changes.
 
 mod later;
@@ -8,16 +8,18 @@ mod ring;
 mod rule;
 
 use model::limits::stream;
-use model::{Answer, Constraint, FIRST_COLOURED, LAST_COLOUR, LAST_COUNT, LAST_KIND, LAST_TIME, Step, Verdict};
+use model::{Answer, Cause, Constraint, FIRST_COLOURED, LAST_COLOUR, LAST_COUNT, LAST_KIND, LAST_TIME, Step, Verdict};
 use rule::{Before, Left, Rule};
 pub use rule::{LAST_EDITION, LAST_TYPE};
 
-/// A row: its rule, the last clock at which it is open if no event of the row comes, and the step that broke it (or 0).
+/// A row: its rule, the last clock at which it is open if no event of the row comes, and the step that broke it (or 0), with its
+/// cause.
 #[derive(Clone, Debug)]
 struct Row {
     rule: Rule,
     due: u64,
     broken: u64,
+    cause: Option<Cause>,
     /// Before the last event that it took.
     before: Before,
     due_before: u64,
@@ -162,7 +164,7 @@ impl Plain {
         self.closed = true;
         each(self.open, |row| {
             if !self.rows[row].rule.kept() {
-                self.break_row(row);
+                self.break_row(row, Cause::Close(self.clock));
             }
         });
         Ok(())
@@ -194,6 +196,11 @@ impl Plain {
             Some(0) => Ok(Verdict::Open),
             Some(step) => Ok(Verdict::Broken(step)),
         }
+    }
+
+    /// Why and when a broken row broke.
+    pub fn cause(&self, row: usize) -> Option<Cause> {
+        self.rows.get(row).filter(|row| row.broken > 0).and_then(|row| row.cause)
     }
 
     /// What every row reads.
@@ -232,10 +239,11 @@ impl Plain {
         }
         self.soonest = u64::MAX;
         each(self.open, |row| {
-            if self.rows[row].due < time {
-                self.break_row(row);
+            let due = self.rows[row].due;
+            if due < time {
+                self.break_row(row, Cause::Overdue(due));
             } else {
-                self.soonest = self.soonest.min(self.rows[row].due);
+                self.soonest = self.soonest.min(due);
             }
         });
     }
@@ -245,7 +253,7 @@ impl Plain {
         let row = &mut self.rows[place];
         row.due_before = row.due;
         let Some(Left { due, full }) = row.rule.event(kind, time, &mut row.before) else {
-            return self.break_row(place);
+            return self.break_row(place, Cause::Event(time));
         };
         row.due = due;
         self.soonest = self.soonest.min(due);
@@ -253,8 +261,9 @@ impl Plain {
     }
 
     /// The step just counted breaks a row.
-    fn break_row(&mut self, place: usize) {
-        self.rows[place].broken = self.count;
+    fn break_row(&mut self, place: usize, cause: Cause) {
+        let row = &mut self.rows[place];
+        (row.broken, row.cause) = (self.count, Some(cause));
         self.open &= !(1 << place);
         self.full &= !(1 << place);
     }
@@ -292,7 +301,14 @@ impl Called {
 
 impl Row {
     fn new(row: &Constraint) -> Row {
-        Row { rule: Rule::new(row), due: u64::MAX, broken: 0, before: Before::default(), due_before: u64::MAX }
+        Row {
+            rule: Rule::new(row),
+            due: u64::MAX,
+            broken: 0,
+            cause: None,
+            before: Before::default(),
+            due_before: u64::MAX,
+        }
     }
 
     /// Goes back to before the event of a stream that it took.

@@ -67,7 +67,7 @@ put_together = cp $(ARCHIVES) $@.new
 else
 ARCHIVES := $(patsubst %,target/staticlib/lib%.a,$(PARTS))
 CRATES   := crates.txt $(shell find crates -type f)
-BELOW    := $(sort $(shell sed -nE 's/^(delkuthi|stretch_host|status): *//p' crates.txt))
+BELOW    := $(sort $(PARTS) $(shell sed -nE 's/^(delkuthi|stretch_ffi|queries): *//p' crates.txt))
 # rt proves crates side by side here, and one after the other in rt staticlib.
 $(BUILD)/proved: $(CRATES)
 	@command -v rt >/dev/null || { echo "rt, of the Rattle kit, is not installed; set DELKUTHI_LIB to the folder of a libdelkuthi.a"; exit 1; }

@@ -17,8 +17,8 @@ CFLAGS    ?= -O2
 HARDENED   = -fPIE -fstack-protector-strong -Wformat -Werror=format-security
 LINKED     = -Wl,-z,relro -Wl,-z,now -Wl,-z,noexecstack
 VERSION   := $(shell cat VERSION)
-# A host that is linked with one version runs with every version that has the same first two numbers.
-INTERFACE := $(basename $(VERSION))
+# A host that is linked with one version runs with every later version that has the same first number.
+INTERFACE := $(firstword $(subst ., ,$(VERSION)))
 SHARED    := libdelkuthi.so.$(VERSION)
 CMAKE     := $(BUILD)/delkuthi-config.cmake $(BUILD)/delkuthi-config-version.cmake
 LIBRARY   := $(BUILD)/libdelkuthi.a $(BUILD)/$(SHARED) $(BUILD)/delkuthi.pc $(CMAKE)

@@ -492,8 +492,8 @@ extern "C" {
 #define DELKUTHI_NONNULL
 #endif
 
-/* The version of this header, 0.7.0: major * 1000000 + minor * 1000 + patch. */
-#define DELKUTHI_VERSION UINT32_C(7000)
+/* The version of this header, 1.0.0: major * 1000000 + minor * 1000 + patch. */
+#define DELKUTHI_VERSION UINT32_C(1000000)
 
 #define DELKUTHI_LAST_TIME     UINT64_C(1152921504606846975)
 #define DELKUTHI_LAST_COUNT    UINT64_C(18446744073709551615)
@@ -548,12 +548,14 @@ uint64_t delkuthi_monitor_size(void);
 
 /*
  * Does the linked library have the interface of this header? It does if the
- * first two numbers of the version and the size of a monitor are the same. Ask
- * once, before the first call: a library that does not match may answer other
- * numbers, or write past the end of a monitor.
+ * first number of its version and the size of a monitor are the same, and the
+ * second number is not smaller. Ask once, before the first call: a library that
+ * does not match may lack a call, answer other numbers, or write past the end
+ * of a monitor.
  */
 #define DELKUTHI_MATCHES() \
-    (delkuthi_version() / 1000 == DELKUTHI_VERSION / 1000 && \
+    (delkuthi_version() / 1000000 == DELKUTHI_VERSION / 1000000 && \
+     delkuthi_version() / 1000 >= DELKUTHI_VERSION / 1000 && \
      delkuthi_monitor_size() == sizeof(delkuthi_monitor))
 
 /* The answer of a call that is not refused. */

@@ -63,7 +63,7 @@ def _files(tag: str, library: Path | None, build: str) -> Iterator[tuple[str, by
     for path in _sources():
         yield f"delkuthi/{path.relative_to(PACKAGE)}", path.read_bytes()
     if library is not None:
-        interface = _version().rsplit(".", 1)[0]
+        interface = _version().split(".")[0]
         name = f"delkuthi-{interface}.dll" if library.suffix == ".dll" else f"libdelkuthi.so.{interface}"
         yield f"delkuthi/{name}", library.read_bytes()
     for name in LICENCES:

@@ -8,9 +8,9 @@ from functools import lru_cache
 from pathlib import Path
 from typing import Any, Iterator
 
-#: The package's version. It works with each library of the same first two numbers.
+#: The package's version. It works with each library of the same first number whose second number is not smaller.
 VERSION = (Path(__file__).parent / "VERSION").read_text(encoding="ascii").strip()
-INTERFACE = VERSION.rsplit(".", 1)[0]
+INTERFACE = VERSION.split(".")[0]
 
 LAST_TIME = 2**60 - 1
 NEWEST_EDITION = 2
@@ -158,13 +158,16 @@ def library() -> ctypes.CDLL:
             call = getattr(found, name)
             call.restype, call.argtypes = result, arguments
     version = found.delkuthi_version()
-    interface = f"{version // 1_000_000}.{version // 1000 % 1000}"
-    if interface != INTERFACE:
-        raise LibraryMissing(f"the library is of version {interface}, this package of {INTERFACE}: install both again")
+    major, minor = (int(number) for number in VERSION.split(".")[:2])
+    if version // 1_000_000 != major or version // 1000 % 1000 < minor:
+        raise LibraryMissing(f"the library is of version {_text_of(version)}, this package of {VERSION}: install both again")
     return found
+
+
+def _text_of(version: int) -> str:
+    return f"{version // 1_000_000}.{version // 1000 % 1000}.{version % 1000}"
 
 
 def library_version() -> str:
     """The version of the library that was found."""
-    version = library().delkuthi_version()
-    return f"{version // 1_000_000}.{version // 1000 % 1000}.{version % 1000}"
+    return _text_of(library().delkuthi_version())

@@ -157,7 +157,7 @@ def test_every_count_is_said(command, kept):
 def test_a_library_without_a_call(tmp_path):
     """Another library of the same name is said to be one, in a line."""
     (tmp_path / "a.c").write_text("unsigned delkuthi_version(void) { return 0; }\n")
-    name = f"libdelkuthi.so.{__version__.rsplit('.', 1)[0]}"
+    name = f"libdelkuthi.so.{__version__.split('.')[0]}"
     subprocess.run([os.environ.get("CC", "cc"), "-shared", "-fPIC", "-o", tmp_path / name, tmp_path / "a.c"], check=True)
     status, error = run_with(["check", TABLE, CSV], env={**os.environ, "DELKUTHI_LIB": str(tmp_path)}, stdout=subprocess.DEVNULL)
     assert status == 2 and "has no call delkuthi_monitor_size" in error and len(error.splitlines()) == 1

@@ -16,9 +16,9 @@ use Rattle.monitor.specs.declared.Monitor.{Monitor}
 
 -- ---- the library
 
--- §11.6: 0.7.0: major * 1,000,000 + minor * 1,000 + patch
+-- §11.6: 1.0.0: major * 1,000,000 + minor * 1,000 + patch
 abbrev pub version : ℕ
-version = 0 * 1000000 + 7 * 1000 + 0
+version = 1 * 1000000 + 0 * 1000 + 0
 
 -- §11.6: the bytes of a lent monitor: 35 blocks of two arrays of 64 words of eight bytes
 abbrev pub monitorSize : ℕ

@@ -15,8 +15,8 @@ ghost use Rattle.in_place.specs.Contract.{Takes, HoldsMonitor, ReadOff};
 ghost use Rattle.fresh.specs.Fresh.{BeginsUpTo, Begins};
 ghost use Rattle.delkuthi.specs.Lent.{KnownWord, WordOfVerdict, StepOfVerdict, NumberOfRows, version, monitorSize};
 
-// The library's version: 0.7.0 as major * 1,000,000 + minor * 1,000 + patch.
-pub const VERSION: u32 = 7000;
+// The library's version: 1.0.0 as major * 1,000,000 + minor * 1,000 + patch.
+pub const VERSION: u32 = 1000000;
 // The size of a monitor in bytes.
 pub const MONITOR_SIZE: u64 = 35840;
 

@@ -108,12 +108,12 @@ pub fn version() -> String {
     fs::read_to_string(root().join("VERSION")).expect("VERSION").trim_end().to_string()
 }
 
-/// The first two numbers of the version: what a host is linked with is good for all versions that share them.
+/// The first number of the version: what a host is linked with is good for all later versions that share it.
 ///
 /// # Panics
 /// If the version has not three numbers.
 pub fn interface() -> String {
-    version().rsplit_once('.').expect("three numbers").0.to_string()
+    version().split_once('.').expect("three numbers").0.to_string()
 }
 
 /// A separate Rust program that depends on the crate `delkuthi` by its path, as a buyer's would.

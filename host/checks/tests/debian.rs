@@ -18,7 +18,7 @@ fn packaged() -> String {
 #[test]
 fn the_names_of_the_packages() {
     let version = packaged();
-    let interface = version.rsplit_once('.').expect("three numbers").0;
+    let interface = version.split_once('.').expect("three numbers").0;
     let control = text_of(&root().join("debian/control"));
     for line in [
         format!("Package: libdelkuthi{interface}"),
@@ -28,7 +28,7 @@ fn the_names_of_the_packages() {
         assert!(control.lines().any(|found| found == line), "{line}");
     }
     let symbols = text_of(&root().join(format!("debian/libdelkuthi{interface}.symbols")));
-    assert!(symbols.contains(&format!("(symver)DELKUTHI_{interface} {interface}.0")), "{symbols}");
+    assert!(symbols.contains(&format!("(symver)DELKUTHI_{interface} {interface}.0.0")), "{symbols}");
     let changes = text_of(&root().join("CHANGELOG.md"));
     assert_eq!(changes.lines().find_map(|line| line.strip_prefix("## ")), Some(version.as_str()));
 }
@@ -91,7 +91,7 @@ fn the_packages() {
     let said =
         done(lintian.args(["--profile", "debian", "--fail-on", "error,warning"]).arg(changes).env("LC_ALL", "C"));
     assert!(!said.lines().any(|line| line.starts_with("E: ")), "{said}");
-    let interface = packaged().rsplit_once('.').expect("three numbers").0.to_string();
+    let interface = packaged().split_once('.').expect("three numbers").0.to_string();
     unpacked(folder.path(), &format!("libdelkuthi{interface}"));
     unpacked(folder.path(), "libdelkuthi-dev");
     let place = unpacked(folder.path(), "python3-delkuthi");

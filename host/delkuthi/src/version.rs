@@ -25,8 +25,11 @@ pub fn library_version() -> u32 {
     ffi::delkuthi_version()
 }
 
-/// Does the linked archive have the interface of this crate? It does if the first two numbers of its version and the size of
-/// a monitor are the same. A [`Monitor`] can be made only if it does.
+/// Does the linked archive have the interface of this crate? It does if the first number of its version and the size of a
+/// monitor are the same, and the second number is not smaller. A [`Monitor`] can be made only if it does.
 pub fn matches() -> bool {
-    ffi::delkuthi_version() / 1_000 == VERSION / 1_000 && ffi::delkuthi_monitor_size() == size_of::<Monitor>() as u64
+    let version = ffi::delkuthi_version();
+    version / 1_000_000 == VERSION / 1_000_000
+        && version / 1_000 >= VERSION / 1_000
+        && ffi::delkuthi_monitor_size() == size_of::<Monitor>() as u64
 }

@@ -26,7 +26,7 @@ HEADERS   := $(wildcard include/*.h include/*.hpp)
 DOCUMENTS := CHANGELOG.md LICENSE NOTICE docs/CONTRACT.md docs/DATASHEET.md docs/SAFETY.md docs/QUALIFICATION.md docs/SUPPORT.md docs/MISRA.md \
     $(BUILD)/TRACE.md
 MANUALS   := $(BUILD)/delkuthi.1 $(BUILD)/delkuthi.3
-EXAMPLES  := $(addprefix host/c/,bench_loop.c report.c file.c file.h) examples/table.bin examples/recording.bin
+EXAMPLES  := $(addprefix host/c/,bench_loop.c causes.c report.c file.c file.h) examples/table.bin examples/recording.bin
 
 .PHONY: all lib program install install-lib install-dev uninstall clean help test test-python test-ports kit run bench count worst portable trace dist sign wheel always
 

@@ -1345,6 +1345,7 @@ uint64_t delkuthi_row_step(const delkuthi_monitor *monitor, uint64_t row);
  *   0                  the row is not broken, or there is no such row
  *
  * It returns one of these four whatever the memory holds.
+ * causes.c, among the examples, prints the cause of each row.
  */
 DELKUTHI_NONNULL
 uint8_t delkuthi_row_cause(const delkuthi_monitor *monitor, uint64_t row);

@@ -4,6 +4,10 @@ use checks::documents::{files, text_of};
 use checks::hosts::{Host, Ran, c_compiler, compile_with, cpp_compiler, done, found, ran, say};
 use checks::places::{Folder, archive_folder, example, example_bytes, root};
 use checks::release::{Installed, RustHost, interface, make, version};
+use model::random::Random;
+use model::random::calls::calls;
+use model::random::tables::any_table;
+use model::{Step, Verdict, recording_bytes, table_bytes};
 use std::ffi::OsString;
 use std::fs;
 use std::path::{Path, PathBuf};
@@ -42,7 +46,7 @@ fn copies() -> [Installed; 2] {
 }
 
 /// What is installed beside the headers and the files of the shared library.
-const INSTALLED: [&str; 24] = [
+const INSTALLED: [&str; 25] = [
     "bin/delkuthi",
     "lib/cmake/delkuthi/delkuthi-config-version.cmake",
     "lib/cmake/delkuthi/delkuthi-config.cmake",
@@ -60,6 +64,7 @@ const INSTALLED: [&str; 24] = [
     "share/doc/delkuthi/SUPPORT.md",
     "share/doc/delkuthi/TRACE.md",
     "share/doc/delkuthi/examples/bench_loop.c",
+    "share/doc/delkuthi/examples/causes.c",
     "share/doc/delkuthi/examples/file.c",
     "share/doc/delkuthi/examples/file.h",
     "share/doc/delkuthi/examples/recording.bin",
@@ -93,6 +98,41 @@ fn a_host_in_c() {
             assert_eq!(host.run(&drive_files()), Ran::new(0, &drive()));
         }
     }
+}
+
+/// What the host prints of each row that a drive leaves, by the model.
+fn causes_by_the_model(monitor: &model::Monitor) -> String {
+    let line = |row: usize| match (monitor.row_cause(row), monitor.verdict(row)) {
+        (Some(cause), Ok(Verdict::Broken(step))) => {
+            let (number, moment) = cause.numbers();
+            let by = ["by the clock", "by an event", "at the close"][usize::from(number) - 1];
+            format!("row {row} broken {by}, at {moment}, step {step}\n")
+        }
+        _ => format!("row {row} kept\n"),
+    };
+    (0..monitor.rows().len()).map(line).collect()
+}
+
+/// A host that was written from the installed header says of each row whether the clock, an event or the close broke it, and when.
+#[test]
+fn a_host_that_says_why_rows_broke() {
+    let copy = Installed::in_prefix();
+    let host = compile_with(&mut c_compiler(), &["causes.c", "file.c"], &copy.include(), &shared(&copy));
+    let (mut random, mut seen) = (Random::new(531), [0; 4]);
+    let folder = Folder::new();
+    for _ in 0..300 {
+        let rows = any_table(&mut random);
+        let steps: Vec<Step> = calls(&mut random, &rows, 60).into_iter().filter(|step| *step != Step::Close).collect();
+        let mut monitor = model::Monitor::fresh(&rows).expect("an accepted table");
+        let taken: Vec<Step> = steps.into_iter().filter(|step| monitor.step(*step).is_ok()).collect();
+        monitor.close().expect("a recording not yet closed");
+        let files =
+            [folder.write("table.bin", &table_bytes(&rows)), folder.write("recording.bin", &recording_bytes(&taken))];
+        assert_eq!(host.run(&files), Ran::new(0, &causes_by_the_model(&monitor)), "{rows:?}: {taken:?}");
+        let causes = (0..rows.len()).map(|row| monitor.row_cause(row).map_or(0, |cause| cause.numbers().0));
+        causes.for_each(|cause| seen[usize::from(cause)] += 1);
+    }
+    assert!(seen.iter().all(|number| *number > 50), "{seen:?}");
 }
 
 /// The archive with another C library than glibc.

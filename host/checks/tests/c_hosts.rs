@@ -395,9 +395,7 @@ fn the_archive_and_the_header_match() {
         assert_eq!(header.matches(one).count(), 1, "{one}");
         c_host_with_header("version", &header.replace(one, another)).run::<&str>(&[])
     };
-    for (another, status) in
-        [(version + 1, 0), (version + 1_000, 1), (version + 1_000_000, 1), (version - 1_000_000, 1)]
-    {
+    for (another, status) in [(version + 1, 0), (version + 1_000, 1), (version + 1_000_000, 1), (version - 1_000, 1)] {
         let told = other(&format!("UINT32_C({version})"), &format!("UINT32_C({another})"));
         assert_eq!(told, Ran::new(status, &of_header(another, size)));
     }

@@ -299,12 +299,12 @@ fn two_interfaces_in_one_process() {
             compiler.args(if words.is_empty() { &["-lpart"][..] } else { &[] }).arg("-o").arg(folder.path().join(out)),
         );
     };
-    let (one, other) = (library("7.1.0"), library("7.2.0"));
+    let (one, other) = (library("7.1.0"), library("8.0.0"));
     link(&other, &["-shared", "-DPART"], "libpart.so");
     link(&one, &[], "which");
     let printed = done(&mut Command::new(folder.path().join("which")));
     let files: Vec<&str> = printed.lines().map(|line| line.rsplit('/').next().expect("a name")).collect();
-    assert_eq!(files, ["libdelkuthi.so.7.1", "libdelkuthi.so.7.2"]);
+    assert_eq!(files, ["libdelkuthi.so.7", "libdelkuthi.so.8"]);
 }
 
 /// The shared library needs glibc 2.14 and no later one, and has no variables; neither it nor the program has a stack that

@@ -158,10 +158,15 @@ def library() -> ctypes.CDLL:
             call = getattr(found, name)
             call.restype, call.argtypes = result, arguments
     version = found.delkuthi_version()
-    major, minor = (int(number) for number in VERSION.split(".")[:2])
-    if version // 1_000_000 != major or version // 1000 % 1000 < minor:
+    if not matches(version):
         raise LibraryMissing(f"the library is of version {_text_of(version)}, this package of {VERSION}: install both again")
     return found
+
+
+def matches(version: int) -> bool:
+    """Does a library of this version have the package's interface?"""
+    major, minor = (int(number) for number in VERSION.split(".")[:2])
+    return version // 1_000_000 == major and version // 1000 % 1000 >= minor
 
 
 def _text_of(version: int) -> str:

@@ -151,6 +151,13 @@ def test_the_library_is_looked_for(monkeypatch, tmp_path):
     delkuthi.library.library()
 
 
+def test_which_libraries_match():
+    """The first number of the version is the package's, and the second is not smaller."""
+    major, minor, _ = (int(number) for number in delkuthi.__version__.split("."))
+    own = major * 1_000_000 + minor * 1000
+    assert [delkuthi.library.matches(own + more) for more in (0, 1, 1000, -1, 1_000_000)] == [True, True, True, False, False]
+
+
 def test_the_docstring():
     assert doctest.testmod(delkuthi).failed == 0 and doctest.testmod(delkuthi).attempted > 3
 

@@ -31,7 +31,7 @@
  * session-is-exact. It speaks of any memory and any list of the calls that
  * change it: delkuthi_fresh, events, ticks, closes, withdrawals,
  * delkuthi_take and delkuthi_report_on, with any arguments, in both forms. It
- * says what each of these calls answers, and what each of the fifteen calls
+ * says what each of these calls answers, and what each of the seventeen calls
  * that only read a monitor answers after the list. That no call leaves its
  * memory and that every call ends is in the contract of each call.
  * DATASHEET.md lists the promises with their theorems, the assumptions, and
@@ -1403,6 +1403,27 @@ uint32_t delkuthi_broken_rows(const delkuthi_monitor *monitor);
  */
 DELKUTHI_NONNULL
 uint64_t delkuthi_row_waiting(const delkuthi_monitor *monitor, uint64_t row);
+
+/*
+ * Returns the time of the oldest source or group that waits in a row that reads
+ * open; the time of a group is that of its first event. Returns
+ * DELKUTHI_NO_LIMIT if nothing waits in the row, for any other row, and if
+ * there is no row of that number.
+ */
+DELKUTHI_NONNULL
+uint64_t delkuthi_row_oldest(const delkuthi_monitor *monitor, uint64_t row);
+
+/*
+ * Returns the stream of that source; for a group the first of the row's kinds,
+ * in the order of the row, that has an event in it. Both are plain kinds, so
+ * the stream is the kind. Returns DELKUTHI_NO_STREAM where delkuthi_row_oldest
+ * returns DELKUTHI_NO_LIMIT.
+ */
+DELKUTHI_NONNULL
+uint8_t delkuthi_row_oldest_stream(const delkuthi_monitor *monitor,
+                                   uint64_t row);
+
+#define DELKUTHI_NO_STREAM 255
 
 /*
  * Returns the first row for which delkuthi_event with the same kind and time

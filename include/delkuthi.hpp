@@ -389,6 +389,21 @@ public:
         return delkuthi_row_waiting(&words_, row);
     }
 
+    // The time of the oldest that waits in a row that is open, and its stream;
+    // nothing if nothing waits.
+    std::optional<std::uint64_t> oldest(std::uint64_t row) const noexcept
+    {
+        return limit(delkuthi_row_oldest(&words_, row));
+    }
+
+    std::optional<std::uint8_t> oldest_stream(std::uint64_t row) const noexcept
+    {
+        const std::uint8_t stream = delkuthi_row_oldest_stream(&words_, row);
+
+        return stream == DELKUTHI_NO_STREAM ? std::nullopt
+                                            : std::optional(stream);
+    }
+
     // The first row for which an event of a plain kind would be refused with
     // 12; nothing if it would not be refused with 12.
     std::optional<std::uint8_t> crowded_row(std::uint8_t kind,

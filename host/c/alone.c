@@ -72,6 +72,8 @@ void start(void)
     (void)delkuthi_row_step(&monitor, delkuthi_rows(&monitor));
     (void)delkuthi_row_cause(&monitor, 0);
     (void)delkuthi_row_moment(&monitor, 0);
+    (void)delkuthi_row_oldest(&monitor, 0);
+    (void)delkuthi_row_oldest_stream(&monitor, 0);
     (void)delkuthi_page(&monitor, page, sizeof page);
     (void)delkuthi_report_of(&monitor, report, sizeof report);
     (void)delkuthi_report(bytes, sizeof bytes, bytes, sizeof bytes, report, sizeof report);

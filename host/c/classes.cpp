@@ -34,7 +34,7 @@ bool closed()
     return refused && monitor.closed() && monitor.rows() == 0 && monitor.clock() == 0 && monitor.steps() == 0
         && monitor.broken_rows() == 0 && !monitor.verdict(0) && monitor.broken_at(0) == 0 && monitor.waiting(0) == 0
         && !monitor.deadline(0) && !monitor.deadline() && !monitor.crowded_row(0, 1)
-        && monitor.cause(0) == delkuthi::cause::none && !monitor.moment(0);
+        && monitor.cause(0) == delkuthi::cause::none && !monitor.moment(0) && !monitor.oldest(0) && !monitor.oldest_stream(0);
 }
 
 // A Delay behind an Order, with 64 sources and no target.
@@ -46,6 +46,7 @@ bool crowded()
     for (std::uint64_t time = 1; time <= 64; time++)
         well = well && !monitor.crowded_row(0, time) && monitor.event(0, time).taken();
     return well && monitor.rows() == 2 && !monitor.closed() && monitor.waiting(1) == 64 && monitor.deadline() == 1001u
+        && monitor.oldest(1) == 1u && monitor.oldest_stream(1) == 0u
         && monitor.crowded_row(0, 65) == 1 && !monitor.crowded_row(1, 65)
         && monitor.event(0, 65).number() == delkuthi::number::crowded && monitor.event(1, 65).taken() && monitor.waiting(1) == 0;
 }

@@ -117,6 +117,10 @@ static void every_call(const delkuthi_monitor *forged)
         (void)delkuthi_row_deadline(forged, rows[i]);
         begins("delkuthi_row_waiting");
         (void)delkuthi_row_waiting(forged, rows[i]);
+        begins("delkuthi_row_oldest");
+        (void)delkuthi_row_oldest(forged, rows[i]);
+        begins("delkuthi_row_oldest_stream");
+        (void)delkuthi_row_oldest_stream(forged, rows[i]);
     }
     begins("delkuthi_deadline");
     (void)delkuthi_deadline(forged);

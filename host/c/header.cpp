@@ -39,6 +39,8 @@ int main()
     well = well && delkuthi_broken_rows(&bench.monitor) == 1 && delkuthi_closed(&bench.monitor) == 0;
     well = well && delkuthi_deadline(&bench.monitor) == DELKUTHI_NO_LIMIT && delkuthi_row_waiting(&bench.monitor, 0) == 0;
     well = well && delkuthi_row_deadline(&bench.monitor, 0) == DELKUTHI_NO_LIMIT;
+    well = well && delkuthi_row_oldest(&bench.monitor, 0) == DELKUTHI_NO_LIMIT;
+    well = well && delkuthi_row_oldest_stream(&bench.monitor, 0) == DELKUTHI_NO_STREAM;
     well = well && delkuthi_crowded_row(&bench.monitor, 0, 7) == DELKUTHI_ROW_LIMIT;
     well = well && delkuthi_report_of(&bench.monitor, bench.report, sizeof bench.report) == 0;
     well = well && delkuthi_close(&bench.monitor) == DELKUTHI_TAKEN;

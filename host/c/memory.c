@@ -77,6 +77,8 @@ static void calls(delkuthi_monitor *monitor)
         (void)delkuthi_deadline(monitor);
         (void)delkuthi_row_deadline(monitor, number() % 40);
         (void)delkuthi_row_waiting(monitor, number());
+        (void)delkuthi_row_oldest(monitor, number() % 40);
+        (void)delkuthi_row_oldest_stream(monitor, number() % 40);
         (void)delkuthi_crowded_row(monitor, (uint8_t)(number() % 72), time);
         (void)delkuthi_broken_rows(monitor);
         (void)(delkuthi_clock(monitor) + delkuthi_steps(monitor) + delkuthi_closed(monitor));
@@ -112,7 +114,8 @@ static int closed(delkuthi_monitor *zeros)
 
     for (row = 0; row < 40; row++)
         well = well && delkuthi_row_verdict(zeros, row) == DELKUTHI_NO_ROW && delkuthi_row_step(zeros, row) == 0
-            && delkuthi_row_waiting(zeros, row) == 0 && delkuthi_row_deadline(zeros, row) == DELKUTHI_NO_LIMIT;
+            && delkuthi_row_waiting(zeros, row) == 0 && delkuthi_row_deadline(zeros, row) == DELKUTHI_NO_LIMIT
+            && delkuthi_row_oldest(zeros, row) == DELKUTHI_NO_LIMIT && delkuthi_row_oldest_stream(zeros, row) == DELKUTHI_NO_STREAM;
     well = well && delkuthi_event(zeros, 0, 1) == DELKUTHI_CLOSED && delkuthi_coloured_event(zeros, 48, 0, 1) == DELKUTHI_CLOSED
         && delkuthi_tick(zeros, 1) == DELKUTHI_CLOSED && delkuthi_close(zeros) == DELKUTHI_CLOSED
         && delkuthi_withdraw(zeros) == DELKUTHI_NOTHING_TO_WITHDRAW

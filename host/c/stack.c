@@ -69,6 +69,8 @@ static void verdict(void)
     (void)delkuthi_row_step(&monitor, delkuthi_rows(&monitor) - 1);
     (void)delkuthi_row_cause(&monitor, delkuthi_rows(&monitor) - 1);
     (void)delkuthi_row_moment(&monitor, delkuthi_rows(&monitor) - 1);
+    (void)delkuthi_row_oldest(&monitor, delkuthi_rows(&monitor) - 1);
+    (void)delkuthi_row_oldest_stream(&monitor, delkuthi_rows(&monitor) - 1);
     (void)delkuthi_deadline(&monitor);
     (void)delkuthi_broken_rows(&monitor);
     (void)delkuthi_crowded_row(&monitor, 0, delkuthi_clock(&monitor) + 1);

@@ -112,6 +112,8 @@ OPTIONAL_CALLS: dict[str, tuple[Any, list[Any]]] = {
     "delkuthi_deadline": (_NUMBER, [_MONITOR]),
     "delkuthi_row_deadline": (_NUMBER, [_MONITOR, _NUMBER]),
     "delkuthi_row_waiting": (_NUMBER, [_MONITOR, _NUMBER]),
+    "delkuthi_row_oldest": (_NUMBER, [_MONITOR, _NUMBER]),
+    "delkuthi_row_oldest_stream": (_BYTE, [_MONITOR, _NUMBER]),
     "delkuthi_crowded_row": (_BYTE, [_MONITOR, _BYTE, _NUMBER]),
 }
 

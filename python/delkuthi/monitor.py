@@ -134,6 +134,11 @@ class Monitor:
         """How many wait in a row that reads open; 0 in any other."""
         return int(self._library.delkuthi_row_waiting(self._memory, _row(row)))
 
+    def row_oldest(self, row: int) -> tuple[int, int] | None:
+        """The time and the kind of the oldest that waits in a row that reads open; ``None`` where nothing waits."""
+        time = int(self._library.delkuthi_row_oldest(self._memory, _row(row)))
+        return None if time == lib.NO_LIMIT else (time, int(self._library.delkuthi_row_oldest_stream(self._memory, _row(row))))
+
     def crowded_row(self, event: int | str, time: int) -> int | None:
         """The first row for which an event of a plain kind would be refused with 12; ``None`` where it would not be."""
         kind = self.table.kind(event)

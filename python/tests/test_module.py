@@ -50,6 +50,8 @@ def test_the_row_that_an_event_crowds():
         assert monitor.crowded_row(0, time) is None
         monitor.event(0, time)
     assert monitor.crowded_row(0, 65) == 1 and answer(monitor.event, 0, 65) == 12
+    assert (monitor.row_waiting(1), monitor.row_oldest(1)) == (64, (1, 0))
+    assert [monitor.row_oldest(row) for row in (0, 2, -1, 2**70)] == [None] * 4
     assert [monitor.crowded_row(*one) for one in ((0, 64), (1, 65), (48, 65), (-1, 65), (300, 65), (0, -1), (0, 2**70))] == [None] * 7
 
 

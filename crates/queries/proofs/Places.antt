@@ -3,6 +3,7 @@ use Rattle.queries.proofs.Names.{Call, HoldsMonitor, Lent, List, Monito
 use Rattle.queries.proofs.Names.{keptAt}
 use Rattle.queries.proofs.Names.{length, number-at, numberWords, refusalFor, refusalIn, row-lies, rowAt, rowLimit, rowWords, subst}
 use Rattle.queries.proofs.Names.{waitingLimit, wordsOfLent, ℕ}
+use Rattle.row_type.specs.Words.{parametersAt, registersAt}
 use Rattle.row.specs.Stored as Stored
 
 -- the numbers of row i that are read
@@ -50,6 +51,18 @@ module _ (words : Words) (m : Monitor) (holds : HoldsMonitor words m) where
   module _ (i : ℕ) (l : i < 32) where
     pub block-lies : getD words i [] ≡ Stored.wordsOfRow (rowAt m i) (keptAt m i)
     block-lies = said (λ x. getD words i [] ≡ Stored.wordsOfRow (rowAt x i) (keptAt x i)) (λ h e s. row-lies h s words e i l)
+
+    pub times-lie : getD (getD words i []) 0 [] ≡ rowAt m i .times
+    unfolding Stored.wordsOfRow rowWords
+    times-lie = ap (λ (w : List (List ℕ)). getD w 0 []) block-lies
+
+    pub parameters-lie : parametersAt (getD (getD words i []) 1 []) ≡ rowAt m i .parameters
+    unfolding Stored.wordsOfRow rowWords numberWords
+    parameters-lie = ap (λ (w : List (List ℕ)). parametersAt (getD w 1 [])) block-lies
+
+    pub registers-lie : registersAt (getD (getD words i []) 1 []) ≡ rowAt m i .now .registers
+    unfolding Stored.wordsOfRow rowWords numberWords
+    registers-lie = ap (λ (w : List (List ℕ)). registersAt (getD w 1 [])) block-lies
 
     pub numbers-lie : RowLies words m i
     unfolding Stored.wordsOfRow rowWords numberWords

@@ -25,7 +25,7 @@ module _ (c : Constraint) (exact : Exact c) (steps : List Step) (valid : Valid s
         → Open c later
     open-until later past o same soon = exact .is-open past o (exact .same same (g .live)) (subst (λ (n : ℕ). clock later ≤ n) (g .due-is) soon)
 
-    open-now : closed steps ≡ false → Open c steps
+    pub open-now : closed steps ≡ false → Open c steps
     open-now o = open-until steps (past-of valid) o refl (g .in-time)
 
     open-tick : closed steps ≡ false → (t : ℕ) → clock steps < t → t ≤ lastTime → t ≤ s .due → Open c (steps ++ (tick t ∷ []))
@@ -47,7 +47,7 @@ module _ (c : Constraint) (exact : Exact c) (steps : List Step) (valid : Valid s
 
   module _ (r : Row) (f : Fits c exact steps r) where
     -- by whether the recording is closed and the row broken
-    by-state : (P : ℕ → Type 0) (shut none value : ℕ) → ltb 0 shut ≡ closed steps → ((closed steps ≡ true) ⊎ (¬ Open c steps) → P none)
+    pub by-state : (P : ℕ → Type 0) (shut none value : ℕ) → ltb 0 shut ≡ closed steps → ((closed steps ≡ true) ⊎ (¬ Open c steps) → P none)
         → (closed steps ≡ false → Going c exact steps (r .times) (r .now) → P value)
         → P (cond (ltb 0 shut) none (cond (ltb 0 (r .now .broken)) none value))
     by-state P shut none value is ends goes =
@@ -65,7 +65,7 @@ module _ (c : Constraint) (exact : Exact c) (steps : List Step) (valid : Valid s
         by-state (Deadline c steps) shut noLimit _ is over
         (λ o g. running o (open-now (r .times) (r .now) g o) (going-deadline (r .times) (r .now) g o))
 
-    going-waits : Going c exact steps (r .times) (r .now) → waiting c steps ≡ cond (waitsIn (r .parameters .tag)) (r .now .len) 0
+    pub going-waits : Going c exact steps (r .times) (r .now) → waiting c steps ≡ cond (waitsIn (r .parameters .tag)) (r .now .len) 0
     going-waits g =
         waits-are (waitsIn (parametersOf c .tag)) (waiting c steps) _ (exact .waits (past-of valid) (g .live))
         ∙ ap (λ (n : ℕ). cond (waitsIn (parametersOf c .tag)) n 0) (ring-length (r .times) (r .now .head) (r .now .len))

@@ -8,7 +8,9 @@ use Rattle.queries.proofs.Names.{getD, getElem?, has-none, has-row, le-
 use Rattle.queries.proofs.Names.{noRow, none, refl, row, rowAt, rowLimit, some, split, subst, suc, sym, there, true, waitingBy, waitingOf}
 use Rattle.queries.proofs.Names.{zero}
 use Rattle.queries.proofs.Names.{ℕ}
-use Rattle.queries.specs.Numbers.{causeIn, causeOf, momentIn, momentOf}
+use Rattle.queries.specs.Numbers.{causeIn, causeOf, momentIn, momentOf, oldestAt, oldestOf, oldestStreamAt, oldestStreamOf}
+use Rattle.queries.specs.Oldest.{noStream}
+use Rattle.queries.proofs.Oldest.{fits-oldest}
 use Rattle.queries.proofs.Rows.{fits-broken, fits-cause, fits-deadline, fits-waiting, row-deadline-once}
 use Rattle.queries.proofs.{Crowded.crowded-says, RowPresent.bit-is, RowPresent.least-limit, RowPresent.marks-below}
 use Rattle.queries.specs.Contract as C
@@ -49,6 +51,12 @@ module _ (rows : List Constraint) (steps : List Step) (m : Monitor) (f : Follows
       (waitingBy (m .closed) (rowAt m i .now .broken) (rowAt m i .parameters .tag) (rowAt m i .now .len)) 0))
       (λ c small is sound fit. fits-waiting c (every-type-exact c sound) steps (f .valid) (rowAt m i) fit rows i is (m .closed) (f .closed-is))
       C.no-row
+
+  oldest-says : (i : ℕ) → C.RowOldest rows steps i (oldestOf m i) (oldestStreamOf m i)
+  oldest-says i =
+      by-row i (λ b. C.RowOldest rows steps i (cond b (oldestAt m i) noLimit) (cond b (oldestStreamAt m i) noStream))
+      (λ c small is sound fit. fits-oldest c sound steps (f .valid) (rowAt m i) fit rows i is (m .closed) (f .closed-is))
+      C.no-oldest
 
   cause-says : (i : ℕ) → C.RowCause rows steps i (causeOf m i) (momentOf m i)
   cause-says i =
@@ -159,6 +167,15 @@ module _ (m : Monitor) {answer : ℕ} where
   -- §15.5
   pub waiting-asked : (i : ℕ) → answer ≡ waitingOf m i → AsksWaiting m i answer
   waiting-asked i = asked m _ (λ rows steps. RowWaiting rows steps i) (λ rows steps f. waiting-says rows steps m f i)
+
+  -- §15.19
+  pub oldest-asked : (i : ℕ) → answer ≡ oldestOf m i → C.AsksOldest m i answer
+  oldest-asked i = asked m _ (λ rows steps time. C.RowOldest rows steps i time (oldestStreamOf m i)) (λ rows steps f. oldest-says rows steps m f i)
+
+  -- §15.19
+  pub oldest-stream-asked : (i : ℕ) → answer ≡ oldestStreamOf m i → C.AsksOldestStream m i answer
+  oldest-stream-asked i =
+      asked m _ (λ rows steps stream. C.RowOldest rows steps i (oldestOf m i) stream) (λ rows steps f. oldest-says rows steps m f i)
 
   -- §15.14
   pub cause-asked : (i : ℕ) → answer ≡ causeOf m i → C.AsksCause m i answer

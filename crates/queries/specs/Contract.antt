@@ -15,6 +15,7 @@ use Rattle.constraint.specs.Questions.{Judged}
 use Rattle.constraint.specs.Accepted.{Accepted}
 use Rattle.constraint.specs.Run.{stepFor, questions, Request, Left}
 use Rattle.queries.specs.Deadlines.{RowDeadline, LeastDeadline}
+use Rattle.queries.specs.Oldest.{noStream, oldest, oldestStream}
 use Rattle.constraint.specs.declared.Answer.the-variants.{Refused}
 use Rattle.constraint.specs.declared.Call.{Call}
 use Rattle.constraint.specs.Constraint.{Constraint}
@@ -23,6 +24,7 @@ use Rattle.row.specs.Machine.{mark}
 use Rattle.monitor.specs.Contract.{after, Remains}
 use Rattle.monitor.specs.declared.Monitor.{Monitor}
 use Rattle.queries.specs.Numbers.{causeOf, momentOf, deadlineOf, leastOf, waitingOf, brokenRowsOf, crowdedRowOf}
+use Rattle.queries.specs.Numbers.{oldestOf, oldestStreamOf}
 
 -- §15.4: bit i of a number
 unfoldable pub bit : ℕ → ℕ → ℕ
@@ -40,6 +42,13 @@ pub data RowWaiting (rows : List Constraint) (steps : List Step) (i : ℕ) : ℕ
   open-row : (c : Constraint) → getElem? rows i ≡ some c → closed steps ≡ false → Open c steps → RowWaiting rows steps i (waiting c steps)
   other-row : (c : Constraint) → getElem? rows i ≡ some c → (closed steps ≡ true) ⊎ (¬ Open c steps) → RowWaiting rows steps i 0
   no-row : getElem? rows i ≡ none → RowWaiting rows steps i 0
+
+-- §15.18, §15.19: the time and the stream of the oldest that waits in a row that reads open; none of any other, and where there is no such row
+pub data RowOldest (rows : List Constraint) (steps : List Step) (i : ℕ) : ℕ → ℕ → Type 0 where
+  open-oldest : (c : Constraint) → getElem? rows i ≡ some c → closed steps ≡ false → Open c steps
+      → RowOldest rows steps i (oldest c steps) (oldestStream c steps)
+  other-oldest : (c : Constraint) → getElem? rows i ≡ some c → (closed steps ≡ true) ⊎ (¬ Open c steps) → RowOldest rows steps i noLimit noStream
+  no-oldest : getElem? rows i ≡ none → RowOldest rows steps i noLimit noStream
 
 -- §15.14, §15.15: the cause and the moment of a row that reads broken; none of any other, and where there is no such row
 pub data RowCause (rows : List Constraint) (steps : List Step) (i : ℕ) : ℕ → ℕ → Type 0 where
@@ -83,6 +92,13 @@ AsksBrokenRows m = QueryAnswer m (brokenRowsOf m) BrokenRows
 
 abbrev pub AsksWaiting : Monitor → ℕ → ℕ → Type 0
 AsksWaiting m i = QueryAnswer m (waitingOf m i) (λ rows steps. RowWaiting rows steps i)
+
+-- §15.19: the time, with the stream that the other call answers; and the stream, with the time
+abbrev pub AsksOldest : Monitor → ℕ → ℕ → Type 0
+AsksOldest m i = QueryAnswer m (oldestOf m i) (λ rows steps time. RowOldest rows steps i time (oldestStreamOf m i))
+
+abbrev pub AsksOldestStream : Monitor → ℕ → ℕ → Type 0
+AsksOldestStream m i = QueryAnswer m (oldestStreamOf m i) (λ rows steps stream. RowOldest rows steps i (oldestOf m i) stream)
 
 -- §15.16: the cause, with the moment that the other call answers; and the moment, with the cause
 abbrev pub AsksCause : Monitor → ℕ → ℕ → Type 0

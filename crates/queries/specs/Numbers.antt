@@ -5,12 +5,16 @@ use mathlib.Core.List.{List, [], _∷_}
 use lib.Dec.{ltb, eqb}
 use Rattle.constraint.specs.Limits.{lastTime, noLimit, rowLimit}
 use Rattle.constraint.specs.declared.Call.{Call}
+use Rattle.ring.specs.Ring.{timeAt}
 use Rattle.row_type.specs.Parameters.{waitsIn}
+use Rattle.row_type.specs.declared.Parameters.{Parameters}
+use Rattle.row_type.specs.declared.Registers.{Registers}
 use Rattle.row.specs.Machine.{mark, rowStep}
 use Rattle.row.specs.declared.Row.{Row}
 use Rattle.monitor.specs.Machine.{nextStep, stepInputOf, refusalFor}
 use Rattle.monitor.specs.declared.Monitor.{Monitor}
 use Rattle.in_place.specs.Layout.{rowAt}
+use Rattle.queries.specs.Oldest.{noStream}
 
 -- a monitor of len rows has a row i
 abbrev pub there : ℕ → ℕ → Bool
@@ -51,8 +55,47 @@ momentOf m i = cond (there i (m .len)) (momentIn (rowAt m i .now .broken) (rowAt
 abbrev pub waitingBy : ℕ → ℕ → ℕ → ℕ → ℕ
 waitingBy closed broken tag kept = cond (ltb 0 closed) 0 (cond (ltb 0 broken) 0 (cond (waitsIn tag) kept 0))
 
+-- in a row that is there
+abbrev pub waitingAt : Monitor → ℕ → ℕ
+waitingAt m i = waitingBy (m .closed) (rowAt m i .now .broken) (rowAt m i .parameters .tag) (rowAt m i .now .len)
+
 abbrev pub waitingOf : Monitor → ℕ → ℕ
-waitingOf m i = cond (there i (m .len)) (waitingBy (m .closed) (rowAt m i .now .broken) (rowAt m i .parameters .tag) (rowAt m i .now .len)) 0
+waitingOf m i = cond (there i (m .len)) (waitingAt m i) 0
+
+-- ---- the oldest that waits
+
+-- the first of the kinds of which a group has an event, by how many groups have one of each kind
+abbrev pub firstCounted : List ℕ → List ℕ → ℕ
+firstCounted [] counts = noLimit
+firstCounted (k ∷ kinds) [] = noLimit
+firstCounted (k ∷ kinds) (n ∷ counts) = cond (ltb 0 n) k (firstCounted kinds counts)
+
+abbrev pub groupKind : Parameters → Registers → ℕ
+groupKind p r = firstCounted (p .first ∷ p .second ∷ p .third ∷ p .fourth ∷ []) (r .first ∷ r .second ∷ r .third ∷ r .fourth ∷ [])
+
+-- the kind of the oldest, where something waits: of a StrongSynchronization the first in its oldest group, of any other row the source
+abbrev pub oldestKind : Parameters → Registers → ℕ
+oldestKind p r = cond (eqb (p .tag) 7) (groupKind p r) (p .first)
+
+-- by how many wait, the oldest time that the row keeps and that kind
+abbrev pub oldestBy : ℕ → ℕ → ℕ
+oldestBy waiting time = cond (ltb 0 waiting) time noLimit
+
+abbrev pub oldestStreamBy : ℕ → ℕ → ℕ
+oldestStreamBy waiting kind = cond (ltb 0 waiting) (min kind noStream) noStream
+
+-- in a row that is there
+abbrev pub oldestAt : Monitor → ℕ → ℕ
+oldestAt m i = oldestBy (waitingAt m i) (timeAt (rowAt m i .times) (rowAt m i .now .head) 0)
+
+abbrev pub oldestStreamAt : Monitor → ℕ → ℕ
+oldestStreamAt m i = oldestStreamBy (waitingAt m i) (oldestKind (rowAt m i .parameters) (rowAt m i .now .registers))
+
+abbrev pub oldestOf : Monitor → ℕ → ℕ
+oldestOf m i = cond (there i (m .len)) (oldestAt m i) noLimit
+
+abbrev pub oldestStreamOf : Monitor → ℕ → ℕ
+oldestStreamOf m i = cond (there i (m .len)) (oldestStreamAt m i) noStream
 
 -- ---- broken rows
 

@@ -1,7 +1,10 @@
 // What a host can ask of a lent monitor. These calls only read its words.
+use crate::NO_STREAM;
 use crate::cause_by;
 use crate::deadline_by;
 use crate::moment_by;
+use crate::oldest_kind;
+use crate::stream_from;
 use crate::waiting_by;
 use constraint::NO_LIMIT;
 use in_place::CLOCK;
@@ -12,6 +15,7 @@ use in_place::calls::event_refusal;
 use in_place::closed;
 use in_place::held;
 use questions::event_of;
+use ring::time_at;
 use row::StepInput;
 use row::stored::step_overflows;
 use row_type::parts::smaller;
@@ -30,9 +34,9 @@ ghost use Rattle.row.specs.Machine.{mark};
 ghost use Rattle.monitor.specs.declared.Monitor.{Monitor};
 ghost use Rattle.in_place.specs.Layout.{rowAt};
 ghost use Rattle.in_place.specs.Contract.{HoldsMonitor, ReadOff};
-ghost use Rattle.queries.specs.Numbers.{deadlineBy, firstMarked};
+ghost use Rattle.queries.specs.Numbers.{deadlineBy, firstMarked, waitingAt, oldestAt, oldestStreamAt};
 ghost use Rattle.queries.specs.Contract.{AsksClock, AsksSteps, AsksClosed, AsksBrokenRows, AsksWaiting};
-ghost use Rattle.queries.specs.Contract.{AsksRowDeadline, AsksDeadline, AsksCrowdedRow, AsksCause, AsksMoment};
+ghost use Rattle.queries.specs.Contract.{AsksRowDeadline, AsksDeadline, AsksCrowdedRow, AsksCause, AsksMoment, AsksOldest, AsksOldestStream};
 
 // §15.1
 // Returns the clock.
@@ -97,6 +101,14 @@ pub extern "C" fn delkuthi_deadline(m: &Words) -> u64
     least
 }
 
+// Returns how many wait in a row that exists.
+fn waiting_at(m: &Words, i: usize) -> u64
+    requires { ⌜ i < 32 ⌝ }
+    ensures { λ r. ⌜ ((n : Monitor) → HoldsMonitor (now (m .entry)) n → r ≡ waitingAt n i) ⌝ }
+{
+    waiting_by(closed(m), m[i][1][BROKEN], m[i][1][TYPE_TAG], m[i][1][LEN])
+}
+
 // §15.5
 // Returns how many wait in a row, if it reads open.
 #[no_mangle]
@@ -106,8 +118,53 @@ pub extern "C" fn delkuthi_row_waiting(m: &Words, row: u64) -> u64
     if held(m) as u64 <= row {
         return 0;
     }
-    let i = row as usize;
-    waiting_by(closed(m), m[i][1][BROKEN], m[i][1][TYPE_TAG], m[i][1][LEN])
+    waiting_at(m, row as usize)
+}
+
+// Returns the time of the oldest that waits in a row that exists.
+fn oldest_at(m: &Words, i: usize) -> u64
+    requires { ⌜ i < 32 ⌝ }
+    ensures { λ r. ⌜ ((n : Monitor) → HoldsMonitor (now (m .entry)) n → r ≡ oldestAt n i) ⌝ }
+{
+    if waiting_at(m, i) == 0 {
+        return NO_LIMIT;
+    }
+    time_at(&m[i][0], m[i][1][HEAD] as usize, 0)
+}
+
+// §15.19
+// Returns the time of the oldest that waits in a row, or the largest number if nothing waits.
+#[no_mangle]
+pub extern "C" fn delkuthi_row_oldest(m: &Words, row: u64) -> u64
+    ensures { λ r. ⌜ ReadOff (now (m .entry)) (λ monitor. AsksOldest monitor row) r ⌝ }
+{
+    if held(m) as u64 <= row {
+        return NO_LIMIT;
+    }
+    oldest_at(m, row as usize)
+}
+
+// Returns the stream of the oldest that waits in a row that exists.
+fn oldest_stream_at(m: &Words, i: usize) -> u8
+    requires { ⌜ i < 32 ⌝ }
+    ensures { λ r. ⌜ ((n : Monitor) → HoldsMonitor (now (m .entry)) n → r ≡ oldestStreamAt n i) ⌝ }
+{
+    if waiting_at(m, i) == 0 {
+        return NO_STREAM;
+    }
+    stream_from(oldest_kind(&m[i][1]))
+}
+
+// §15.19
+// Returns the stream of the oldest that waits in a row, or 255 if nothing waits.
+#[no_mangle]
+pub extern "C" fn delkuthi_row_oldest_stream(m: &Words, row: u64) -> u8
+    ensures { λ r. ⌜ ReadOff (now (m .entry)) (λ monitor. AsksOldestStream monitor row) r ⌝ }
+{
+    if held(m) as u64 <= row {
+        return NO_STREAM;
+    }
+    oldest_stream_at(m, row as usize)
 }
 
 // §15.14

@@ -3,10 +3,14 @@ pub mod ffi;
 
 use constraint::NO_LIMIT;
 use monitor::Monitor;
-ghost use Prim.Native.Nat.{_≤_};
+use ring::SIZE;
+use row_type::row_words;
+ghost use Prim.Native.Nat.{_≤_, min};
 ghost use mathlib.Core.Path.{_≡_};
 ghost use Rattle.row_type.specs.Parameters.{waitsIn};
-ghost use Rattle.queries.specs.Numbers.{deadlineBy, waitingBy, causeIn, momentIn};
+ghost use Rattle.row_type.specs.Words.{parametersAt, registersAt};
+ghost use Rattle.queries.specs.Oldest.{noStream};
+ghost use Rattle.queries.specs.Numbers.{deadlineBy, waitingBy, causeIn, momentIn, groupKind, oldestKind};
 
 // §15.6, §15.7
 // Returns the deadline of a row, given the mark of the close, the step that broke the row and its due time.
@@ -75,4 +79,49 @@ pub fn waiting_by(closed: u64, broken: u64, tag: u64, kept: u64) -> u64
         return kept;
     }
     0
+}
+
+// §15.19
+// What is no stream.
+pub const NO_STREAM: u8 = 255;
+
+// §15.18
+// Returns the first kind that has an event in the oldest group of a StrongSynchronization, given the row's numbers.
+fn group_kind(w: &[u64; SIZE]) -> u64
+    ensures { λ r. ⌜ r ≡ groupKind (parametersAt (now (w .entry))) (registersAt (now (w .entry))) ⌝ }
+{
+    if 0 < w[row_words::ONE] {
+        return w[row_words::FIRST];
+    }
+    if 0 < w[row_words::TWO] {
+        return w[row_words::SECOND];
+    }
+    if 0 < w[row_words::THREE] {
+        return w[row_words::THIRD];
+    }
+    if 0 < w[row_words::FOUR] {
+        return w[row_words::FOURTH];
+    }
+    NO_LIMIT
+}
+
+// §15.18
+// Returns the kind of the oldest that waits in a row, given the row's numbers, where something waits.
+pub fn oldest_kind(w: &[u64; SIZE]) -> u64
+    ensures { λ r. ⌜ r ≡ oldestKind (parametersAt (now (w .entry))) (registersAt (now (w .entry))) ⌝ }
+{
+    if w[row_words::TYPE_TAG] == 7 {
+        return group_kind(w);
+    }
+    w[row_words::FIRST]
+}
+
+// Returns a number as a stream; one that is too large is none.
+pub fn stream_from(number: u64) -> u8
+    ensures { λ r. ⌜ r ≡ min number noStream ⌝ }
+{
+    if number < NO_STREAM as u64 {
+        return number as u8;
+    }
+    NO_STREAM
 }

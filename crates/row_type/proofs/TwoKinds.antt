@@ -197,3 +197,9 @@ module _ {c : Constraint} {source target : ℕ} {Meet : List ℕ → List ℕ �
         is-kept = λ p live soon k. transport (sym (of .meets-are _)) (laws .is-kept live k);
         not-kept = λ p live k m. laws .not-kept live k (transport (of .meets-are _) m);
       }
+
+  -- what is live of the steps is live of the two lists
+  pub pair-live : (steps : List Step) (registers : Registers) (held : List ℕ) → exactTwoKinds .Live steps registers held
+      → laws .Live (times source steps) (times target steps) registers held
+  unfolding exactTwoKinds
+  pair-live steps registers held live = live

@@ -3,7 +3,7 @@ use Rattle.sessions.proofs.Names.{Accepted, Answer, QueryAnswer, Constr
 use Rattle.sessions.proofs.Names.{ReportsSteps}
 use Rattle.sessions.proofs.Names.{Request, Run, Step, after, monitor-is-exact, noneLeft, play, refl, run-once, subst, verdictOf, ℕ}
 use Rattle.sessions.proofs.Names.{sym}
-use Rattle.queries.specs.Contract.{RowCause}
+use Rattle.queries.specs.Contract.{RowCause, RowOldest}
 
 module _ (rows : List Constraint) (requests : List Request) (answers : List Answer) (left : Left) (accepted : Accepted rows)
     (run : Run rows noneLeft requests answers left) where
@@ -37,6 +37,8 @@ module _ (rows : List Constraint) (requests : List Request) (answers : List Answ
         closed-is = λ number a. asked-says (a m holds);
         broken-rows = λ mask a. asked-says (a m holds);
         row-waiting = λ i number a. asked-says (a m holds);
+        row-oldest = λ i time stream a b.
+            subst (RowOldest rows (left .steps) i time) (sym (b m holds .equals)) (asked-says (a m holds));
         row-deadline = λ i time a. asked-says (a m holds);
         deadline = λ time a. asked-says (a m holds);
         row-cause = λ i cause moment a b.

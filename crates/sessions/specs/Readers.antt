@@ -20,8 +20,9 @@ use Rattle.delkuthi.specs.Reporting.{ReportsSteps, ReportsOf}
 use Rattle.queries.specs.Deadlines.{RowDeadline, LeastDeadline}
 use Rattle.queries.specs.Contract.{BrokenRows, RowWaiting, CrowdedRow, AsksClock, AsksSteps, AsksClosed, AsksBrokenRows, AsksWaiting}
 use Rattle.queries.specs.Contract.{AsksRowDeadline, AsksDeadline, AsksCrowdedRow, AsksCause, AsksMoment, RowCause}
+use Rattle.queries.specs.Contract.{AsksOldest, AsksOldestStream, RowOldest}
 
--- §11.2: each of the fifteen answers what the definitions say of the rows after these steps
+-- §11.2: each of the seventeen answers what the definitions say of the rows after these steps
 pub record ReadsAs (h : Memory) (rows : List Constraint) (steps : List Step) : Type 0 where
   -- §11.5: `delkuthi_row_verdict` and `delkuthi_row_step`: the word and the step of what the row reads
   pub verdicts : (i : ℕ) → (v : Option Verdict) × ReadsRow rows steps i v
@@ -43,6 +44,9 @@ pub record ReadsAs (h : Memory) (rows : List Constraint) (steps : List Step) : T
   pub broken-rows : (mask : ℕ) → ReadOff h AsksBrokenRows mask → BrokenRows rows steps mask
   -- §15.5: `delkuthi_row_waiting`
   pub row-waiting : (i number : ℕ) → ReadOff h (λ m. AsksWaiting m i) number → RowWaiting rows steps i number
+  -- §15.19: `delkuthi_row_oldest` and `delkuthi_row_oldest_stream`
+  pub row-oldest : (i time stream : ℕ) → ReadOff h (λ m. AsksOldest m i) time → ReadOff h (λ m. AsksOldestStream m i) stream
+      → RowOldest rows steps i time stream
   -- §15.8, §15.9: `delkuthi_row_deadline` and `delkuthi_deadline`
   pub row-deadline : (i time : ℕ) → ReadOff h (λ m. AsksRowDeadline m i) time → RowDeadline rows steps i time
   pub deadline : (time : ℕ) → ReadOff h AsksDeadline time → LeastDeadline rows steps time

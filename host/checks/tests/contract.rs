@@ -110,6 +110,28 @@ fn the_causes_are_so() {
 }
 
 #[test]
+fn the_oldest_are_so() {
+    let text = text();
+    let examples: Vec<Example> = blocks(&text, "oldest").iter().map(|lines| example(lines)).collect();
+    assert!(examples.len() >= 4);
+    let told = |oldest: Option<(u64, u8)>| match oldest {
+        Some((time, stream)) => format!("time {time} stream {stream}"),
+        None => "none".to_string(),
+    };
+    for Example { rows, recordings } in examples {
+        for recording in recordings {
+            let (mut model, mut library) = (model::Monitor::fresh(&rows).expect("an accepted table"), fresh(&rows));
+            let steps: Vec<Step> = recording.iter().map(|(asked, _)| asked.step()).collect();
+            steps.iter().for_each(|step| model.step(*step).expect("a step that is taken"));
+            assert!(take_all(&mut library, &steps).iter().all(Result::is_ok));
+            let said = recording.last().and_then(|(_, said)| said.clone());
+            assert_eq!(Some(told(model.row_oldest(0))), said, "{rows:?}: {steps:?}");
+            assert_eq!(Some(told(library.row_oldest(0))), said, "{rows:?}: {steps:?}");
+        }
+    }
+}
+
+#[test]
 fn the_writes_are_so() {
     let text = text();
     let lines: Vec<&str> = blocks(&text, "write").into_iter().flatten().collect();

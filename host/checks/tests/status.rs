@@ -1,6 +1,6 @@
 //! What a host asks while it runs, after random lists of calls and withdrawals, beside the model, which finds the first
 //! tick that breaks a row by search.
-//! Clauses: §15.1 to §15.9, §15.11, §15.14 to §15.16.
+//! Clauses: §15.1 to §15.9, §15.11, §15.14 to §15.16, §15.18 to §15.20.
 
 use checks::beside::{fresh, take};
 use checks::words::untouched;
@@ -17,11 +17,14 @@ fn compare(monitor: &Monitor, model: &model::Monitor, what: &str) {
     assert_eq!((monitor.is_closed(), monitor.broken_rows()), (model.closed(), model.broken_rows()), "{what}");
     for row in 0..model.rows().len() {
         assert_eq!(monitor.row_waiting(row), model.row_waiting(row), "row {row} after {what}");
+        assert_eq!(monitor.row_oldest(row), model.row_oldest(row), "row {row} after {what}");
+        assert_eq!(monitor.row_oldest(row).is_some(), monitor.row_waiting(row) > 0, "row {row} after {what}");
         assert_eq!(monitor.row_deadline(row), limit(model.row_deadline(row)), "row {row} after {what}");
     }
     let none = model.rows().len();
     assert_eq!((monitor.row_waiting(none), monitor.row_deadline(none)), (0, None), "{what}");
     assert_eq!((monitor.row_waiting(usize::MAX), monitor.row_deadline(usize::MAX)), (0, None), "{what}");
+    assert_eq!((monitor.row_oldest(none), monitor.row_oldest(usize::MAX)), (None, None), "{what}");
     assert_eq!(monitor.deadline(), limit(model.deadline()), "{what}");
 }
 

@@ -45,6 +45,8 @@ safe! {
     fn delkuthi_closed(monitor: &Monitor) -> u8;
     fn delkuthi_broken_rows(monitor: &Monitor) -> u32;
     fn delkuthi_row_waiting(monitor: &Monitor, row: u64) -> u64;
+    fn delkuthi_row_oldest(monitor: &Monitor, row: u64) -> u64;
+    fn delkuthi_row_oldest_stream(monitor: &Monitor, row: u64) -> u8;
     fn delkuthi_crowded_row(monitor: &Monitor, kind: u8, time: u64) -> u8;
     fn delkuthi_row_deadline(monitor: &Monitor, row: u64) -> u64;
     fn delkuthi_deadline(monitor: &Monitor) -> u64;

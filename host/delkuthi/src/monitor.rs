@@ -259,6 +259,27 @@ impl Monitor {
         ffi::delkuthi_row_waiting(self, row as u64) as usize
     }
 
+    /// The time and the stream of the oldest that waits in a row that reads open. The time of a group is that of its first
+    /// event, and its stream the first of the row's kinds that has an event in it. None if nothing waits in the row, for any
+    /// other row, and if there is no row of that number.
+    ///
+    /// ```
+    /// # use delkuthi::{Monitor, Row, TABLE_LIMIT, write_table};
+    /// # let mut table = [0; TABLE_LIMIT];
+    /// # let length = write_table(&[Row::Delay { source: 0, target: 1, lower: 2, upper: 30 }], &mut table)?;
+    /// let mut monitor = Monitor::fresh(&table[..length])?;
+    /// monitor.event(0, 10)?;
+    /// monitor.event(0, 12)?;
+    /// assert_eq!(monitor.row_oldest(0), Some((10, 0)));
+    /// monitor.event(1, 13)?;
+    /// assert_eq!(monitor.row_oldest(0), Some((12, 0)));
+    /// # Ok::<(), delkuthi::Refusal>(())
+    /// ```
+    pub fn row_oldest(&self, row: usize) -> Option<(u64, u8)> {
+        let time = limit(ffi::delkuthi_row_oldest(self, row as u64))?;
+        Some((time, ffi::delkuthi_row_oldest_stream(self, row as u64)))
+    }
+
     /// The first row for which [`Monitor::event`] with the same kind and time would be refused with 12: it would be open with
     /// more than 64 waiting. None if the event would not be refused with 12. An event of a coloured kind, a tick and the close
     /// never crowd a row.

@@ -3,7 +3,7 @@
  * of a table or a recording, or a call with the answer that the contract asks
  * for. After each call on the monitor the vector says what has changed in it,
  * and everything that the library answers about the monitor is compared:
- * verdict, step, waiting and deadline of each row, clock, count, broken rows.
+ * verdict, step, what waits and deadline of each row, clock, count, broken rows.
  * A refused call has to leave the monitor as it was, to the byte, and no call
  * may write behind what it says that it wrote.
  */
@@ -27,8 +27,8 @@ enum item {
 static struct {
     uint64_t rows, clock, count;
     uint8_t closed;
-    uint8_t verdicts[DELKUTHI_ROW_LIMIT], causes[DELKUTHI_ROW_LIMIT];
-    uint64_t moments[DELKUTHI_ROW_LIMIT];
+    uint8_t verdicts[DELKUTHI_ROW_LIMIT], causes[DELKUTHI_ROW_LIMIT], streams[DELKUTHI_ROW_LIMIT];
+    uint64_t moments[DELKUTHI_ROW_LIMIT], oldest[DELKUTHI_ROW_LIMIT];
     uint64_t steps[DELKUTHI_ROW_LIMIT], waiting[DELKUTHI_ROW_LIMIT], deadlines[DELKUTHI_ROW_LIMIT];
 } expected;
 
@@ -161,6 +161,8 @@ static void same_row(uint64_t row)
     same("cause of a row", delkuthi_row_cause(&monitor, row), expected.causes[row]);
     same("moment of a row", delkuthi_row_moment(&monitor, row), expected.moments[row]);
     same("waiting in a row", delkuthi_row_waiting(&monitor, row), expected.waiting[row]);
+    same("oldest in a row", delkuthi_row_oldest(&monitor, row), expected.oldest[row]);
+    same("stream of the oldest in a row", delkuthi_row_oldest_stream(&monitor, row), expected.streams[row]);
     same("deadline of a row", delkuthi_row_deadline(&monitor, row), expected.deadlines[row]);
 }
 
@@ -172,6 +174,8 @@ static void no_row(uint64_t row)
     same("cause of no row", delkuthi_row_cause(&monitor, row), 0);
     same("moment of no row", delkuthi_row_moment(&monitor, row), DELKUTHI_NO_LIMIT);
     same("waiting in no row", delkuthi_row_waiting(&monitor, row), 0);
+    same("oldest in no row", delkuthi_row_oldest(&monitor, row), DELKUTHI_NO_LIMIT);
+    same("stream of the oldest in no row", delkuthi_row_oldest_stream(&monitor, row), DELKUTHI_NO_STREAM);
     same("deadline of no row", delkuthi_row_deadline(&monitor, row), DELKUTHI_NO_LIMIT);
 }
 
@@ -215,6 +219,8 @@ static void state(void)
         expected.causes[row] = expected.verdicts[row] == DELKUTHI_BROKEN ? byte() : 0;
         expected.moments[row] = expected.verdicts[row] == DELKUTHI_BROKEN ? number() : DELKUTHI_NO_LIMIT;
         expected.waiting[row] = number();
+        expected.oldest[row] = expected.waiting[row] > 0 ? number() : DELKUTHI_NO_LIMIT;
+        expected.streams[row] = expected.waiting[row] > 0 ? byte() : DELKUTHI_NO_STREAM;
         expected.deadlines[row] = number() - 1;
     }
     same_monitor();
@@ -228,7 +234,8 @@ static void expect_fresh(uint64_t rows)
     memset(&expected, 0, sizeof expected);
     expected.rows = rows <= DELKUTHI_ROW_LIMIT ? rows : DELKUTHI_ROW_LIMIT;
     for (row = 0; row < DELKUTHI_ROW_LIMIT; row++)
-        expected.deadlines[row] = expected.moments[row] = DELKUTHI_NO_LIMIT;
+        expected.deadlines[row] = expected.moments[row] = expected.oldest[row] = DELKUTHI_NO_LIMIT;
+    memset(expected.streams, DELKUTHI_NO_STREAM, sizeof expected.streams);
     has_monitor = 1;
 }
 

@@ -171,6 +171,8 @@ pub const RULES: &[(&str, &str)] = &[
     ("15.14", "cause 1, cause 2, cause 3"),
     ("15.15", "cause 1, cause 2, cause 3"),
     ("15.16", "cause 1, cause 2, cause 3"),
+    ("15.18", "waits 1, waits 2, waits 7"),
+    ("15.19", "waits 1, waits 2, waits 7"),
     ("16.1", "edition 2"),
     ("16.2", "edition 2, type 1"),
     ("16.3", "form 1, form 2"),

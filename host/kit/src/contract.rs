@@ -20,7 +20,7 @@ fn block_vectors(block: &Block) -> Vec<Vector> {
         "example" => example_vectors(block),
         "file" => vec![file_vector(block)],
         "page" => vec![page_vector(block)],
-        "cause" => example_vectors(block),
+        "cause" | "oldest" => example_vectors(block),
         "take" => block.lines.iter().map(|line| take_vector(line)).collect(),
         "write" => block.lines.iter().map(|line| write_vector(line)).collect(),
         "stamps" => block.lines.iter().map(|line| stamps_vector(line)).collect(),

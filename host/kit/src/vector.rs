@@ -43,6 +43,8 @@ enum Item {
 struct State {
     verdicts: Vec<Verdict>,
     waiting: Vec<u64>,
+    /// The time and the stream of the oldest that waits, where something does.
+    oldest: Vec<Option<(u64, u8)>>,
     deadlines: Vec<u64>,
     /// The cause and the moment of a break, where there is one.
     causes: Vec<(u8, u64)>,
@@ -55,6 +57,7 @@ impl State {
         State {
             verdicts: vec![Verdict::Open; rows],
             waiting: vec![0; rows],
+            oldest: vec![None; rows],
             deadlines: vec![NO_LIMIT; rows],
             causes: vec![(0, NO_LIMIT); rows],
             ..State::default()
@@ -74,6 +77,7 @@ impl State {
             verdicts,
             causes,
             waiting: rows.clone().map(|row| monitor.row_waiting(row) as u64).collect(),
+            oldest: rows.clone().map(|row| monitor.row_oldest(row)).collect(),
             deadlines: rows.map(|row| if monitor.closed() { NO_LIMIT } else { monitor.row_deadline(row) }).collect(),
             clock: monitor.clock(),
             count: monitor.count(),
@@ -311,13 +315,16 @@ impl Vector {
         let changed = |row: &usize| {
             before.verdicts[*row] != after.verdicts[*row]
                 || before.waiting[*row] != after.waiting[*row]
+                || before.oldest[*row] != after.oldest[*row]
                 || before.deadlines[*row] != after.deadlines[*row]
         };
         let rows: Vec<usize> = (0..after.verdicts.len()).filter(changed).collect();
         put_number(&mut self.bytes, rows.len() as u64);
         for row in rows {
             let waiting = after.waiting[row];
-            put_row(&mut self.bytes, row, after.verdicts[row], after.causes[row], waiting, after.deadlines[row]);
+            put_row(&mut self.bytes, row, after.verdicts[row], after.causes[row]);
+            put_waiting(&mut self.bytes, waiting, after.oldest[row]);
+            put_number(&mut self.bytes, after.deadlines[row].wrapping_add(1));
             if after.causes[row].0 > 0 {
                 self.facts.insert(format!("cause {}", after.causes[row].0));
             }
@@ -543,8 +550,8 @@ impl Vector {
     }
 }
 
-/// The bytes of a row that has changed: its number, its verdict with the step of a break, what waits, and the deadline plus 1.
-fn put_row(bytes: &mut Vec<u8>, row: usize, verdict: Verdict, (cause, moment): (u8, u64), waiting: u64, deadline: u64) {
+/// The bytes of a row that has changed: its number, and its verdict with the step of a break.
+fn put_row(bytes: &mut Vec<u8>, row: usize, verdict: Verdict, (cause, moment): (u8, u64)) {
     bytes.push(row as u8);
     match verdict {
         Verdict::Open => bytes.push(0),
@@ -556,8 +563,15 @@ fn put_row(bytes: &mut Vec<u8>, row: usize, verdict: Verdict, (cause, moment): (
             put_number(bytes, moment);
         }
     }
+}
+
+/// The bytes of what waits in it: how many, and of the oldest time and stream.
+fn put_waiting(bytes: &mut Vec<u8>, waiting: u64, oldest: Option<(u64, u8)>) {
     put_number(bytes, waiting);
-    put_number(bytes, deadline.wrapping_add(1));
+    if let Some((time, stream)) = oldest {
+        put_number(bytes, time);
+        bytes.push(stream);
+    }
 }
 
 /// The monitor that a report leaves: none if the table is refused (§7.22).

@@ -61,6 +61,11 @@ impl Monitor {
         if self.verdict(row) == Ok(Verdict::Open) { self.rows()[row].waiting(self.recorded()) } else { 0 }
     }
 
+    /// The time and the stream of the oldest that waits in a row that reads open; none of any other (§15.18, §15.19).
+    pub fn row_oldest(&self, row: usize) -> Option<(u64, u8)> {
+        if self.verdict(row) == Ok(Verdict::Open) { self.rows()[row].oldest(self.recorded()) } else { None }
+    }
+
     /// Whether the row is open after a tick to that time.
     fn open_at(&self, row: usize, time: u64) -> bool {
         open(&self.rows()[row], &self.recorded().after(Step::Tick { time }))

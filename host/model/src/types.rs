@@ -130,6 +130,11 @@ pub trait RowType: Fields {
         0
     }
 
+    /// The time and the stream of the oldest that waits, if the row is open: in most types nothing waits (§15.18, §15.19).
+    fn oldest(&self, _recorded: &History) -> Option<(u64, u8)> {
+        None
+    }
+
     /// The kind of which 64 can come to wait, if there is one.
     fn crowding_kind(&self) -> Option<u8> {
         None
@@ -429,5 +434,10 @@ impl Constraint {
     /// How many wait in the row, if it is open (§6.1 to §6.4).
     pub fn waiting(&self, recorded: &History) -> usize {
         self.as_type().waiting(recorded)
+    }
+
+    /// The time and the stream of the oldest that waits in the row, if it is open (§15.18, §15.19).
+    pub fn oldest(&self, recorded: &History) -> Option<(u64, u8)> {
+        self.as_type().oldest(recorded)
     }
 }

@@ -89,3 +89,19 @@ fn causes() {
         }
     }
 }
+
+/// The oldest that waits in the contract's examples (§15.20).
+#[test]
+fn oldest() {
+    let text = model::contract::text();
+    for lines in model::contract::blocks(&text, "oldest") {
+        let example = model::contract::example(&lines);
+        for recording in example.recordings {
+            let mut monitor = Monitor::fresh(&example.rows).expect("an accepted table");
+            recording.iter().for_each(|(asked, _)| monitor.step(asked.step()).expect("a step that is taken"));
+            let said = recording.last().and_then(|(_, said)| said.clone());
+            let oldest = monitor.row_oldest(0).map(|(time, stream)| format!("time {time} stream {stream}"));
+            assert_eq!(Some(oldest.unwrap_or("none".to_string())), said, "{recording:?}");
+        }
+    }
+}

@@ -12,7 +12,7 @@ use Rattle.constraint.specs.{Meets.MeetsDelay, Waiting.answered, Waiting.unansw
 use Rattle.row_type.proofs.Exact.{ByOutcome, Exact, GoesOn, Sound}
 use Rattle.row_type.proofs.FitsRow.{FitsRow, Unkept, kind-overflows, dropped, free-second, keeping-last, neither, places-each, pushed, unkept-by}
 use Rattle.row_type.proofs.Oldest.{due-dropped, due-each, due-passed, due-pushed}
-use Rattle.row_type.proofs.TwoKinds.{Further, Lost, OfTwoKinds, TwoKinds, UpTo, exactTwoKinds, pair-open, target-apart}
+use Rattle.row_type.proofs.TwoKinds.{Further, Lost, OfTwoKinds, TwoKinds, UpTo, exactTwoKinds, pair-live, pair-open, target-apart}
 use Rattle.row_type.specs.Parts.{dueOldest, noRegisters, none-left, plus, waits, withLast}
 use Rattle.row_type.specs.{Parameters.parametersOf, Words.lastSaved, declared.Change.Change, declared.Registers.Registers}
 use Rattle.row_type.specs.{declared.Parameters.Parameters}
@@ -244,6 +244,12 @@ module _ (source target lower upper : ℕ) (sound : Sound (Delay source target l
   -- §5.1
   pub exactDelay : Exact (Delay source target lower upper) (decideDelay parameters)
   exactDelay = exactTwoKinds delay-of (decideDelay parameters) delay-laws
+
+  -- §6.1: the times that it keeps are the sources that are not answered
+  pub delay-keeps : (steps : List Step) (registers : Registers) (held : List ℕ) → exactDelay .Live steps registers held
+      → held ≡ unmet lower upper (times source steps) (times target steps)
+  unfolding exactDelay delay-laws
+  delay-keeps steps registers held live = pair-live delay-of (decideDelay parameters) delay-laws steps registers held live .unmet-are
 
 -- ---- Without an upper limit
 

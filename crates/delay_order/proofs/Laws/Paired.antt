@@ -1,7 +1,8 @@
 -- Sources and targets paired by their places: while every pair fits, sources beyond the number of targets may still get theirs, and one
 -- target beyond the number of sources only at its own time.
-use Rattle.constraint.proofs.Library.{List, [], _++_, _+_, _-_, _<_, _∙_, _∷_, _≡_, _≤_, _⊎_, ap, append-assoc, append-nil, arith, cond, eqb, inl}
-use Rattle.constraint.proofs.Library.{inr, length, length-append, ne-eqb, refl, subst, suc, sym, zero, ℕ}
+use Rattle.constraint.proofs.Library.{List, List·getD-eq-default, [], _++_, _+_, _-_, _<_, _∙_, _∷_, _≡_, _≤_, _⊎_, ap, append-assoc, append-nil}
+use Rattle.constraint.proofs.Library.{arith, cond, eqb, inl}
+use Rattle.constraint.proofs.Library.{getD, getD-append-add, inr, length, length-append, ne-eqb, refl, subst, suc, sym, zero, ℕ}
 use Rattle.constraint.proofs.Lists.{Each, Rising, at-next, each-cons, each-none, each-right, rising-across, rising-right, rising-snoc}
 use Rattle.constraint.specs.{Meets.Between, Steps.at}
 use Rattle.row_type.proofs.TwoKinds.{Further, Lost, UpTo}
@@ -198,6 +199,14 @@ module _ {Fits : ℕ → ℕ → Type 0} {sources targets : List ℕ} where
   pub pairing-waits : {early : ℕ} {waiting : List ℕ} → Pairing Fits sources targets early waiting → length sources - length targets ≡ length waiting
   pairing-waits (inl (none, a)) = omega (arith, ahead-count a)
   pairing-waits (inr (t, is, none, b)) = rw none (omega (arith, beyond-count b))
+
+  -- the source just behind as many as there are targets is the first of them
+  pub pairing-oldest : {early : ℕ} {waiting : List ℕ} → Pairing Fits sources targets early waiting → (missing : ℕ)
+      → getD sources (length targets) missing ≡ getD waiting 0 missing
+  pairing-oldest {waiting = waiting} (inl (none, a)) missing =
+      let place : length targets ≡ length (a .paired) + 0 = omega (arith, a .pairs .0) in
+      rw (place, a .rest) (getD-append-add (a .paired) waiting 0 missing)
+  pairing-oldest (inr (t, is, none, b)) missing = rw none (List·getD-eq-default sources missing (omega (arith, beyond-count b)))
 
   -- ---- Close
 

@@ -1,19 +1,22 @@
 -- StrongDelay is exact: the times that it keeps are just the sources beyond the number of targets, each pair is tested when its second event
 -- comes, and the oldest source that waits is the first that can no longer get its target.
 use Rattle.constraint.proofs.Library.{Bool, List, [], _&&_, _++_, _+_, _-_, _<_, _∙_, _∷_, _≡_, _≤_, _⊎_, ap, arith, cond, eq-eqb, eqb, eqb-false}
-use Rattle.constraint.proofs.Library.{eqb-true, false, false≢true, inl, inr, leb, leb-false, leb-true, length, ltb, ne-eqb, refl, subst, sym, true, ℕ}
+use Rattle.constraint.proofs.Library.{eqb-true, false, false≢true, getD, inl, inr, leb, leb-false, leb-true, length, ltb, ne-eqb, refl, subst, sym}
+use Rattle.constraint.proofs.Library.{true, ℕ}
 use Rattle.constraint.proofs.{Counting.next-least, Lists.Each, Lists.Rising, Lists.both, Lists.rising-across, Lists.split}
-use Rattle.constraint.specs.{Accepted.LowerFirst, Limits.lastTime, Limits.waitingLimit, Meets.Between, Meets.Meets, Meets.MeetsStrongDelay, Steps.at}
+use Rattle.constraint.specs.{Accepted.LowerFirst, Limits.lastTime, Limits.waitingLimit, Meets.Between, Meets.Meets, Meets.MeetsStrongDelay}
+use Rattle.constraint.specs.{Steps.Step, Steps.at, Steps.times}
 use Rattle.constraint.specs.{Waiting.waiting, Constraint.StrongDelay}
 use Rattle.row_type.proofs.FitsRow.{Calm, FitsRow, Unkept, calm-by, kind-overflows, dropped, free-second, keeping-last, neither, places-each, pushed}
 use Rattle.row_type.proofs.FitsRow.{unkept-by}
-use Rattle.row_type.proofs.TwoKinds.{Further, Lost, TwoKinds, UpTo, exactTwoKinds, target-apart}
+use Rattle.row_type.proofs.TwoKinds.{Further, Lost, OfTwoKinds, TwoKinds, UpTo, exactTwoKinds, pair-live, target-apart}
 use Rattle.row_type.proofs.{Exact.ByOutcome, Exact.Exact, Exact.GoesOn, Exact.Sound, Oldest.due-dropped, Oldest.due-each, Oldest.due-pushed}
 use Rattle.row_type.specs.Parts.{breaking, continuesWith, dueOldest, earlyOf, front, noRegisters, none-left, plus, waits, withLast}
 use Rattle.row_type.specs.{Parameters.parametersOf, Words.lastSaved, declared.Registers.Registers, declared.Parameters.Parameters}
 use Rattle.delay_order.proofs.Laws.Paired.{Ahead, Paired, Pairing, ahead-open, ahead-rising, beyond-each, beyond-late, beyond-misfits}
 use Rattle.delay_order.proofs.Laws.Paired.{beyond-open}
-use Rattle.delay_order.proofs.Laws.Paired.{due-ahead, due-beyond, dueEarly, paired-none-beyond, pairing-paired, pairing-start, pairing-waits}
+use Rattle.delay_order.proofs.Laws.Paired.{due-ahead, due-beyond, dueEarly, paired-none-beyond, pairing-paired, pairing-oldest, pairing-start}
+use Rattle.delay_order.proofs.Laws.Paired.{pairing-waits}
 use Rattle.delay_order.proofs.Laws.Paired.{source-partners, source-waits, target-beyond, target-misfits, target-partners, waiting-late}
 use Rattle.delay_order.specs.StrongDelay.{decideStrongDelay, overflowsStrongDelay, machineStrongDelay, sourceStrongDelay, targetStrongDelay}
 use Rattle.ring.specs.declared.Edit.the-variants.{Drop, Push}
@@ -202,21 +205,29 @@ module _ (source target lower upper : ℕ) (sound : Sound (StrongDelay source ta
         not-kept = λ live. not-kept-by _ _ _ _ (live .pairing);
       }
 
+  strong-delay-of : OfTwoKinds (StrongDelay source target lower upper) source target (Paired (Between lower upper)) true
+      (λ sources targets. length sources - length targets)
+  unfolding Meets MeetsStrongDelay waiting
+  strong-delay-of = record {
+    kinds-are = refl;
+    streams-are = refl;
+    kinds-fit = sound .kinds-fit;
+    no-words = refl;
+    meets-are = λ steps. refl;
+    waits-are = refl;
+    waiting-is = λ steps. refl;
+  }
+
   -- §5.2
   pub exactStrongDelay : Exact (StrongDelay source target lower upper) (decideStrongDelay parameters)
-  unfolding Meets MeetsStrongDelay waiting
-  exactStrongDelay =
-      exactTwoKinds
-      (record {
-        kinds-are = refl;
-        streams-are = refl;
-        kinds-fit = sound .kinds-fit;
-        no-words = refl;
-        meets-are = λ steps. refl;
-        waits-are = refl;
-        waiting-is = λ steps. refl;
-      })
-      (decideStrongDelay parameters) strong-delay-laws
+  exactStrongDelay = exactTwoKinds strong-delay-of (decideStrongDelay parameters) strong-delay-laws
+
+  -- §6.2: the times that it keeps are the sources beyond the number of targets
+  pub strong-delay-keeps : (steps : List Step) (registers : Registers) (held : List ℕ) → exactStrongDelay .Live steps registers held
+      → (missing : ℕ) → getD (times source steps) (length (times target steps)) missing ≡ getD held 0 missing
+  unfolding exactStrongDelay strong-delay-laws
+  strong-delay-keeps steps registers held live =
+      pairing-oldest (pair-live strong-delay-of (decideStrongDelay parameters) strong-delay-laws steps registers held live .pairing)
 
 -- ---- In a row
 

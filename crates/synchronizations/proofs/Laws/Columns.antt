@@ -189,12 +189,12 @@ module _ (f : ℕ → ℕ) where
   largest-each (k ∷ ks) zero h = omega arith
   largest-each (k ∷ ks) (suc i) h = omega (arith, largest-each ks i (omega arith))
 
-  least-most : (k : ℕ) (ks : List ℕ) (m : ℕ) → Each (λ k. m ≤ f k) (k ∷ ks) → m ≤ least (map f (k ∷ ks))
+  pub least-most : (k : ℕ) (ks : List ℕ) (m : ℕ) → Each (λ k. m ≤ f k) (k ∷ ks) → m ≤ least (map f (k ∷ ks))
   unfolding least
   least-most k [] m e = e 0 (omega arith)
   least-most k (j ∷ ks) m e = omega (arith, e 0 (omega arith), least-most j ks m (each-tail (λ k. m ≤ f k) k (j ∷ ks) e))
 
-  least-each : (k : ℕ) (ks : List ℕ) → Each (λ j. least (map f (k ∷ ks)) ≤ f j) (k ∷ ks)
+  pub least-each : (k : ℕ) (ks : List ℕ) → Each (λ j. least (map f (k ∷ ks)) ≤ f j) (k ∷ ks)
   unfolding least
   least-each k [] zero h = omega arith
   least-each k [] (suc i) h = absurd (omega arith)

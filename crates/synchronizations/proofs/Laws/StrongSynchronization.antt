@@ -1,13 +1,14 @@
 -- StrongSynchronization: the first times of the groups begun and not complete, and each kind's count of them, are enough, since an event goes
 -- to the first group that lacks its kind and the oldest group is due first.
-use Rattle.constraint.proofs.Library.{List, [], _++_, _<_, _∙_, _∷_, _≡_, _≤_, ap, arith, cond, false, false≢true, length, ltb, refl, sym, true, ℕ}
+use Rattle.constraint.proofs.Library.{List, [], _++_, _<_, _∙_, _∷_, _≡_, _≤_, ap, arith, cond, false, false≢true, length, ltb, refl, subst, sym}
+use Rattle.constraint.proofs.Library.{true, ℕ}
 use Rattle.constraint.proofs.{Continuations.SameTimes, Continuations.same-times, History.Accepts, History.Past, Lists.split, Streams.streams}
 use Rattle.constraint.specs.Steps.{Step, at, clock, closed, event, own, tick}
 use Rattle.constraint.specs.Constraint.{Constraint, StrongSynchronization}
 use Rattle.constraint.specs.{Accepted.kinds, Continuation.Open, Limits.lastTime, Limits.waitingLimit, Meets.Meets, Meets.MeetsStrongSynchronization}
 use Rattle.constraint.specs.{Waiting.begunIncomplete, Waiting.waiting}
 use Rattle.synchronizations.proofs.Laws.Columns.{behind-same, completes, groups-late, groups-left-over, groups-meet, groups-same, groups-wait}
-use Rattle.synchronizations.proofs.Laws.Counts.{OfKinds, of-kinds}
+use Rattle.synchronizations.proofs.Laws.Counts.{Names, OfKinds, of-kinds}
 use Rattle.synchronizations.proofs.Laws.LiveGroups.{LiveGroups, due, event-does, kept, live-none}
 use Rattle.synchronizations.specs.StrongSynchronization.{complete, countOf, counted, decideStrongSynchronization}
 use Rattle.synchronizations.specs.StrongSynchronization.{overflowsStrongSynchronization}
@@ -15,7 +16,7 @@ use Rattle.synchronizations.specs.StrongSynchronization.{machineStrongSy
 use Rattle.row_type.proofs.Exact.{ByOutcome, Exact, GoesOn, OfStream, Sound, Starts}
 use Rattle.row_type.proofs.FitsRow.{FitsRow, Unkept, calm-by, kind-overflows, dropped, free-first, keeping-counts, neither, places-each, pushed}
 use Rattle.row_type.proofs.FitsRow.{unkept-by}
-use Rattle.row_type.proofs.{Oldest.due-passed, Oldest.due-within, SeveralKinds.by-place}
+use Rattle.row_type.proofs.{FieldNumbers.kinds-listed, Oldest.due-passed, Oldest.due-within, SeveralKinds.by-place}
 use Rattle.row_type.specs.{Parts.dueOldest, Parts.none-left, Parts.waits, Parameters.parametersOf, Parameters.startWords, Words.countsSaved}
 use Rattle.row_type.specs.{declared.Change.Change, declared.Registers.Registers, declared.Parameters.Parameters}
 use Rattle.ring.specs.declared.Edit.the-variants.{Drop, Push}
@@ -112,13 +113,25 @@ module _ (c : Constraint) (s : Synchronized c) where
         not-kept = λ past live. live-not-kept _ _ _ live;
       }
 
+strong-of-kinds : (ks : List ℕ) (x : ℕ) → Sound (StrongSynchronization ks x) → Synchronized (StrongSynchronization ks x)
+unfolding Meets waiting
+strong-of-kinds ks x sound =
+    of-kinds (StrongSynchronization ks x) sound ks x refl (sound .known .1 .n-known refl) refl (λ steps. refl) refl (λ steps. refl)
+
 -- §5.7
 pub exactStrongSynchronization : (ks : List ℕ) (x : ℕ) → Sound (StrongSynchronization ks x)
     → Exact (StrongSynchronization ks x) (decideStrongSynchronization (parametersOf (StrongSynchronization ks x)))
-unfolding Meets waiting
-exactStrongSynchronization ks x sound =
+exactStrongSynchronization ks x sound = exact-synchronized (StrongSynchronization ks x) (strong-of-kinds ks x sound)
+
+-- §6.3: the times that it keeps are the first of the groups begun and not complete
+pub strong-synchronization-keeps : (ks : List ℕ) (x : ℕ) (sound : Sound (StrongSynchronization ks x)) (steps : List Step) (registers : Registers)
+    (held : List ℕ) → exactStrongSynchronization ks x sound .Live steps registers held
+    → Names (parametersOf (StrongSynchronization ks x)) ks × LiveGroups ks (parametersOf (StrongSynchronization ks x) .upper) steps registers held
+unfolding exactStrongSynchronization exact-synchronized
+strong-synchronization-keeps ks x sound steps registers held live =
     let c = StrongSynchronization ks x in
-    exact-synchronized c (of-kinds c sound ks x refl (sound .known .1 .n-known refl) refl (λ steps. refl) refl (λ steps. refl))
+    subst (λ (l : List ℕ). Names (parametersOf c) l × LiveGroups l (parametersOf c .upper) steps registers held) (kinds-listed x ks)
+    (strong-of-kinds ks x sound .names, live)
 
 -- ---- In a row
 

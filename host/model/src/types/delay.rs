@@ -41,6 +41,11 @@ impl RowType for Delay {
         self.without_target(recorded).len()
     }
 
+    /// The first of these sources.
+    fn oldest(&self, recorded: &History) -> Option<(u64, u8)> {
+        self.without_target(recorded).first().map(|&time| (time, self.source))
+    }
+
     fn crowding_kind(&self) -> Option<u8> {
         Some(self.source)
     }

@@ -27,6 +27,11 @@ impl RowType for StrongDelay {
         recorded.times(self.source).len().saturating_sub(recorded.times(self.target).len())
     }
 
+    /// The first of these sources.
+    fn oldest(&self, recorded: &History) -> Option<(u64, u8)> {
+        recorded.times(self.source).get(recorded.times(self.target).len()).map(|&time| (time, self.source))
+    }
+
     fn crowding_kind(&self) -> Option<u8> {
         Some(self.source)
     }

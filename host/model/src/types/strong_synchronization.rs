@@ -31,6 +31,13 @@ impl RowType for StrongSynchronization {
         begun.unwrap_or(0) - complete.unwrap_or(0)
     }
 
+    /// The first event of the first of these groups, and the first kind that has an event in it.
+    fn oldest(&self, recorded: &History) -> Option<(u64, u8)> {
+        let complete = self.kinds.iter().map(|kind| recorded.times(*kind).len()).min()?;
+        let group = || self.kinds.iter().filter_map(|&kind| Some((*recorded.times(kind).get(complete)?, kind)));
+        Some((group().map(|(time, _)| time).min()?, group().next()?.1))
+    }
+
     fn crowding_kind(&self) -> Option<u8> {
         self.kinds.first().copied()
     }

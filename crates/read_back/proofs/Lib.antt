@@ -1,0 +1,2 @@
+-- Why a row that is read back is the table's.
+pub mod Bodies

@@ -1,0 +1,2 @@
+-- What a row that is read back is, and what the calls promise.
+pub mod Contract

@@ -1,2 +1,4 @@
 -- Why a row that is read back is the table's.
 pub mod Bodies
+pub mod Inverse
+pub mod Kept

@@ -1,6 +1,6 @@
 -- A row is its length field and its body, so what stands behind the field is the body; and each row of an accepted table is of a known type.
-use Rattle.constraint.proofs.Library.{List, [], _++_, _+_, _*_, _-_, _<_, _∙_, _∷_, _≡_, _≤_, ap, arith, drop, drop-append-seam, getElem?, length}
-use Rattle.constraint.proofs.Library.{ap₂, length-replicate, refl, replicate, sets, some, subst, subst₂, suc, sym, take, take-append-seam, zero, ℕ}
+use Rattle.constraint.proofs.Library.{List, _++_, _+_, _*_, _-_, _<_, _∙_, _≡_, _≤_, ap, arith, drop, getElem?, length}
+use Rattle.constraint.proofs.Library.{ap₂, length-replicate, replicate, sets, some, subst, subst₂, sym, take, take-append-seam, ℕ}
 use Rattle.constraint.proofs.{Accepted.row-accepted, Judged.judged-all}
 use Rattle.constraint.specs.Accepted.{AcceptedIn}
 use Rattle.constraint.specs.Bytes.{bytesOf}
@@ -8,7 +8,6 @@ use Rattle.constraint.specs.Constraint.{Constraint}
 use Rattle.constraint.specs.Steps.{at}
 use Rattle.constraint.specs.Table.{ReadsTableUpTo, rowBody, rowBytes}
 use Rattle.constraint.specs.Types.{Known, TypeKnown, countOf, typeOf}
-use Rattle.big_endian.proofs.Numbers.{bytes-length}
 use Rattle.big_endian.proofs.Stores.{stores-front}
 use Rattle.table_row.proofs.Judging.{row-bytes-long}
 use Rattle.table_row.specs.Records.{rowIn}
@@ -46,7 +45,8 @@ module _ (body before : List ℕ) where
 
 -- ---- of a table
 
-module _ (table : List ℕ) (i : ℕ) (before : List ℕ) (r : Numbered) (found : FindsRow 2 table i r) (taken : r .scan .answer ≡ ReadAnswer.Accepted) where
+module _ (table : List ℕ) (i : ℕ) (before : List ℕ) (r : Numbered) (found : FindsRow 2 table i r)
+    (taken : r .scan .answer ≡ ReadAnswer.Accepted) where
   counted : Counted (at table 0) (ReadsTableUpTo 2 table) (r .scan .rows)
   counted = subst (λ (a : ReadAnswer). Says (at table 0) (ReadsTableUpTo 2 table) a (r .scan .rows)) taken (found .scans)
 
@@ -61,5 +61,6 @@ module _ (table : List ℕ) (i : ℕ) (before : List ℕ) (r : Numbered) (found 
     pub table-known : Known (rowIn (r .row))
     table-known = (at table 0, known-at (at table 0) (counted .rows) (counted .accepted) i (rowIn (r .row)) is-row)
 
-    pub table-gives : {number : ℕ} {after : List ℕ} → GivesBody (rowBody (rowIn (r .row))) before number after → TableRowBack table i before number after
+    pub table-gives : {number : ℕ} {written : List ℕ} → GivesBody (rowBody (rowIn (r .row))) before number written
+        → TableRowBack table i before number written
     table-gives gives = of-table (counted .rows) (counted .reads) (a-row (rowIn (r .row)) is-row gives)

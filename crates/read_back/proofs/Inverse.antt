@@ -64,10 +64,14 @@ module _ (w : List ℕ) where
   inverse (Pattern a x y z (k0 ∷ k1 ∷ [])) fits has = ap (backWith (parametersOf (Pattern a x y z (k0 ∷ k1 ∷ [])))) (has refl)
   inverse (Pattern a x y z (k0 ∷ k1 ∷ k2 ∷ [])) fits has = ap (backWith (parametersOf (Pattern a x y z (k0 ∷ k1 ∷ k2 ∷ [])))) (has refl)
   inverse (Pattern a x y z (k0 ∷ k1 ∷ k2 ∷ k3 ∷ [])) fits has = ap (backWith (parametersOf (Pattern a x y z (k0 ∷ k1 ∷ k2 ∷ k3 ∷ [])))) (has refl)
-  inverse (Pattern a x y z (k0 ∷ k1 ∷ k2 ∷ k3 ∷ k4 ∷ [])) fits has = ap (backWith (parametersOf (Pattern a x y z (k0 ∷ k1 ∷ k2 ∷ k3 ∷ k4 ∷ [])))) (has refl)
-  inverse (Pattern a x y z (k0 ∷ k1 ∷ k2 ∷ k3 ∷ k4 ∷ k5 ∷ [])) fits has = ap (backWith (parametersOf (Pattern a x y z (k0 ∷ k1 ∷ k2 ∷ k3 ∷ k4 ∷ k5 ∷ [])))) (has refl)
-  inverse (Pattern a x y z (k0 ∷ k1 ∷ k2 ∷ k3 ∷ k4 ∷ k5 ∷ k6 ∷ [])) fits has = ap (backWith (parametersOf (Pattern a x y z (k0 ∷ k1 ∷ k2 ∷ k3 ∷ k4 ∷ k5 ∷ k6 ∷ [])))) (has refl)
-  inverse (Pattern a x y z (k0 ∷ k1 ∷ k2 ∷ k3 ∷ k4 ∷ k5 ∷ k6 ∷ k7 ∷ [])) fits has = ap (backWith (parametersOf (Pattern a x y z (k0 ∷ k1 ∷ k2 ∷ k3 ∷ k4 ∷ k5 ∷ k6 ∷ k7 ∷ [])))) (has refl)
+  inverse (Pattern a x y z (k0 ∷ k1 ∷ k2 ∷ k3 ∷ k4 ∷ [])) fits has =
+      ap (backWith (parametersOf (Pattern a x y z (k0 ∷ k1 ∷ k2 ∷ k3 ∷ k4 ∷ [])))) (has refl)
+  inverse (Pattern a x y z (k0 ∷ k1 ∷ k2 ∷ k3 ∷ k4 ∷ k5 ∷ [])) fits has =
+      ap (backWith (parametersOf (Pattern a x y z (k0 ∷ k1 ∷ k2 ∷ k3 ∷ k4 ∷ k5 ∷ [])))) (has refl)
+  inverse (Pattern a x y z (k0 ∷ k1 ∷ k2 ∷ k3 ∷ k4 ∷ k5 ∷ k6 ∷ [])) fits has =
+      ap (backWith (parametersOf (Pattern a x y z (k0 ∷ k1 ∷ k2 ∷ k3 ∷ k4 ∷ k5 ∷ k6 ∷ [])))) (has refl)
+  inverse (Pattern a x y z (k0 ∷ k1 ∷ k2 ∷ k3 ∷ k4 ∷ k5 ∷ k6 ∷ k7 ∷ [])) fits has =
+      ap (backWith (parametersOf (Pattern a x y z (k0 ∷ k1 ∷ k2 ∷ k3 ∷ k4 ∷ k5 ∷ k6 ∷ k7 ∷ [])))) (has refl)
   inverse (Pattern a x y z (k0 ∷ k1 ∷ k2 ∷ k3 ∷ k4 ∷ k5 ∷ k6 ∷ k7 ∷ k8 ∷ ks)) fits has = absurd (omega (arith, fits refl))
   inverse (Arbitrary a []) fits has = absurd (omega (arith, fits refl))
   inverse (Arbitrary a (k0 ∷ [])) fits has = ap (backWith (parametersOf (Arbitrary a (k0 ∷ [])))) (has refl)
@@ -75,8 +79,11 @@ module _ (w : List ℕ) where
   inverse (Arbitrary a (k0 ∷ k1 ∷ k2 ∷ [])) fits has = ap (backWith (parametersOf (Arbitrary a (k0 ∷ k1 ∷ k2 ∷ [])))) (has refl)
   inverse (Arbitrary a (k0 ∷ k1 ∷ k2 ∷ k3 ∷ [])) fits has = ap (backWith (parametersOf (Arbitrary a (k0 ∷ k1 ∷ k2 ∷ k3 ∷ [])))) (has refl)
   inverse (Arbitrary a (k0 ∷ k1 ∷ k2 ∷ k3 ∷ k4 ∷ [])) fits has = ap (backWith (parametersOf (Arbitrary a (k0 ∷ k1 ∷ k2 ∷ k3 ∷ k4 ∷ [])))) (has refl)
-  inverse (Arbitrary a (k0 ∷ k1 ∷ k2 ∷ k3 ∷ k4 ∷ k5 ∷ [])) fits has = ap (backWith (parametersOf (Arbitrary a (k0 ∷ k1 ∷ k2 ∷ k3 ∷ k4 ∷ k5 ∷ [])))) (has refl)
-  inverse (Arbitrary a (k0 ∷ k1 ∷ k2 ∷ k3 ∷ k4 ∷ k5 ∷ k6 ∷ [])) fits has = ap (backWith (parametersOf (Arbitrary a (k0 ∷ k1 ∷ k2 ∷ k3 ∷ k4 ∷ k5 ∷ k6 ∷ [])))) (has refl)
-  inverse (Arbitrary a (k0 ∷ k1 ∷ k2 ∷ k3 ∷ k4 ∷ k5 ∷ k6 ∷ k7 ∷ [])) fits has = ap (backWith (parametersOf (Arbitrary a (k0 ∷ k1 ∷ k2 ∷ k3 ∷ k4 ∷ k5 ∷ k6 ∷ k7 ∷ [])))) (has refl)
+  inverse (Arbitrary a (k0 ∷ k1 ∷ k2 ∷ k3 ∷ k4 ∷ k5 ∷ [])) fits has =
+      ap (backWith (parametersOf (Arbitrary a (k0 ∷ k1 ∷ k2 ∷ k3 ∷ k4 ∷ k5 ∷ [])))) (has refl)
+  inverse (Arbitrary a (k0 ∷ k1 ∷ k2 ∷ k3 ∷ k4 ∷ k5 ∷ k6 ∷ [])) fits has =
+      ap (backWith (parametersOf (Arbitrary a (k0 ∷ k1 ∷ k2 ∷ k3 ∷ k4 ∷ k5 ∷ k6 ∷ [])))) (has refl)
+  inverse (Arbitrary a (k0 ∷ k1 ∷ k2 ∷ k3 ∷ k4 ∷ k5 ∷ k6 ∷ k7 ∷ [])) fits has =
+      ap (backWith (parametersOf (Arbitrary a (k0 ∷ k1 ∷ k2 ∷ k3 ∷ k4 ∷ k5 ∷ k6 ∷ k7 ∷ [])))) (has refl)
   inverse (Arbitrary a (k0 ∷ k1 ∷ k2 ∷ k3 ∷ k4 ∷ k5 ∷ k6 ∷ k7 ∷ k8 ∷ ks)) fits has = absurd (omega (arith, fits refl))
   inverse (Comparison o x y) fits has = refl

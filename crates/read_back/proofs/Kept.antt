@@ -1,7 +1,8 @@
 -- No step changes the numbers of a row, and none writes where its constants stand: a Pattern writes nothing into its ring, and an Arbitrary its times
 -- behind the constants. A withdrawal gives back the rows before the step. So a row has them after any requests.
 use Rattle.constraint.proofs.Library.{Bool, List, [], _&&_, _++_, _+_, _-_, _<_, _∙_, _∷_, _≡_, _≤_, _||_, _⊎_, ap, arith, cond, eqb, eqb-true, false}
-use Rattle.constraint.proofs.Library.{getD, getElem?, inl, inr, leb, length, ltb, ltb-false, map, min, refl, set, some, subst, suc, sym, take, take-set-le, true, zero}
+use Rattle.constraint.proofs.Library.{getD, getElem?, inl, inr, leb, length, ltb, ltb-false, map, min, refl, set, some, subst, suc, sym, take}
+use Rattle.constraint.proofs.Library.{take-set-le, true, zero}
 use Rattle.constraint.proofs.Library.{ℕ, ⊎-elim}
 use Rattle.constraint.proofs.{Judged.never, Lists.both, Lists.split}
 use Rattle.constraint.specs.Accepted.{Accepted}
@@ -24,8 +25,8 @@ use Rattle.row.specs.declared.{Row.Row, RowStep.RowStep, StepInput.StepInput}
 use Rattle.monitor.proofs.Withdrawing.{struck}
 use Rattle.monitor.specs.Contract.{after, step}
 use Rattle.monitor.specs.Machine.{bare, crowds, mapFirst, monitorOf, nextStep, noRow, refusalFor, refuses, stepInputOf, stepOf, takenCall, takes}
-use Rattle.monitor.specs.declared.{Monitor.Monitor, Stepped.Stepped}
-use Rattle.read_back.specs.Back.{constantLimit, constantsFrom}
+use Rattle.monitor.specs.declared.{Monitor.Monitor}
+use Rattle.read_back.specs.Back.{constantLimit}
 use Rattle.read_back.proofs.Inverse.{Constant}
 
 -- ---- edits
@@ -144,7 +145,8 @@ module _ (c : Constraint) (r : Row) (k : Kept c r) where
         by-three (ltb waitingLimit (r .now .len)) (change .breaks) (ltb waitingLimit (length (changed (change .edit) (itemsOf r))))
         (brokenRow r t false number) (applied r change) (kept-broken t false number) kept-applied
       where
-        by-three : (a b d : Bool) (x y : Row) → Kept c x → Kept c y → Kept c (cond a (crowding r) (cond b (stays x) (cond d (crowding r) (stays y))) .row)
+        by-three : (a b d : Bool) (x y : Row) → Kept c x → Kept c y
+            → Kept c (cond a (crowding r) (cond b (stays x) (cond d (crowding r) (stays y))) .row)
         by-three true b d x y first second = k
         by-three false true d x y first second = first
         by-three false false true x y first second = k
@@ -237,4 +239,5 @@ unfolding after bare
 kept-after rows accepted requests i c there =
     let s = struck every-type-exact rows accepted requests in
     let same = ap (λ (m : Monitor). m .rows) (s .4) in
-    rows-at rows (after rows requests .rows) (subst (KeptRows rows) (sym same) (calls-keep rows (s .2) (monitorOf rows) (start-keeps rows) .1)) i c there
+    rows-at rows (after rows requests .rows) (subst (KeptRows rows) (sym same) (calls-keep rows (s .2) (monitorOf rows) (start-keeps rows) .1)) i c
+    there

@@ -2,3 +2,5 @@
 pub mod Bodies
 pub mod Inverse
 pub mod Kept
+pub mod Values
+pub mod Holding

@@ -1,8 +1,8 @@
 // Rows read back as bodies: of a table in its bytes, and of a lent monitor.
 pub mod ffi;
+mod words;
 
 use table_row::TableRow;
-ghost use mathlib.Core.Path.{_≡_};
 ghost use Rattle.constraint.specs.Table.{rowBody};
 ghost use Rattle.constraint.specs.Types.{Known};
 ghost use Rattle.table_row.specs.Records.{rowIn};

@@ -1,5 +1,5 @@
 -- The row is stored in a buffer of its own, and its body copied from there.
-use Rattle.constraint.proofs.Library.{_∙_, _≡_, _≤_, ap, arith, length, needs, now, sets, List, ℕ}
+use Rattle.constraint.proofs.Library.{_∙_, _≤_, ap, arith, length, needs, now, sets}
 use Rattle.constraint.specs.Table.{rowBody}
 use Rattle.table_row.specs.Records.{rowIn}
 use Rattle.table_row.proofs.Judging.{row-bytes-long, row-short}

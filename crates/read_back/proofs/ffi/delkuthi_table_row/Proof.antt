@@ -18,8 +18,8 @@ small c = refused-small _ _ _ (reads c)
 returns : tie.Need-returns
 returns c =
     let found = c .before .before .before .before .row-numbered in let start = c .before .before .before .before .before .before .before in
-    table-none (now (start .args .table)) (start .args .row) (now (start .args .body)) (found .result) (found .ensures) (c .before .enum-told .given .1)
-    (omega (arith, c .if1 .taken))
+    table-none (now (start .args .table)) (start .args .row) (now (start .args .body)) (found .result) (found .ensures)
+    (c .before .enum-told .given .1) (omega (arith, c .if1 .taken))
 
 give-body-requires : tie.Need-give-body-requires
 give-body-requires c κs =

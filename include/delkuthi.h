@@ -146,7 +146,8 @@
  * The stack of a call is measured, not proved. Each limit leaves at least ten
  * percent of room on every machine that DATASHEET.md names. The limit of a
  * step also holds for a withdrawal and for the calls that only read, the limit
- * of report_on for delkuthi_report_of. Link the host statically or with
+ * of report_on for delkuthi_report_of, and the limit of table for
+ * delkuthi_table_row and delkuthi_monitor_row. Link the host statically or with
  * -Wl,-z,now: otherwise the loader resolves a function at its first call, and
  * that takes about 3 KiB more on the caller's stack.
  *

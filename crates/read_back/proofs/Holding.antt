@@ -68,7 +68,7 @@ far-back words p is before far =
 -- ---- a monitor
 
 -- a type of any edition is one of the second
-newest-known : (edition t n : ℕ) → TypeKnown edition t n → TypeKnown 2 t n
+pub newest-known : (edition t n : ℕ) → TypeKnown edition t n → TypeKnown 2 t n
 newest-known edition t n known =
     let listed = type-listed edition t (known .type-known) in
     record { type-known = (listed .0, omega (arith, listed .1)); n-known = known .n-known }

@@ -23,6 +23,7 @@ abbrev pub HasConstants : Constraint → List ℕ → Type 0
 HasConstants c words = Constant (typeOf c) → take constantLimit words ≡ take constantLimit (startRing c)
 
 module _ (w : List ℕ) where
+  -- §9.14: so the row of a constraint's numbers and constants is the constraint
   pub inverse : (c : Constraint) → CountFits c → HasConstants c w → rowBack (parametersOf c) w ≡ c
   unfolding rowBack valuesBack rowRead
   inverse (Delay a b x y) fits has = refl

@@ -232,7 +232,7 @@ module _ (cs : List Constraint) where
   unfolding monitorOf
   start-keeps = (refl, rows-start cs _)
 
--- after any requests over an accepted table each row has the numbers and the constants of its constraint
+-- §9.14: after any requests over an accepted table each row has the numbers and the constants of its constraint
 pub kept-after : (rows : List Constraint) → Accepted rows → (requests : List Request) (i : ℕ) (c : Constraint) → getElem? rows i ≡ some c
     → Kept c (getD (after rows requests .rows) i noRow)
 unfolding after bare

@@ -4,3 +4,4 @@ pub mod Inverse
 pub mod Kept
 pub mod Values
 pub mod Holding
+pub mod Again

@@ -9,7 +9,10 @@ use model::random::tables::{any_table_in, damaged_table, table};
 use model::{Step, row_back, table_bytes};
 
 /// What a call gives in a buffer of this size, whose other bytes have to stay.
-fn given(room: usize, call: impl FnOnce(&mut [u8]) -> Result<usize, model::Refusal>) -> Result<Vec<u8>, model::Refusal> {
+fn given(
+    room: usize,
+    call: impl FnOnce(&mut [u8]) -> Result<usize, model::Refusal>,
+) -> Result<Vec<u8>, model::Refusal> {
     let mut buffer = vec![7; room];
     let answer = call(&mut buffer);
     let length = answer.clone().unwrap_or(0);
@@ -22,7 +25,8 @@ fn rows_of_tables_are_read_back() {
     let mut random = Random::new(913);
     let mut seen = Seen::default();
     for _ in 0..4_000 {
-        let table = if random.chance(80) { table_bytes(&any_table_in(2, &mut random)) } else { damaged_table(&mut random) };
+        let table =
+            if random.chance(80) { table_bytes(&any_table_in(2, &mut random)) } else { damaged_table(&mut random) };
         let row = random.below(34);
         let room = if random.chance(70) { LONGEST_ROW } else { random.place(LONGEST_ROW + 1) };
         let expected = model::table_row(&table, row, room);
@@ -52,7 +56,11 @@ fn rows_of_monitors_are_those_of_their_table() {
         for _ in 0..random.below(80) {
             time += random.below(12);
             let kind = random.below(64) as u8;
-            let step = if kind < 48 { Step::Event { kind, time } } else { Step::Coloured { kind, colour: random.below(8) as u8, time } };
+            let step = if kind < 48 {
+                Step::Event { kind, time }
+            } else {
+                Step::Coloured { kind, colour: random.below(8) as u8, time }
+            };
             let _ = take_all(&mut monitor, &[step]);
             if random.chance(20) {
                 let _ = monitor.withdraw();

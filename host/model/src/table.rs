@@ -73,7 +73,7 @@ pub fn add_row(table: &[u8], body: &[u8], room: usize) -> Result<Vec<u8>, Refusa
 
 /// The body of a row of some rows, read back into a buffer of this many bytes (§9.13, §9.14).
 pub fn row_back(rows: &[Constraint], row: u64, room: usize) -> Result<Vec<u8>, u8> {
-    let body = rows.iter().nth(usize::try_from(row).unwrap_or(usize::MAX)).map(Constraint::body).ok_or(15)?;
+    let body = rows.get(usize::try_from(row).unwrap_or(usize::MAX)).map(Constraint::body).ok_or(15)?;
     ask(16, body.len() <= room)?;
     Ok(body)
 }

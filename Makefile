@@ -60,7 +60,7 @@ help:
 
 # The archive is proved and built, or copied byte for byte from the folder that DELKUTHI_LIB names. Its parts are compiled separately:
 # the search for a stretch uses what a step uses, and in one unit the compiler would optimise the steps differently.
-PARTS := delkuthi stretch_ffi queries
+PARTS := delkuthi stretch_ffi queries read_back
 ifdef DELKUTHI_LIB
 ARCHIVES := $(DELKUTHI_LIB)/libdelkuthi.a
 put_together = cp $(ARCHIVES) $@.new

@@ -146,7 +146,8 @@
  * The stack of a call is measured, not proved. Each limit leaves at least ten
  * percent of room on every machine that DATASHEET.md names. The limit of a
  * step also holds for a withdrawal and for the calls that only read, the limit
- * of report_on for delkuthi_report_of. Link the host statically or with
+ * of report_on for delkuthi_report_of, and the limit of table for
+ * delkuthi_table_row and delkuthi_monitor_row. Link the host statically or with
  * -Wl,-z,now: otherwise the loader resolves a function at its first call, and
  * that takes about 3 KiB more on the caller's stack.
  *
@@ -1156,6 +1157,22 @@ DELKUTHI_CHECKED DELKUTHI_NONNULL
 uint64_t delkuthi_add_row(uint8_t *table, size_t table_length, size_t length,
                           const uint8_t *body, size_t body_length);
 
+/*
+ * Reads a row of a table of edition 1 or 2 back: copies its body, the type and
+ * the fields as delkuthi_add_row takes them, to a buffer. A buffer of
+ * DELKUTHI_LONGEST_ROW bytes holds every body. Bytes behind it stay as they
+ * were.
+ *
+ * If DELKUTHI_NUMBER of the answer is DELKUTHI_TAKEN, DELKUTHI_LENGTH is the
+ * length of the body. Otherwise the call is refused and the buffer stays as it
+ * was. If the table is refused, number and place are those of
+ * delkuthi_fresh_2. After those come, with the place 0, DELKUTHI_NO_ROW and
+ * DELKUTHI_TABLE_ROOM.
+ */
+DELKUTHI_CHECKED DELKUTHI_NONNULL
+uint64_t delkuthi_table_row(const uint8_t *table, size_t table_length,
+                            uint64_t row, uint8_t *body, size_t body_length);
+
 /* The table writer; rows_size is in bytes. Call delkuthi_make_table instead. */
 DELKUTHI_CHECKED DELKUTHI_NONNULL
 uint64_t delkuthi_table(const delkuthi_row *rows, size_t rows_size,
@@ -1368,6 +1385,20 @@ uint64_t delkuthi_row_moment(const delkuthi_monitor *monitor, uint64_t row);
  */
 DELKUTHI_NONNULL
 uint64_t delkuthi_rows(const delkuthi_monitor *monitor);
+
+/*
+ * Reads a row of the monitor's table back, as delkuthi_table_row does: copies
+ * its body to a buffer. It is the row of the table whatever steps the monitor
+ * has taken, whether the row is broken or not.
+ *
+ * If DELKUTHI_NUMBER of the answer is DELKUTHI_TAKEN, DELKUTHI_LENGTH is the
+ * length of the body. Otherwise it is refused with DELKUTHI_NO_ROW or
+ * DELKUTHI_TABLE_ROOM and the buffer stays as it was, whatever the memory of
+ * the monitor holds.
+ */
+DELKUTHI_CHECKED DELKUTHI_NONNULL
+uint64_t delkuthi_monitor_row(const delkuthi_monitor *monitor, uint64_t row,
+                              uint8_t *body, size_t body_length);
 
 /*
  * WHAT A HOST ASKS WHILE IT RUNS

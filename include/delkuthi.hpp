@@ -201,6 +201,18 @@ public:
         return added;
     }
 
+    // The row of a number, of length 0 if there is none.
+    delkuthi_long_row row(std::uint64_t number) const noexcept
+    {
+        delkuthi_long_row found{};
+        const std::uint64_t answer = delkuthi_table_row(
+            bytes_.data(), size_, number, found.body, sizeof found.body);
+
+        if (delkuthi::answer(answer))
+            found.length = DELKUTHI_LENGTH(answer);
+        return found;
+    }
+
     // Puts a row of any length behind the others. A monitor asks about it in
     // `fresh`. Returns false if there is no room.
     [[nodiscard]] bool put(const delkuthi_long_row &row) noexcept
@@ -368,6 +380,18 @@ public:
     std::uint64_t broken_at(std::uint64_t row) const noexcept
     {
         return delkuthi_row_step(&words_, row);
+    }
+
+    // The row of a number of the monitor's table, of length 0 if there is none.
+    delkuthi_long_row row(std::uint64_t number) const noexcept
+    {
+        delkuthi_long_row found{};
+        const std::uint64_t answer = delkuthi_monitor_row(
+            &words_, number, found.body, sizeof found.body);
+
+        if (delkuthi::answer(answer))
+            found.length = DELKUTHI_LENGTH(answer);
+        return found;
     }
 
     // Why a row broke; `none` if it is not broken.

@@ -66,6 +66,8 @@ void start(void)
     (void)delkuthi_put_coloured_event(bytes, sizeof bytes, 0, DELKUTHI_FIRST_COLOURED, 0, 0);
     (void)delkuthi_put_tick(bytes, sizeof bytes, 0, 0);
     (void)delkuthi_add_row(bytes, sizeof bytes, 0, bytes, sizeof bytes);
+    (void)delkuthi_table_row(bytes, sizeof bytes, 0, page, sizeof page);
+    (void)delkuthi_monitor_row(&monitor, 0, page, sizeof page);
     (void)delkuthi_withdraw_step(&monitor, 0);
     (void)delkuthi_close(&monitor);
     (void)delkuthi_row_verdict(&monitor, delkuthi_rows(&monitor));

@@ -66,6 +66,7 @@ bool longer()
     well = well && added.add(delkuthi_pattern(4, 10, 1, 0, offsets, 2)) && added.size() == sizeof expected
         && std::memcmp(added.data(), expected, sizeof expected) == 0
         && added.add(delkuthi_as_long(delkuthi_order(0, 0))).number() == delkuthi::number::row_kinds && added.size() == sizeof expected;
+    well = well && added.row(9).length == 0 && added.row(0).length + 2 <= added.size();
     for (int row = 0; row < DELKUTHI_ROW_LIMIT; row++)
         well = well && full.put(delkuthi_arbitrary(0, pairs, 8));
     return well && full.size() == DELKUTHI_TABLE_LIMIT && !full.put(delkuthi_as_long(delkuthi_order(0, 1)));

@@ -113,6 +113,8 @@ static void every_call(const delkuthi_monitor *forged)
         (void)delkuthi_row_cause(forged, rows[i]);
         begins("delkuthi_row_moment");
         (void)delkuthi_row_moment(forged, rows[i]);
+        begins("delkuthi_monitor_row");
+        (void)delkuthi_monitor_row(forged, rows[i], page, DELKUTHI_LONGEST_ROW);
         begins("delkuthi_row_deadline");
         (void)delkuthi_row_deadline(forged, rows[i]);
         begins("delkuthi_row_waiting");

@@ -74,6 +74,7 @@ static void calls(delkuthi_monitor *monitor)
         (void)delkuthi_row_step(monitor, number());
         if (delkuthi_rows(monitor) > DELKUTHI_ROW_LIMIT)
             exit(1);
+        (void)delkuthi_monitor_row(monitor, number() % 40, page, number() % (DELKUTHI_LONGEST_ROW + 1));
         (void)delkuthi_deadline(monitor);
         (void)delkuthi_row_deadline(monitor, number() % 40);
         (void)delkuthi_row_waiting(monitor, number());

@@ -47,6 +47,22 @@ static void add_row(void)
         length = DELKUTHI_LENGTH(delkuthi_add_row(joined, sizeof joined, length, row.body, row.length));
 }
 
+static void table_row(void)
+{
+    uint64_t row;
+
+    for (row = 0; row < DELKUTHI_ROW_LIMIT; row++)
+        (void)delkuthi_table_row(joined, DELKUTHI_TABLE_LIMIT, row, report, sizeof report);
+}
+
+static void monitor_row(void)
+{
+    uint64_t row;
+
+    for (row = 0; row < delkuthi_rows(&monitor); row++)
+        (void)delkuthi_monitor_row(&monitor, row, report, sizeof report);
+}
+
 static void event(void)
 {
     uint64_t time;
@@ -178,6 +194,8 @@ static struct measured calls[] = {
     {"table", make_table, DELKUTHI_TABLE_STACK, 0},
     {"add_row", add_row, DELKUTHI_TABLE_STACK, 0},
     {"fresh", fresh, DELKUTHI_MONITOR_STACK, 0},
+    {"table_row", table_row, DELKUTHI_TABLE_STACK, 0},
+    {"monitor_row", monitor_row, DELKUTHI_TABLE_STACK, 0},
     {"event", event, DELKUTHI_STEP_STACK, 0},
     {"tick", tick, DELKUTHI_STEP_STACK, 0},
     {"withdraw", withdraw, DELKUTHI_STEP_STACK, 0},

@@ -26,7 +26,7 @@ pub fn link(name: &str) -> PathBuf {
 
 /// The proved libraries that make up an archive, as in the `Makefile`.
 fn parts(name: &str) -> Vec<&str> {
-    if name == "delkuthi" { vec!["delkuthi", "stretch_ffi", "queries"] } else { vec![name] }
+    if name == "delkuthi" { vec!["delkuthi", "stretch_ffi", "queries", "read_back"] } else { vec![name] }
 }
 
 /// Copies an archive.

@@ -19,6 +19,9 @@ FIRST_COLOURED = 48
 LAST_COLOUR = 7
 NO_LIMIT = 2**64 - 1
 ROW_LIMIT = 32
+LONGEST_ROW = 131
+#: The refusal of a row that is not there.
+NO_ROW = 15
 TABLE_LIMIT = 2048
 RECORDING_LIMIT = 61_440
 REPORT_LIMIT = 1024
@@ -83,6 +86,9 @@ CALLS: dict[str, tuple[Any, list[Any]]] = {
     "delkuthi_version": (ctypes.c_uint32, []),
     "delkuthi_monitor_size": (_NUMBER, []),
     "delkuthi_fresh_2": (_NUMBER, [_MONITOR, _DATA, _LENGTH]),
+    "delkuthi_add_row": (_NUMBER, [_DATA, _LENGTH, _LENGTH, _DATA, _LENGTH]),
+    "delkuthi_table_row": (_NUMBER, [_DATA, _LENGTH, _NUMBER, _DATA, _LENGTH]),
+    "delkuthi_monitor_row": (_NUMBER, [_MONITOR, _NUMBER, _DATA, _LENGTH]),
     "delkuthi_event": (_BYTE, [_MONITOR, _BYTE, _NUMBER]),
     "delkuthi_coloured_event": (_BYTE, [_MONITOR, _BYTE, _BYTE, _NUMBER]),
     "delkuthi_tick": (_BYTE, [_MONITOR, _NUMBER]),

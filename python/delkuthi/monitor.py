@@ -8,7 +8,10 @@ from typing import Iterable, Sequence
 from . import library as lib
 from .library import Refused
 from .signals import NO_COLOUR, parts, signal
+from .rows import Row
+from .rowtypes import row_values
 from .table import Table
+from .table_bytes import bodies
 
 _WORDS = ("open", "kept", "broken")
 _CAUSES = ("", "overdue", "event", "close")
@@ -103,6 +106,12 @@ class Monitor:
     def verdicts(self) -> list[Verdict]:
         """What each row reads, in the order of the table."""
         return [self.verdict(row) for row in range(self._library.delkuthi_rows(self._memory))]
+
+    @property
+    def rows(self) -> list[Row]:
+        """The rows of the table, read back from the monitor's memory whatever steps were taken; without names."""
+        read = self._library.delkuthi_monitor_row
+        return [Row(*row_values(body)) for body in bodies(lambda row, buffer, size: int(read(self._memory, row, buffer, size)))]
 
     def step(self, row: int) -> int | None:
         """The step that broke a row, if one has."""

@@ -11,10 +11,13 @@ from .rowtypes import row_values
 from .signals import parts
 from .sources import CanSource, CsvSource, KeySource, Source
 from .split import Part, split
-from .table_bytes import ask_table, is_bytes, table_places
+from .table_bytes import add_row, ask_table, is_bytes, table_places, table_rows
 from .text import Comments, TextError, parse, printed
 
-__all__ = ["CanSource", "CsvSource", "Event", "Executed", "KeySource", "Row", "Source", "Table", "ask_table", "is_bytes", "table_places"]
+__all__ = [
+    "CanSource", "CsvSource", "Event", "Executed", "KeySource", "Row", "Source", "Table", "add_row", "ask_table", "is_bytes", "table_places",
+    "table_rows",
+]
 
 
 class Table:
@@ -70,8 +73,7 @@ class Table:
     @staticmethod
     def from_bytes(data: bytes) -> Table:
         """The table that the bytes are; :class:`Refused` if the library does not accept them."""
-        ask_table(data)
-        return Table(Row(*row_values(body)) for _, body in table_places(data))
+        return Table(Row(*row_values(body)) for body in table_rows(data))
 
     @staticmethod
     def from_text(text: str, file: str = "table") -> Table:

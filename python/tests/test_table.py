@@ -6,9 +6,10 @@ from hypothesis import given
 from hypothesis import strategies as st
 
 import delkuthi
-from delkuthi import Event, Refused, Row, Table, TextError, TextRefused
+from delkuthi import Event, Monitor, Refused, Row, Table, TextError, TextRefused
 from delkuthi.library import LAST_TIME, NEWEST_EDITION
 from delkuthi.rowtypes import BY_NAME, TYPES
+from delkuthi.table import add_row, table_rows
 from delkuthi.text import grammar
 from delkuthi.units import UNITS
 
@@ -310,3 +311,23 @@ def test_the_manuals_mistake():
     with pytest.raises(TextRefused) as error:
         Table.from_text(text.replace("0 ms .. 50 ms", "60 ms .. 50 ms"), "brake.txt")
     assert "".join(f"    {line}\n" for line in str(error.value).splitlines()) in manual
+
+
+def test_rows_read_back():
+    """Rows are read back from a table and from a monitor after any steps, and each can be added to a table again."""
+    data = b"\x01"
+    for body in (bytes([6, 0, 1]), bytes([1, 0, 1]) + bytes(15) + bytes([9]), bytes([16, 1, 0]) + bytes(7) + bytes([2]) + bytes(7) + bytes([3])):
+        data = add_row(data, body)
+        assert table_rows(data)[-1] == body
+    assert data[0] == 2
+    monitor = Monitor(data)
+    for time in (1, 2, 9):
+        monitor.event(0, time)
+    monitor.close()
+    assert tuple(monitor.rows) == Table.from_bytes(data).rows
+    with pytest.raises(Refused) as refused:
+        add_row(data, bytes([6, 0, 0]))
+    assert (refused.value.number, refused.value.place) == (5, len(data))
+    with pytest.raises(Refused) as refused:
+        table_rows(b"\x01\x00\x02\x06\x00")
+    assert (refused.value.number, refused.value.place) == (4, 1)

@@ -26,6 +26,7 @@ module _ (rows : List Constraint) (requests : List Request) (answers : List Answ
         verdicts = λ i.
             (verdictOf m i, verdict-says i, λ word w. w m holds .says .equals, λ number s. s m holds .says .equals);
         counted = λ number n. n m holds .means rows requests accepted refl;
+        row-back = λ i buffer number written b. b m holds .means rows requests accepted refl;
         paged = λ buffer number written w.
             let page = w m holds .means rows requests accepted refl in
             subst (λ (l : Left). Pages rows (l .steps) buffer number written) (run-once rows (page .1 .1) run .1) (page .2);

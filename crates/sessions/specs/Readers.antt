@@ -17,12 +17,13 @@ use Rattle.delkuthi.specs.Host.{Memory}
 use Rattle.delkuthi.specs.Lent.{wordOf, WordOfVerdict, StepOfVerdict, NumberOfRows}
 use Rattle.delkuthi.specs.Printed.{WritesPage}
 use Rattle.delkuthi.specs.Reporting.{ReportsSteps, ReportsOf}
+use Rattle.read_back.specs.Contract.{MonitorRowBack, RowBack}
 use Rattle.queries.specs.Deadlines.{RowDeadline, LeastDeadline}
 use Rattle.queries.specs.Contract.{BrokenRows, RowWaiting, CrowdedRow, AsksClock, AsksSteps, AsksClosed, AsksBrokenRows, AsksWaiting}
 use Rattle.queries.specs.Contract.{AsksRowDeadline, AsksDeadline, AsksCrowdedRow, AsksCause, AsksMoment, RowCause}
 use Rattle.queries.specs.Contract.{AsksOldest, AsksOldestStream, RowOldest}
 
--- §11.2: each of the seventeen answers what the definitions say of the rows after these steps
+-- §11.2: each of the eighteen answers what the definitions say of the rows after these steps
 pub record ReadsAs (h : Memory) (rows : List Constraint) (steps : List Step) : Type 0 where
   -- §11.5: `delkuthi_row_verdict` and `delkuthi_row_step`: the word and the step of what the row reads
   pub verdicts : (i : ℕ) → (v : Option Verdict) × ReadsRow rows steps i v
@@ -30,6 +31,9 @@ pub record ReadsAs (h : Memory) (rows : List Constraint) (steps : List Step) : T
       × ((step : ℕ) → ReadOff h (λ m. StepOfVerdict m i) step → step ≡ stepIn v)
   -- §11.5: `delkuthi_rows`
   pub counted : (number : ℕ) → ReadOff h NumberOfRows number → number ≡ length rows
+  -- §9.14: `delkuthi_monitor_row`
+  pub row-back : (i : ℕ) (buffer : List ℕ) (number : ℕ) (written : List ℕ) → ReadOff h (λ m answer. MonitorRowBack m i buffer answer written) number
+      → RowBack rows i buffer number written
   -- §7.14: `delkuthi_page`
   pub paged : (buffer : List ℕ) (number : ℕ) (written : List ℕ) → ReadOff h (λ m answer. WritesPage m buffer answer written) number
       → Pages rows steps buffer number written

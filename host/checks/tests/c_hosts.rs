@@ -415,7 +415,7 @@ fn the_stack() {
     let drive = [example("table.bin"), example("recording.bin")];
     let ran = host.run(&files.paths.iter().chain(&drive).collect::<Vec<&PathBuf>>());
     println!("bytes of stack:\n{}", ran.printed);
-    assert_eq!((ran.status, ran.printed.lines().count()), (Some(0), 18));
+    assert_eq!((ran.status, ran.printed.lines().count()), (Some(0), 20));
     let sheet = text("docs/DATASHEET.md");
     for line in ran.printed.lines() {
         let words: Vec<&str> = line.split(' ').collect();

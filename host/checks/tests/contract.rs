@@ -2,7 +2,7 @@
 
 use checks::beside::{fresh, put, take, take_all, verdict};
 use checks::contract::{
-    Asked, Example, WRITES_ROOM, blocks, clauses, example, examples, files, pages, takes, text, writes,
+    Asked, Example, WRITES_ROOM, blocks, clauses, example, examples, files, pages, rows_back, takes, text, writes,
 };
 use checks::pages::page_in;
 use checks::refusals::refusal;
@@ -150,6 +150,22 @@ fn the_writes_are_so() {
         }
         assert_eq!(recording.bytes(), &modelled[..size], "{line}");
         assert_eq!(last.map(|()| recording.bytes().to_vec()), writes.written, "{line}");
+    }
+}
+
+#[test]
+fn the_rows_read_back_are_so() {
+    let text = text();
+    let lines: Vec<&str> = blocks(&text, "row").into_iter().flatten().collect();
+    assert!(lines.len() >= 5);
+    for line in lines {
+        let back = rows_back(line);
+        assert_eq!(model::table_row(&back.table, back.row, back.room), back.given, "{line}");
+        let mut body = vec![7; back.room];
+        let answer = delkuthi::table_row(&back.table, back.row as usize, &mut body).map_err(refusal);
+        assert_eq!(answer, back.given.as_ref().map(Vec::len).map_err(Clone::clone), "{line}");
+        let given = back.given.unwrap_or_default();
+        assert!(body.starts_with(&given) && body[given.len()..].iter().all(|byte| *byte == 7), "{line}");
     }
 }
 

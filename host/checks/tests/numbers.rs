@@ -321,7 +321,7 @@ fn the_places_of_words_are_the_crates() {
 /// A row for the writer has as many bytes in the header, in the Rust crate and in the definitions, and so has the longest row.
 #[test]
 fn the_size_of_a_row_is_the_same_everywhere() {
-    assert_eq!(longest_row(), constant("host/delkuthi/src/table.rs", "LONGEST"));
+    assert_eq!(longest_row(), constant("host/delkuthi/src/table.rs", "LONGEST_ROW"));
     let size = model::limits::SHORT_ROW as u64;
     assert_eq!(size, number_between(&Header::read().text, "uint8_t body[", "]"));
     assert_eq!(size, constant("host/delkuthi/src/table.rs", "ROW_SIZE"));

@@ -74,6 +74,14 @@ extern "C" {
         body: *const u8,
         body_length: usize,
     ) -> u64;
+    pub fn delkuthi_table_row(
+        table: *const u8,
+        table_length: usize,
+        row: u64,
+        body: *mut u8,
+        body_length: usize,
+    ) -> u64;
+    pub fn delkuthi_monitor_row(monitor: &Monitor, row: u64, body: *mut u8, body_length: usize) -> u64;
     pub fn delkuthi_page(monitor: &Monitor, page: *mut u8, page_length: usize) -> usize;
     pub fn delkuthi_report_of(monitor: &Monitor, report: *mut u8, report_length: usize) -> usize;
     pub fn delkuthi_report_2(

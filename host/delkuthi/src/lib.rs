@@ -69,7 +69,7 @@ pub use refusal::{Refusal, refusal_text};
 pub use report::{REPORT_LIMIT, report};
 pub use stamps::{Stamped, stamped};
 pub use stretches::{RECORD_LIMIT, Stretch, shortest_stretch};
-pub use table::{NEWEST_EDITION, NO_LIMIT, Row, TABLE_LIMIT, add_row, type_text, write_table};
+pub use table::{LONGEST_ROW, NEWEST_EDITION, NO_LIMIT, Row, TABLE_LIMIT, add_row, table_row, type_text, write_table};
 pub use version::{VERSION, library_version, matches};
 pub use writer::Recording;
 

@@ -2,6 +2,7 @@
 
 use crate::ffi;
 use crate::refusal::Refusal;
+use crate::table::body_length;
 use core::fmt;
 
 /// How many words of 64 bits a monitor takes.
@@ -222,6 +223,16 @@ impl Monitor {
     /// The number of rows of the table, at most 32 whatever the words are.
     pub fn rows(&self) -> usize {
         ffi::delkuthi_rows(self) as usize
+    }
+
+    /// Copies the body of a row of the table to a buffer, as [`crate::table_row`] does, whatever steps were taken. Returns its length. A
+    /// refusal writes nothing.
+    ///
+    /// # Errors
+    /// 15 if there is no row of that number; 16 a buffer too short.
+    pub fn row(&self, row: usize, body: &mut [u8]) -> Result<usize, Refusal> {
+        // SAFETY: the pointer and the length are a slice's, and its memory is not the monitor's.
+        body_length(unsafe { ffi::delkuthi_monitor_row(self, row as u64, body.as_mut_ptr(), body.len()) })
     }
 
     /// What each row reads, in the order of the table.

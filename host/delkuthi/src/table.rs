@@ -5,7 +5,7 @@ use crate::monitor::Monitor;
 use crate::refusal::Refusal;
 
 /// The length of the longest table: a version byte, and for each of 32 rows a length field and at most 131 bytes.
-pub const TABLE_LIMIT: usize = 1 + crate::ROW_LIMIT * (2 + LONGEST);
+pub const TABLE_LIMIT: usize = 1 + crate::ROW_LIMIT * (2 + LONGEST_ROW);
 // begin no limit: made by release/row-types.py
 /// The upper of a Delay, Repeat or Sporadic, or a maximum of an Arbitrary, that has no upper limit.
 pub const NO_LIMIT: u64 = u64::MAX;
@@ -19,7 +19,7 @@ const FIRST_EDITION_TYPES: u8 = 10;
 // end first edition
 
 /// The bytes of the longest row.
-const LONGEST: usize = 131;
+pub const LONGEST_ROW: usize = 131;
 /// The bytes of a row for the writer of rows that are not longer. The rest are 0.
 const ROW_SIZE: usize = 34;
 /// How many rows the writer reads at most: the 33rd is refused.
@@ -91,7 +91,7 @@ pub fn write_table(rows: &[Row], table: &mut [u8]) -> Result<usize, Refusal> {
 
 /// The same for rows of any length: the table is written aside, and a fresh monitor asks its questions.
 fn write_long_rows(rows: &[Row], table: &mut [u8]) -> Result<usize, Refusal> {
-    let mut made = [0; TABLE_LIMIT + 2 + LONGEST];
+    let mut made = [0; TABLE_LIMIT + 2 + LONGEST_ROW];
     made[0] = NEWEST_EDITION;
     let mut length = 1;
     for row in rows {
@@ -127,6 +127,31 @@ fn write_long_rows(rows: &[Row], table: &mut [u8]) -> Result<usize, Refusal> {
 pub fn add_row(table: &mut [u8], length: usize, body: &[u8]) -> Result<usize, Refusal> {
     // SAFETY: the pointers and lengths are slices', and the table's memory is not that of the row.
     let answer = unsafe { ffi::delkuthi_add_row(table.as_mut_ptr(), table.len(), length, body.as_ptr(), body.len()) };
+    Refusal::of_bytes(answer)?;
+    Ok((answer / 256) as usize)
+}
+
+/// Copies the body of a row of a table to a buffer: its type and fields, as [`add_row`] takes them. Returns the length of the body, at
+/// most [`LONGEST_ROW`]. A refusal writes nothing.
+///
+/// ```
+/// let mut body = [0; delkuthi::LONGEST_ROW];
+/// let length = delkuthi::table_row(&[1, 0, 3, 6, 0, 1], 0, &mut body)?;
+/// assert_eq!(&body[..length], [6, 0, 1]);
+/// # Ok::<(), delkuthi::Refusal>(())
+/// ```
+///
+/// # Errors
+/// What [`Monitor::fresh`] refuses in the table; 15 if there is no row of that number; 16 a buffer too short.
+pub fn table_row(table: &[u8], row: usize, body: &mut [u8]) -> Result<usize, Refusal> {
+    // SAFETY: the pointers and lengths are slices', and the buffer's memory is not that of the table.
+    let answer =
+        unsafe { ffi::delkuthi_table_row(table.as_ptr(), table.len(), row as u64, body.as_mut_ptr(), body.len()) };
+    body_length(answer)
+}
+
+/// The length of a body that a call answers, or its refusal.
+pub(crate) fn body_length(answer: u64) -> Result<usize, Refusal> {
     Refusal::of_bytes(answer)?;
     Ok((answer / 256) as usize)
 }
@@ -197,14 +222,14 @@ fn number<T>(list: &[T]) -> u8 {
 
 /// The bytes of a row, and how many there are. The rest are 0.
 struct Body {
-    bytes: [u8; LONGEST],
+    bytes: [u8; LONGEST_ROW],
     length: usize,
 }
 
 impl Body {
     /// The type, and what stands behind it.
     fn of(bytes: &[u8]) -> Body {
-        Body { bytes: [0; LONGEST], length: 0 }.bytes(bytes)
+        Body { bytes: [0; LONGEST_ROW], length: 0 }.bytes(bytes)
     }
 
     fn bytes(mut self, bytes: &[u8]) -> Body {

@@ -20,7 +20,7 @@
 enum item {
     TABLE = 1, RECORDING, FRESH, EVENT, COLOURED, TICK, CLOSE, WITHDRAW, PAGE,
     REPORT, REPORT_ON, REPORT_OF, WRITE, JOIN, STAMPS, STRETCH, COUNT, ZEROS,
-    WITHDRAW_STEP, TAKE, PUT, ADD_ROW
+    WITHDRAW_STEP, TAKE, PUT, ADD_ROW, ROW_BACK
 };
 
 /* What the vector says of the monitor. */
@@ -439,6 +439,18 @@ static void add_row(void)
     same_text("a byte of the table");
 }
 
+/* A row of the table, or of the monitor, that is read back. */
+static void row_back(void)
+{
+    uint8_t of_monitor = byte();
+    uint64_t row = number();
+    size_t length = room();
+
+    same("answer", of_monitor ? delkuthi_monitor_row(&monitor, row, buffer, length)
+                              : delkuthi_table_row(table, table_length, row, buffer, length), number());
+    same_text("a byte of the row");
+}
+
 /* Calls that write to a buffer. Returns whether this is one. */
 static int played_writer(enum item item)
 {
@@ -464,6 +476,8 @@ static int played_writer(enum item item)
         put();
     else if (item == ADD_ROW)
         add_row();
+    else if (item == ROW_BACK)
+        row_back();
     else if (item == JOIN) {
         length = room();
         same("answer", delkuthi_join(table, table_length, recording, recording_length, buffer, length), number());

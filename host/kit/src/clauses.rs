@@ -127,6 +127,8 @@ pub const RULES: &[(&str, &str)] = &[
     ("9.10", "report refused 13"),
     ("9.11", "refused 12, tick"),
     ("9.12", "row added"),
+    ("9.13", "row of a table read back"),
+    ("9.14", "row of a monitor read back"),
     ("11.1", "refused step, event"),
     ("11.2", "event, withdrawal, page, report of, report on"),
     ("11.3", "not: nothing that a call answers shows it; the archive has no such function"),

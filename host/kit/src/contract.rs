@@ -2,7 +2,7 @@
 //! contract says what is read or printed, the model has to say the same.
 
 use crate::vector::Vector;
-use model::contract::{Asked, Block, WRITES_ROOM, every_block, example, file, page, takes, writes};
+use model::contract::{Asked, Block, WRITES_ROOM, every_block, example, file, page, rows_back, takes, writes};
 use model::notation::steps;
 use model::types::{delay, reaction, repeat, strong_delay};
 use model::{Constraint, NO_LIMIT, Step, edition_of, page_text, recording_bytes, report_text, table_bytes};
@@ -22,6 +22,7 @@ fn block_vectors(block: &Block) -> Vec<Vector> {
         "page" => vec![page_vector(block)],
         "cause" | "oldest" => example_vectors(block),
         "take" => block.lines.iter().map(|line| take_vector(line)).collect(),
+        "row" => block.lines.iter().map(|line| row_vector(line)).collect(),
         "write" => block.lines.iter().map(|line| write_vector(line)).collect(),
         "stamps" => block.lines.iter().map(|line| stamps_vector(line)).collect(),
         "join" => block.lines.iter().map(|line| join_vector(line)).collect(),
@@ -118,6 +119,16 @@ fn write_vector(line: &str) -> Vector {
     for step in writes(line).steps {
         vector.put_record(step, WRITES_ROOM);
     }
+    vector
+}
+
+fn row_vector(line: &str) -> Vector {
+    let back = rows_back(line);
+    let mut vector = Vector::new("");
+    vector.table(&back.table);
+    vector.row_back(false, back.row, back.room);
+    vector.fresh(2);
+    vector.row_back(true, back.row, back.room);
     vector
 }
 

@@ -126,6 +126,10 @@ fn mixed(random: &mut Random) -> Vector {
     vector.take();
     vector.take();
     vector.report_on(2, ROOM);
+    for of_monitor in [false, true] {
+        let room = if random.chance(80) { ROOM } else { random.place(140) };
+        vector.row_back(of_monitor, random.below(rows.len() as u64 + 2), room);
+    }
     let more = if random.chance(60) { table(random, 1) } else { damaged_rows(random) };
     vector.add_row(&more[0].body(), if random.chance(80) { 2 * ROOM } else { random.place(400) });
     vector

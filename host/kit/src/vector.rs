@@ -6,8 +6,8 @@ use model::join::{Input, join};
 use model::recording::{put_record, read_record};
 use model::{
     Cause, Constraint, Monitor, NEWEST_EDITION, NO_LIMIT, Refusal, Stamped, Step, Verdict, add_row, page_text,
-    read_table_up_to, refused_short_in, report_of, report_text_up_to, short_body, shortest_stretch_up_to,
-    stamped_up_to, table_bytes_in, write_short_in,
+    read_table_up_to, refused_short_in, report_of, report_text_up_to, row_back, short_body, shortest_stretch_up_to,
+    stamped_up_to, table_bytes_in, table_row, write_short_in,
 };
 use std::collections::BTreeSet;
 
@@ -36,6 +36,7 @@ enum Item {
     Take,
     Put,
     AddRow,
+    RowBack,
 }
 
 /// What the runner expects of the monitor.
@@ -480,6 +481,31 @@ impl Vector {
                 put_text(&mut self.bytes, &self.table);
                 self.refused(refusal.number);
                 self.shows("row not added");
+            }
+        }
+    }
+
+    /// A row of the table, or of the monitor, read back into a buffer of this size (§9.13, §9.14).
+    pub fn row_back(&mut self, of_monitor: bool, row: u64, room: usize) {
+        let given = match (of_monitor, &self.monitor) {
+            (true, None) => return,
+            (true, Some(monitor)) => row_back(monitor.rows(), row, room).map_err(|number| Refusal { number, place: 0 }),
+            (false, _) => table_row(&self.table, row, room),
+        };
+        self.item(Item::RowBack);
+        self.bytes.push(u8::from(of_monitor));
+        put_number(&mut self.bytes, row);
+        put_number(&mut self.bytes, room as u64);
+        match given {
+            Ok(body) => {
+                put_number(&mut self.bytes, 256 * body.len() as u64);
+                put_text(&mut self.bytes, &body);
+                self.shows(if of_monitor { "row of a monitor read back" } else { "row of a table read back" });
+            }
+            Err(refusal) => {
+                put_number(&mut self.bytes, placed(refusal));
+                put_text(&mut self.bytes, &[]);
+                self.refused(refusal.number);
             }
         }
     }

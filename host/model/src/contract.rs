@@ -1,5 +1,6 @@
 //! `docs/CONTRACT.md` as data: its clauses, and its examples to be executed.
 
+use crate::Refusal;
 use crate::notation::steps;
 use crate::types::Given;
 use crate::{Constraint, NO_LIMIT, Step, recording_bytes};
@@ -253,6 +254,32 @@ pub fn writes(line: &str) -> Writes {
         None => Ok(bytes(answer, "")),
     };
     Writes { steps: steps(records), written }
+}
+
+/// A row of a table that is read back into a buffer (§9.13): its body, or the refusal.
+pub struct RowBack {
+    pub table: Vec<u8>,
+    pub row: u64,
+    pub room: usize,
+    pub given: Result<Vec<u8>, Refusal>,
+}
+
+/// "01 0003 06 00 01, row 0, room 131 = 06 00 01", or ".. = refused 15", or ".. = refused 4, place 1".
+///
+/// # Panics
+/// Where it is none.
+pub fn rows_back(line: &str) -> RowBack {
+    let (asked, answer) = line.split_once(" = ").unwrap_or_else(|| panic!("no answer: {line}"));
+    let (table, rest) = asked.split_once(", row ").unwrap_or_else(|| panic!("no row: {line}"));
+    let (row, room) = rest.split_once(", room ").unwrap_or_else(|| panic!("no room: {line}"));
+    let given = match answer.strip_prefix("refused ") {
+        None => Ok(bytes(answer, "")),
+        Some(refused) => {
+            let (refusal, place) = refused.split_once(", place ").unwrap_or((refused, "0"));
+            Err(Refusal { number: number(refusal) as u8, place: number(place) as usize })
+        }
+    };
+    RowBack { table: bytes(table, ""), row: number(row), room: number(room) as usize, given }
 }
 
 /// A page of the contract: the rows of a table, the steps of a recording, and what is printed after them.

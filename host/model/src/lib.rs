@@ -56,7 +56,7 @@ pub use status::Cause;
 pub use steps::{Events, History, Step};
 pub use stretches::{RECORD_LIMIT, Stretch, first_breaking, shortest_stretch, shortest_stretch_up_to};
 pub use table::{
-    add_row, edition_of, read_table, read_table_up_to, refused_row, refused_row_in, refused_short_in, short_body,
-    table_bytes, table_bytes_in, write_short_in, write_table, write_table_in,
+    add_row, edition_of, read_table, read_table_up_to, refused_row, refused_row_in, refused_short_in, row_back,
+    short_body, table_bytes, table_bytes_in, table_row, write_short_in, write_table, write_table_in,
 };
 pub use types::{Constraint, TYPES, types_in};

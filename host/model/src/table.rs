@@ -71,6 +71,18 @@ pub fn add_row(table: &[u8], body: &[u8], room: usize) -> Result<Vec<u8>, Refusa
     Ok(bytes)
 }
 
+/// The body of a row of some rows, read back into a buffer of this many bytes (§9.13, §9.14).
+pub fn row_back(rows: &[Constraint], row: u64, room: usize) -> Result<Vec<u8>, u8> {
+    let body = rows.get(usize::try_from(row).unwrap_or(usize::MAX)).map(Constraint::body).ok_or(15)?;
+    ask(16, body.len() <= room)?;
+    Ok(body)
+}
+
+/// The same of a table.
+pub fn table_row(table: &[u8], row: u64, room: usize) -> Result<Vec<u8>, Refusal> {
+    row_back(&read_table(table)?, row, room).map_err(|number| Refusal { number, place: 0 })
+}
+
 /// The number of the first row that is refused, as the writer of an edition puts its questions row by row (§11.5).
 pub fn refused_row_in(edition: u8, rows: &[Constraint]) -> Option<usize> {
     (0..rows.len()).find(|row| rows_questions(edition, &rows[..=*row]).is_err())

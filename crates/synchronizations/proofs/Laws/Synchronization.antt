@@ -3,83 +3,44 @@
 use Rattle.constraint.proofs.Counting.{next-above, next-least, next-snoc, nextFree}
 use Rattle.constraint.proofs.History.{Accepts, Past, clock-event, clock-tick, closed-event, times-append, times-other, times-own, times-tick}
 use Rattle.constraint.proofs.History.{with-time}
-use Rattle.constraint.proofs.Library.{Bool, List, [], _&&_, _++_, _+_, _-_, _<_, _||_, _∙_, _∷_, _≡_, _≤_, _⊎_, and-eq-true-iff, ap, append-nil}
-use Rattle.constraint.proofs.Library.{arith, by-cases, cond, decLt, eq-eqb, eqb, eqb-false, false, false≢true, inl, inr, length, length-append, ltb}
-use Rattle.constraint.proofs.Library.{ltb-false, ltb-true, ne-eqb, refl, suc, sym, true, zero, ℕ, ℕ-discrete}
-use Rattle.constraint.proofs.Lists.{at-left, at-next, at-right, split}
+use Rattle.constraint.proofs.Library.{Bool, List, [], _++_, _+_, _-_, _<_, _∙_, _∷_, _≡_, _≤_, _⊎_, ap, append-nil}
+use Rattle.constraint.proofs.Library.{arith, by-cases, cond, decLt, false, false≢true, inl, inr, length, length-append}
+use Rattle.constraint.proofs.Library.{refl, suc, sym, true, zero, ℕ, ℕ-discrete}
+use Rattle.constraint.proofs.Lists.{at-left, at-next, at-right}
 use Rattle.constraint.proofs.{Continuations.SameTimes, Continuations.continues-late, Continuations.same-times, Streams.streams}
 use Rattle.constraint.specs.Steps.{Step, at, clock, closed, event, own, tick, times}
-use Rattle.constraint.specs.{Accepted.KindsFit, Accepted.kinds, Continuation.Continues, Continuation.Open, Continuation.stop, Limits.lastKind}
+use Rattle.constraint.specs.{Accepted.KindsFit, Accepted.kinds, Continuation.Continues, Continuation.Open, Continuation.stop}
 use Rattle.constraint.specs.{Limits.lastTime, Limits.waitingLimit, Meets.Meets, Meets.MeetsSynchronization, Meets.Recorded, Waiting.waiting}
 use Rattle.constraint.specs.Constraint.{Constraint, Synchronization}
 use Rattle.synchronizations.proofs.Laws.Columns.{Reaches, reaches-before}
-use Rattle.synchronizations.proofs.Laws.Counts.{Names, OfKinds, count-none, four-each, four-false, four-true, fourCounts, fourKinds}
-use Rattle.synchronizations.proofs.Laws.Counts.{kind-absent}
-use Rattle.synchronizations.proofs.Laws.Counts.{kind-present}
-use Rattle.synchronizations.proofs.Laws.Counts.{names-four, of-kinds}
+use Rattle.synchronizations.proofs.Laws.Counts.{Names, OfKinds, above-each, above-lacks, count-none, fourCounts}
+use Rattle.synchronizations.proofs.Laws.Counts.{of-kinds, with-other, with-own}
 use Rattle.synchronizations.proofs.Laws.Windows.{Lasts, OneMore, Owing, Settled, SettledBefore, all-now, all-past, earlier-after, owing-begins}
 use Rattle.synchronizations.proofs.Laws.Windows.{owing-ends, owing-late, owing-same, owing-stays, settled-on, settled-same}
-use Rattle.synchronizations.specs.StrongSynchronization.{withCounts}
-use Rattle.synchronizations.specs.Synchronization.{afterEvent, decideSynchronization, full, latest, machineSynchronization, newer, recent}
+use Rattle.synchronizations.specs.Kinds.{withFour}
+use Rattle.synchronizations.specs.Synchronization.{afterEvent, decideSynchronization, full, latest, machineSynchronization}
 use Rattle.row_type.proofs.Exact.{ByOutcome, Exact, GoesOn, OfStream, Sound, Starts, Waits}
 use Rattle.row_type.proofs.FitsRow.{FitsRow, Steady, fits-steady, keeping-counts, steady-by, steady-drop}
-use Rattle.row_type.proofs.{Oldest.due-passed, SeveralKinds.by-place, SeveralKinds.kinds-apart, SeveralKinds.kinds-small, SeveralKinds.kinds-stream}
-use Rattle.row_type.specs.{Parts.dueOldest, Parts.none-left, Parts.plus, Parts.waits, Parameters.noKind, Parameters.parametersOf}
+use Rattle.row_type.proofs.{Oldest.due-passed, SeveralKinds.by-place, SeveralKinds.kinds-apart, SeveralKinds.kinds-stream}
+use Rattle.row_type.specs.{Parts.dueOldest, Parts.none-left, Parts.plus, Parts.waits, Parameters.parametersOf}
 use Rattle.row_type.specs.{Parameters.startWords, Parameters.waitsIn}
 use Rattle.row_type.specs.{Words.countsSaved, declared.Change.Change, declared.Registers.Registers, declared.Parameters.Parameters}
 use Rattle.ring.specs.{Ring.changed, declared.Edit.Edit, declared.Edit.the-variants.Drop, declared.Edit.the-variants.Push}
 
 -- ---- the marks
 
-recent-true : (tolerance t kind last : ℕ) → kind ≤ lastKind → recent tolerance t kind last ≡ true → (0 < last) × (t < last + tolerance)
-recent-true tolerance t kind last small e =
-    let (some, near) = and-eq-true-iff (ltb 0 last) (ltb t (plus last tolerance)) .0 (rw (ne-eqb kind noKind (λ same. omega arith)) at e) in
-    (ltb-true 0 last some, omega (arith, ltb-true t (plus last tolerance) near))
-
-recent-false : (tolerance t kind last : ℕ) → t ≤ lastTime → recent tolerance t kind last ≡ false
-    → (¬ (kind ≡ noKind)) × (0 < last → last + tolerance ≤ t)
-recent-false tolerance t kind last small =
-    split (eqb kind noKind)
-    (λ x. (x || (ltb 0 last && ltb t (plus last tolerance))) ≡ false → (¬ (kind ≡ noKind)) × (0 < last → last + tolerance ≤ t))
-    (λ e f. absurd (false≢true (sym f)))
-    (λ e f. (eqb-false kind noKind e, λ some. by-last (ltb 0 last) refl some f))
-  where
-    by-last : (b : Bool) → ltb 0 last ≡ b → 0 < last → (b && ltb t (plus last tolerance)) ≡ false → last + tolerance ≤ t
-    by-last true e some f = omega (arith, ltb-false t (plus last tolerance) f)
-    by-last false e some f = absurd (omega (arith, ltb-false 0 last e))
-
 module _ {parameters : Parameters} {ks : List ℕ} (names : Names parameters ks) (registers : Registers) where
-  latest-at : (k t i : ℕ) → i < 4 → at (fourCounts (latest parameters registers k t)) i ≡ newer k t (at (fourKinds parameters) i)
-      (at (fourCounts registers) i)
-  latest-at k t =
-      four-each (λ i. at (fourCounts (latest parameters registers k t)) i ≡ newer k t (at (fourKinds parameters) i) (at (fourCounts registers) i))
-      refl refl refl refl
-
-  latest-own : (k t : ℕ) → k < length ks → t ≤ lastTime → at (fourCounts (latest parameters registers (at ks k) t)) k ≡ suc t
-  latest-own k t h small =
-      latest-at (at ks k) t k (omega (arith, names-four names)) ∙ rw (kind-present names k h, eq-eqb (at ks k) (at ks k) refl) (omega arith)
-
-  latest-other : (k t j : ℕ) → k < length ks → j < length ks → ¬ (j ≡ k)
-      → at (fourCounts (latest parameters registers (at ks k) t)) j ≡ at (fourCounts registers) j
-  latest-other k t j h l apart =
-      latest-at (at ks k) t j (omega (arith, names-four names))
-      ∙ rw (kind-present names j l, ne-eqb (at ks k) (at ks j) (kinds-apart ks (names .fit) k j h l (λ e. apart (sym e))))
-
-  abbrev recentAt : ℕ → ℕ → Bool
-  recentAt t i = recent (parameters .upper) t (at (fourKinds parameters) i) (at (fourCounts registers) i)
-
   full-has : (t : ℕ) → full parameters registers t ≡ true → (j : ℕ) → j < length ks
       → (0 < at (fourCounts registers) j) × (t < at (fourCounts registers) j + parameters .upper)
   full-has t e j h =
-      recent-true (parameters .upper) t (at ks j) (at (fourCounts registers) j) (kinds-small ks (names .fit) j h)
-      (rw (kind-present names j h) at (four-true (recentAt t) e j (omega (arith, names-four names))))
+      let since = above-each names registers (t - parameters .upper) e j h in
+      (omega arith, omega arith)
 
-  full-lacks : (t : ℕ) → t ≤ lastTime → full parameters registers t ≡ false
+  full-lacks : (t : ℕ) → full parameters registers t ≡ false
       → (j : ℕ) × (j < length ks) × (0 < at (fourCounts registers) j → at (fourCounts registers) j + parameters .upper ≤ t)
-  full-lacks t small e =
-      let (j, h, lacks) = four-false (recentAt t) e in
-      let (known, early) = recent-false (parameters .upper) t (at (fourKinds parameters) j) (at (fourCounts registers) j) small lacks in
-      (j, by-cases (decLt j (length ks)) (λ l. l) (λ l. absurd (known (kind-absent names j (omega arith) h))), early)
+  full-lacks t e =
+      let (j, h, before) = above-lacks names registers (t - parameters .upper) e in
+      (j, h, λ some. omega arith)
 
 -- ---- what is recorded
 
@@ -182,10 +143,13 @@ module _ {parameters : Parameters} {ks : List ℕ} (names : Names parameters ks)
   lasts-after : (j : ℕ) → j < length ks → at (fourCounts noted) j ≡ next ks after j
   lasts-after j h =
       by-cases (ℕ-discrete j k)
-      (λ e. rw e (latest-own names registers k t of-row (accepts .time-small)
+      (λ e. rw e (with-own names registers k (plus t 1) of-row ∙ later
       ∙ sym (ap nextFree (times-own (at ks k) t steps) ∙ next-snoc (times (at ks k) steps) t (accepts .in-order .1))))
-      (λ e. latest-other names registers k t j of-row h e ∙ lasts j h
+      (λ e. with-other names registers k (plus t 1) j of-row h e ∙ lasts j h
       ∙ sym (ap nextFree (times-other (at ks j) (at ks k) t steps (kinds-apart ks (names .fit) k j of-row h (λ f. e (sym f))))))
+    where
+      later : plus t 1 ≡ suc t
+      later = omega (arith, accepts .time-small)
 
   -- what the row keeps after a change that it goes on with
   abbrev Goes : List ℕ → Change → Type 0
@@ -195,7 +159,7 @@ module _ {parameters : Parameters} {ks : List ℕ} (names : Names parameters ks)
   full-after e j h = rw (← lasts-after j h) (full-has names noted t e j h)
 
   lacks-after : full parameters noted t ≡ false → (j : ℕ) × (j < length ks) × (0 < next ks after j → next ks after j + parameters .upper ≤ t)
-  lacks-after e = let (j, h, lacks) = full-lacks names noted t (accepts .time-small) e in (j, h, rw (← lasts-after j h) lacks)
+  lacks-after e = let (j, h, lacks) = full-lacks names noted t e in (j, h, rw (← lasts-after j h) lacks)
 
   goes-on : (owed : List ℕ) (edit : Edit) → Owed ks (parameters .upper) after (changed edit owed)
       → t ≤ dueOldest (parameters .upper) (changed edit owed)
@@ -432,13 +396,13 @@ steady-synchronization : (parameters : Parameters) (m : Registers) (times : List
     → Steady countsSaved m times (decideSynchronization parameters m times kind t)
 unfolding decideSynchronization
 steady-synchronization parameters m times kind t =
-    steady-by (full parameters (latest parameters m kind t) t) (steady-drop 1 (ap (withCounts _ _ _ _))) (by-times times)
+    steady-by (full parameters (latest parameters m kind t) t) (steady-drop 1 (ap (withFour _ _ _ _))) (by-times times)
   where
     by-times : (times : List ℕ) → Steady countsSaved m times
         (cond (none-left times) (waits (parameters .upper) times (Push 0 t) (latest parameters m kind t))
         (waits (parameters .upper) times (Drop 0) (latest parameters m kind t)))
-    by-times [] = record { unkept = ap (withCounts _ _ _ _); no-more = λ many. absurd (omega arith) }
-    by-times (u ∷ us) = steady-drop 0 (ap (withCounts _ _ _ _))
+    by-times [] = record { unkept = ap (withFour _ _ _ _); no-more = λ many. absurd (omega arith) }
+    by-times (u ∷ us) = steady-drop 0 (ap (withFour _ _ _ _))
 
 pub fitsSynchronization : FitsRow machineSynchronization
 fitsSynchronization = fits-steady keeping-counts steady-synchronization

@@ -1,5 +1,6 @@
--- The last time is noted first, and the tests are those of the machine: one is owed just where the length is not 0.
-use Rattle.constraint.proofs.Library.{[], _∙_, _∷_, ap, eq-eqb, getD, ne-eqb, needs, refl, set}
+-- The last time is stored first, and the tests are those of the machine: one is owed just where the length is not 0.
+use Rattle.constraint.proofs.Library.{arith, eq-eqb, ne-eqb, needs, refl}
+use Rattle.synchronizations.proofs.Laws.Places.{place-small, register-stored}
 use Rattle.synchronizations.proofs.synchronization.apply.Statement.{statement}
 use Rattle.synchronizations.specs.Synchronization.{decideSynchronization}
 use Rattle.row_type.proofs.Oldest.{none-left-ring}
@@ -9,22 +10,27 @@ use Rattle.synchronizations.proofs.synchronization.apply.Tie as tie
 returns : tie.Need-returns
 unfolding rowWords numberWords changedWords decideSynchronization
 returns c parameters times state past e =
-    let i = c .before .before in let f = i .before in let n = f .before .before in
-    let kept = n .before .before .save-undo-counts .ensures parameters times state past e in
-    let noted = n .note .ensures parameters state _ (ap (λ m. getD m 1 []) kept) in
-    let words = ap (λ m. set m 1 (n .note .last .0)) kept ∙ ap (λ w. times ∷ w ∷ []) noted in
-    rw (c .fewer-wait .ensures parameters times _ _ words, ← rw words at (f .full .ensures), i .if1 .taken) refl
+    let i = c .before .before in let a = i .before in let s = a .before .before in let p = s .before .before in let k = p .before in
+    let kept = k .before .before .save-undo-counts .ensures parameters times state past e in
+    let words = register-stored _ parameters times state _ _ _ kept (k .place .ensures) _ _ (p .plus .ensures) in
+    rw (
+      c .fewer-wait .ensures parameters times _ _ words,
+      ← rw words at (s .minus .ensures),
+      ← rw words at (a .each-above .ensures),
+      i .if1 .taken,
+    ) refl
 
 returns-2 : tie.Need-returns-2
 unfolding rowWords numberWords changedWords decideSynchronization
 returns-2 c parameters times state past e =
-    let l = c .before .before in let i = l .before .before in let f = i .before in let n = f .before .before in
-    let kept = n .before .before .save-undo-counts .ensures parameters times state past e in
-    let noted = n .note .ensures parameters state _ (ap (λ m. getD m 1 []) kept) in
-    let words = ap (λ m. set m 1 (n .note .last .0)) kept ∙ ap (λ w. times ∷ w ∷ []) noted in
+    let l = c .before .before in let i = l .before .before in let a = i .before in let s = a .before .before in let p = s .before .before in
+    let k = p .before in
+    let kept = k .before .before .save-undo-counts .ensures parameters times state past e in
+    let words = register-stored _ parameters times state _ _ _ kept (k .place .ensures) _ _ (p .plus .ensures) in
     rw (
       c .one-more-waits .ensures parameters times _ _ words,
-      ← rw words at (f .full .ensures),
+      ← rw words at (s .minus .ensures),
+      ← rw words at (a .each-above .ensures),
       i .if1 .left,
       none-left-ring times (state .head) (state .len),
       eq-eqb (state .len) 0 (rw words at (l .if2 .taken)),
@@ -33,13 +39,14 @@ returns-2 c parameters times state past e =
 returns-3 : tie.Need-returns-3
 unfolding rowWords numberWords changedWords decideSynchronization
 returns-3 c parameters times state past e =
-    let l = c .before .before in let i = l .before .before in let f = i .before in let n = f .before .before in
-    let kept = n .before .before .save-undo-counts .ensures parameters times state past e in
-    let noted = n .note .ensures parameters state _ (ap (λ m. getD m 1 []) kept) in
-    let words = ap (λ m. set m 1 (n .note .last .0)) kept ∙ ap (λ w. times ∷ w ∷ []) noted in
+    let l = c .before .before in let i = l .before .before in let a = i .before in let s = a .before .before in let p = s .before .before in
+    let k = p .before in
+    let kept = k .before .before .save-undo-counts .ensures parameters times state past e in
+    let words = register-stored _ parameters times state _ _ _ kept (k .place .ensures) _ _ (p .plus .ensures) in
     rw (
       c .fewer-wait2 .ensures parameters times _ _ words,
-      ← rw words at (f .full .ensures),
+      ← rw words at (s .minus .ensures),
+      ← rw words at (a .each-above .ensures),
       i .if1 .left,
       none-left-ring times (state .head) (state .len),
       ne-eqb (state .len) 0 (rw words at (l .if2 .left)),
@@ -47,5 +54,7 @@ returns-3 c parameters times state past e =
 
 pub apply-spec : {M : Type 1} → statement M
 apply-spec =
-    tie.close (tie.spec (λ c κs. search needs) (λ c. search needs) (λ c κs. search needs) (λ c. search needs) (λ c κs. search needs) (λ c κs. search
-    needs) returns (λ c. search needs) (λ c. search needs) (λ c κs. search needs) returns-2 (λ c κs. search needs) returns-3)
+    tie.close (tie.spec (λ c κs. search needs) (λ c. search needs) (λ c κs. search needs) (λ c κs. search needs)
+    (λ c. omega (arith, place-small _ _ _ (c .before .place .ensures))) (λ c. search needs) (λ c. place-small _ _ _ (c .before .place .ensures))
+    (λ c. search needs) (λ c. search needs) (λ c κs. search needs) (λ c. search needs) (λ c κs. search needs) (λ c κs. search needs) returns
+    (λ c. search needs) (λ c. search needs) (λ c κs. search needs) returns-2 (λ c κs. search needs) returns-3)

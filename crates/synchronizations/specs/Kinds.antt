@@ -32,16 +32,13 @@ withRegisterOf parameters m kind n =
     withFour (byKind parameters kind n (m .first) (m .first) (m .first)) (byKind parameters kind (m .second) n (m .second) (m .second))
     (byKind parameters kind (m .third) (m .third) n (m .third)) (byKind parameters kind (m .fourth) (m .fourth) (m .fourth) n) m
 
--- the number of a kind is above a bound, or there is no such kind
-abbrev pub above : ℕ → ℕ → ℕ → Bool
-above bound kind number = eqb kind noKind || ltb bound number
-
--- that of each kind is; there are two kinds at least
+-- the number of each kind is above a bound; there are two kinds at least, and a row without a third kind has no fourth
 abbrev pub eachAbove : Parameters → Registers → ℕ → Bool
 eachAbove parameters registers bound =
     ltb bound (registers .first)
     && (ltb bound (registers .second)
-    && (above bound (parameters .third) (registers .third) && above bound (parameters .fourth) (registers .fourth)))
+    && (eqb (parameters .third) noKind
+    || (ltb bound (registers .third) && (eqb (parameters .fourth) noKind || ltb bound (registers .fourth)))))
 
 -- what a function on a row's numbers promises that changes registers alone
 abbrev pub RegistersBecome : (Parameters → Registers → Registers) → List ℕ → List ℕ → Type 0

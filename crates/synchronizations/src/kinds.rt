@@ -4,7 +4,7 @@ use row_type::from_constraint::NO_KIND;
 use row_type::row_words;
 ghost use mathlib.Core.Path.{_≡_};
 ghost use Rattle.row_type.specs.Words.{parametersAt, registersAt};
-ghost use Rattle.synchronizations.specs.Kinds.{above, eachAbove, registerPlace};
+ghost use Rattle.synchronizations.specs.Kinds.{eachAbove, registerPlace};
 
 // The place of a kind's number: that of the first place that has the kind.
 pub fn place(w: &[u64; SIZE], kind: u64) -> usize
@@ -22,19 +22,13 @@ pub fn place(w: &[u64; SIZE], kind: u64) -> usize
     row_words::FOUR
 }
 
-// Whether the number of each kind is above a bound. There are two kinds at least.
+// Whether the number of each kind is above a bound. There are two kinds at least; a row without a third kind has no fourth.
 pub fn each_above(w: &[u64; SIZE], bound: u64) -> bool
     ensures { λ r. ⌜ r ≡ eachAbove (parametersAt (now (w .entry))) (registersAt (now (w .entry))) bound ⌝ }
 {
     bound < w[row_words::ONE]
         && (bound < w[row_words::TWO]
-            && (above(bound, w[row_words::THIRD], w[row_words::THREE])
-                && above(bound, w[row_words::FOURTH], w[row_words::FOUR])))
-}
-
-// Whether the number of a kind is above a bound, or there is no such kind.
-fn above(bound: u64, kind: u64, number: u64) -> bool
-    ensures { λ r. ⌜ r ≡ above bound kind number ⌝ }
-{
-    kind == NO_KIND as u64 || bound < number
+            && (w[row_words::THIRD] == NO_KIND as u64
+                || bound < w[row_words::THREE]
+                    && (w[row_words::FOURTH] == NO_KIND as u64 || bound < w[row_words::FOUR])))
 }

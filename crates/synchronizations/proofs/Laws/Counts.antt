@@ -10,7 +10,7 @@ use Rattle.constraint.proofs.Streams.{streams, streamsIn}
 use Rattle.constraint.specs.Types.{Field, byte, count as number, fieldsOf, typeOf}
 use Rattle.constraint.specs.{Accepted.KindsFit, Accepted.kinds, Accepted.kindsIn, Meets.Meets, Steps.Step, Steps.at}
 use Rattle.constraint.specs.{Waiting.waiting, Constraint.Constraint}
-use Rattle.synchronizations.specs.Kinds.{above, byKind, eachAbove, registerOf, withRegisterOf}
+use Rattle.synchronizations.specs.Kinds.{byKind, eachAbove, registerOf, withRegisterOf}
 use Rattle.synchronizations.specs.StrongSynchronization.{withoutOldest}
 use Rattle.row_type.proofs.FieldNumbers.{first-padded, kinds-are, kinds-listed, listed, streams-listed, tag-is, upper-listed}
 use Rattle.row_type.proofs.{Exact.Sound, SeveralKinds.kinds-apart, SeveralKinds.kinds-small}
@@ -96,6 +96,10 @@ module _ (f : ℕ → Bool) where
       (λ s. ⊎-elim (λ c. (2, omega arith, c)) (λ d. (3, omega arith, d)) (and-false (f 2) (f 3) s))
       (and-false (f 1) (f 2 && f 3) r))
       (and-false (f 0) (f 1 && (f 2 && f 3)) e)
+
+-- the number of a kind is above a bound, or there is no such kind
+abbrev above : ℕ → ℕ → ℕ → Bool
+above bound kind n = eqb kind noKind || ltb bound n
 
 above-false : (bound kind n : ℕ) → above bound kind n ≡ false → (¬ (kind ≡ noKind)) × (n ≤ bound)
 above-false bound kind n =
@@ -183,15 +187,24 @@ module _ {parameters : Parameters} {ks : List ℕ} (names : Names parameters ks)
     abbrev aboveAt : ℕ → ℕ → Bool
     aboveAt bound i = above bound (at (fourKinds parameters) i) (at (fourCounts registers) i)
 
+    kind-there : (j : ℕ) → j < length ks → ¬ (at (fourKinds parameters) j ≡ noKind)
+    kind-there j h same = omega (arith, sym (kind-present j h) ∙ same, kinds-small ks (names .fit) j h)
+
     -- a kind of the list is there, so its number is compared
     above-is : (bound j : ℕ) → j < length ks → aboveAt bound j ≡ ltb bound (at (fourCounts registers) j)
-    above-is bound j h = rw (ne-eqb (at (fourKinds parameters) j) noKind
-        (λ same. omega (arith, sym (kind-present j h) ∙ same, kinds-small ks (names .fit) j h)))
+    above-is bound j h = rw (ne-eqb (at (fourKinds parameters) j) noKind (kind-there j h))
 
-    -- the first two kinds are there
+    -- the first two kinds are there, and no fourth without a third
     above-four : (bound : ℕ) → eachAbove parameters registers bound
         ≡ (aboveAt bound 0 && (aboveAt bound 1 && (aboveAt bound 2 && aboveAt bound 3)))
-    above-four bound = rw (above-is bound 0 (omega (arith, names .several)), above-is bound 1 (names .several))
+    above-four bound =
+        rw (above-is bound 0 (omega (arith, names .several)), above-is bound 1 (names .several))
+        (by-cases (decLt 2 (length ks))
+        (λ h. rw (ne-eqb (parameters .third) noKind (kind-there 2 h)) refl)
+        (λ h. rw (
+          eq-eqb (parameters .third) noKind (kind-absent 2 (omega arith) (omega arith)),
+          eq-eqb (parameters .fourth) noKind (kind-absent 3 (omega arith) (omega arith)),
+        ) refl))
 
     pub above-each : (bound : ℕ) → eachAbove parameters registers bound ≡ true → (j : ℕ) → j < length ks → bound < at (fourCounts registers) j
     above-each bound e j h =

@@ -1,65 +1,37 @@
-// Synchronization: the one time, where there is one, is that of the oldest event that lies in no full window yet; first to
-// fourth are one more than the last time of that kind.
+// Synchronization: no times are kept; first to fourth are one more than the last time of that kind, last is one more than the time of the oldest
+// event that lies in no full window yet. Each is 0 where there is none.
+use crate::kinds;
+use constraint::NO_LIMIT;
 use ring::SIZE;
-use row_type::from_constraint::NO_KIND;
+use ring::minus;
 use row_type::parts;
 use row_type::row_words;
-ghost use mathlib.Core.Path.{_≡_};
-ghost use Rattle.row_type.specs.Words.{parametersAt, registersAt, countsSaved, Applies};
-ghost use Rattle.synchronizations.specs.StrongSynchronization.{RegistersBecome};
-ghost use Rattle.synchronizations.specs.Synchronization.{latest, recent, full, decideSynchronization};
+ghost use Rattle.row_type.specs.Words.{Applies};
+ghost use Rattle.synchronizations.specs.Synchronization.{allSaved, decideSynchronization};
 
 // §5.11
 // What an event makes of the row, where it lies.
 pub fn apply(row: &mut [[u64; SIZE]; 2], stream: u64, t: u64, number: u64)
-    ensures { λ _. ⌜ Applies countsSaved decideSynchronization (now (row .entry)) stream t number (now (row .exit)) ⌝ }
+    ensures { λ _. ⌜ Applies allSaved decideSynchronization (now (row .entry)) stream t number (now (row .exit)) ⌝ }
 {
     row_words::save_undo_counts(row);
-    note(&mut row[1], stream, t);
-    if full(&row[1], t) {
-        row_words::fewer_wait(row, 1, number);
+    row_words::save_undo_last(row);
+    row_words::stay(row, number);
+    let noted = parts::plus(t, 1);
+    let at = kinds::place(&row[1], stream);
+    row[1][at] = noted;
+    let tolerance = row[1][row_words::UPPER];
+    let since = minus(t, tolerance);
+    if kinds::each_above(&row[1], since) {
+        row[1][row_words::LAST] = 0;
+        row_words::settle(&mut row[1], NO_LIMIT, 1);
         return;
     }
-    if row[1][row_words::LEN] == 0 {
-        row_words::one_more_waits(row, 0, t, number);
+    let owed = row[1][row_words::LAST];
+    if owed == 0 {
+        row[1][row_words::LAST] = noted;
+        row_words::settle(&mut row[1], parts::plus(t, tolerance), 0);
         return;
     }
-    row_words::fewer_wait(row, 0, number);
-}
-
-// The last time of the kind is t.
-fn note(w: &mut [u64; SIZE], kind: u64, t: u64)
-    ensures { λ _. ⌜ RegistersBecome (λ parameters registers. latest parameters registers kind t) (now (w .entry)) (now (w .exit)) ⌝ }
-{
-    let last = parts::plus(t, 1);
-    if kind == w[row_words::FIRST] {
-        w[row_words::ONE] = last;
-    }
-    if kind == w[row_words::SECOND] {
-        w[row_words::TWO] = last;
-    }
-    if kind == w[row_words::THIRD] {
-        w[row_words::THREE] = last;
-    }
-    if kind == w[row_words::FOURTH] {
-        w[row_words::FOUR] = last;
-    }
-}
-
-// Whether the window that ends at t is full.
-fn full(w: &[u64; SIZE], t: u64) -> bool
-    ensures { λ r. ⌜ r ≡ full (parametersAt (now (w .entry))) (registersAt (now (w .entry))) t ⌝ }
-{
-    let tolerance = w[row_words::UPPER];
-    recent(tolerance, t, w[row_words::FIRST], w[row_words::ONE])
-        && (recent(tolerance, t, w[row_words::SECOND], w[row_words::TWO])
-            && (recent(tolerance, t, w[row_words::THIRD], w[row_words::THREE])
-                && recent(tolerance, t, w[row_words::FOURTH], w[row_words::FOUR])))
-}
-
-// Whether the kind has an event that is at most tolerance before t, or there is no such kind.
-fn recent(tolerance: u64, t: u64, kind: u64, last: u64) -> bool
-    ensures { λ r. ⌜ r ≡ recent tolerance t kind last ⌝ }
-{
-    kind == NO_KIND as u64 || 0 < last && t < parts::plus(last, tolerance)
+    row_words::settle(&mut row[1], parts::plus(owed - 1, tolerance), 0);
 }

@@ -1,6 +1,6 @@
 -- The marks of a row as one number for each kind, a count in a StrongSynchronization: the kinds are different, so the machine's four places are
 -- those of the list of kinds, and a place without a kind never matters.
-use Rattle.constraint.proofs.Library.{Bool, List, [], _&&_, _++_, _+_, _-_, _<_, _||_, _∙_, _∷_, _≡_, _≤_, _⊎_, and-eq-true-iff, ap, ap₂, arith}
+use Rattle.constraint.proofs.Library.{Bool, List, [], _&&_, _++_, _+_, _-_, _<_, _||_, _∙_, _∷_, _≡_, _≤_, _⊎_, and-eq-true-iff, ap, ap₂, arith, cond}
 use Rattle.constraint.proofs.Library.{by-cases}
 use Rattle.constraint.proofs.Library.{decLt, eq-eqb, eqb, eqb-false, false, false≢true, getD-replicate, inl, inr, length, length-append}
 use Rattle.constraint.proofs.Library.{length-replicate, ltb, ltb-false, ltb-true, ne-eqb, refl, replicate, subst, suc, sym, take, take-take, true}
@@ -8,9 +8,10 @@ use Rattle.constraint.proofs.Library.{zero, ℕ, ⊎-elim}
 use Rattle.constraint.proofs.Lists.{at-left, at-right, split}
 use Rattle.constraint.proofs.Streams.{streams, streamsIn}
 use Rattle.constraint.specs.Types.{Field, byte, count as number, fieldsOf, typeOf}
-use Rattle.constraint.specs.{Accepted.KindsFit, Accepted.kinds, Accepted.kindsIn, Limits.lastKind, Limits.noLimit, Meets.Meets, Steps.Step, Steps.at}
+use Rattle.constraint.specs.{Accepted.KindsFit, Accepted.kinds, Accepted.kindsIn, Meets.Meets, Steps.Step, Steps.at}
 use Rattle.constraint.specs.{Waiting.waiting, Constraint.Constraint}
-use Rattle.synchronizations.specs.StrongSynchronization.{complete, countOf, counted, has, oneMore, withoutOldest}
+use Rattle.synchronizations.specs.Kinds.{byKind, eachAbove, registerOf, withRegisterOf}
+use Rattle.synchronizations.specs.StrongSynchronization.{withoutOldest}
 use Rattle.row_type.proofs.FieldNumbers.{first-padded, kinds-are, kinds-listed, listed, streams-listed, tag-is, upper-listed}
 use Rattle.row_type.proofs.{Exact.Sound, SeveralKinds.kinds-apart, SeveralKinds.kinds-small}
 use Rattle.row_type.specs.Parameters.{noFields, noKind, parametersOf, startRing, startWords, waitsIn, withFields, wordCounts}
@@ -96,32 +97,24 @@ module _ (f : ℕ → Bool) where
       (and-false (f 1) (f 2 && f 3) r))
       (and-false (f 0) (f 1 && (f 2 && f 3)) e)
 
-has-true : (k count : ℕ) → k ≤ lastKind → has k count ≡ true → 0 < count
-has-true k count small e = ltb-true 0 count (rw (ne-eqb k noKind (λ same. omega arith)) at e)
+-- the number of a kind is above a bound, or there is no such kind
+abbrev above : ℕ → ℕ → ℕ → Bool
+above bound kind n = eqb kind noKind || ltb bound n
 
-has-false : (k count : ℕ) → has k count ≡ false → (¬ (k ≡ noKind)) × (count ≡ 0)
-has-false k count =
-    split (eqb k noKind) (λ x. (x || ltb 0 count) ≡ false → (¬ (k ≡ noKind)) × (count ≡ 0))
+above-false : (bound kind n : ℕ) → above bound kind n ≡ false → (¬ (kind ≡ noKind)) × (n ≤ bound)
+above-false bound kind n =
+    split (eqb kind noKind) (λ x. (x || ltb bound n) ≡ false → (¬ (kind ≡ noKind)) × (n ≤ bound))
     (λ e f. absurd (false≢true (sym f)))
-    (λ e f. (eqb-false k noKind e, omega (arith, ltb-false 0 count f)))
+    (λ e f. (eqb-false kind noKind e, ltb-false bound n f))
 
 -- the four places
-module _ (parameters : Parameters) (registers : Registers) where
-  abbrev hasAt : ℕ → Bool
-  hasAt i = has (at (fourKinds parameters) i) (at (fourCounts registers) i)
-
-  count-more : (k i : ℕ) → i < 4 → at (fourCounts (counted parameters registers k)) i ≡ oneMore k (at (fourKinds parameters) i)
-      (at (fourCounts registers) i)
-  count-more k =
-      four-each (λ i. at (fourCounts (counted parameters registers k)) i ≡ oneMore k (at (fourKinds parameters) i) (at (fourCounts registers) i)) refl
-      refl refl refl
-
-  -- the count of a kind is at the first place that has the kind
-  count-at : (i : ℕ) → i < 4 → ((j : ℕ) → j < i → ¬ (at (fourKinds parameters) i ≡ at (fourKinds parameters) j))
-      → countOf parameters registers (at (fourKinds parameters) i) ≡ at (fourCounts registers) i
-  count-at =
+module _ (parameters : Parameters) where
+  -- by a kind goes the first place that has the kind
+  by-kind : {A : Type 0} (f : ℕ → A) (i : ℕ) → i < 4 → ((j : ℕ) → j < i → ¬ (at (fourKinds parameters) i ≡ at (fourKinds parameters) j))
+      → byKind parameters (at (fourKinds parameters) i) (f 0) (f 1) (f 2) (f 3) ≡ f i
+  by-kind f =
       four-each (λ i. ((j : ℕ) → j < i → ¬ (at (fourKinds parameters) i ≡ at (fourKinds parameters) j))
-      → countOf parameters registers (at (fourKinds parameters) i) ≡ at (fourCounts registers) i)
+      → byKind parameters (at (fourKinds parameters) i) (f 0) (f 1) (f 2) (f 3) ≡ f i)
       (λ apart. rw (eq-eqb (parameters .first) (parameters .first) refl))
       (λ apart. rw (ne-eqb (parameters .second) (parameters .first) (apart 0 (omega arith)), eq-eqb (parameters .second) (parameters .second) refl))
       (λ apart. rw (
@@ -156,35 +149,71 @@ module _ {parameters : Parameters} {ks : List ℕ} (names : Names parameters ks)
       ∙ subst (λ (i : ℕ). at (ks ++ padding) i ≡ noKind) place
       (at-right ks padding (j - length ks) ∙ getD-replicate (names .absent) (j - length ks) noKind 0 (omega (arith, names-four)))
 
+  -- by a kind of the list goes its place
+  kind-place : {A : Type 0} (f : ℕ → A) (k : ℕ) → k < length ks → byKind parameters (at ks k) (f 0) (f 1) (f 2) (f 3) ≡ f k
+  kind-place f k h =
+      rw (← kind-present k h) (by-kind parameters f k (omega (arith, names-four))
+      (λ j l. rw (kind-present k h, kind-present j (omega arith)) (kinds-apart ks (names .fit) k j h (omega arith) (λ e. omega arith))))
+
   module _ (registers : Registers) where
-    pub count-is : (k : ℕ) → k < length ks → countOf parameters registers (at ks k) ≡ at (fourCounts registers) k
-    count-is k h =
-        rw (← kind-present k h) (count-at parameters registers k (omega (arith, names-four))
-        (λ j l. rw (kind-present k h, kind-present j (omega arith)) (kinds-apart ks (names .fit) k j h (omega arith) (λ e. omega arith))))
+    pub count-is : (k : ℕ) → k < length ks → registerOf parameters registers (at ks k) ≡ at (fourCounts registers) k
+    count-is = kind-place (at (fourCounts registers))
 
-    pub count-own : (k : ℕ) → k < length ks → at (fourCounts registers) k < noLimit
-        → at (fourCounts (counted parameters registers (at ks k))) k ≡ suc (at (fourCounts registers) k)
-    count-own k h small =
-        count-more parameters registers (at ks k) k (omega (arith, names-four)) ∙ rw (kind-present k h, eq-eqb (at ks k) (at ks k) refl) (omega arith)
+    -- the number that the i-th place has where another is at the j-th
+    abbrev put : ℕ → ℕ → ℕ → ℕ
+    put n i j = cond (eqb j i) n (at (fourCounts registers) i)
 
-    pub count-other : (k j : ℕ) → k < length ks → j < length ks → ¬ (j ≡ k)
-        → at (fourCounts (counted parameters registers (at ks k))) j ≡ at (fourCounts registers) j
-    count-other k j h l apart =
-        count-more parameters registers (at ks k) j (omega (arith, names-four))
-        ∙ rw (kind-present j l, ne-eqb (at ks k) (at ks j) (kinds-apart ks (names .fit) k j h l (λ e. apart (sym e))))
+    with-at : (kind n i : ℕ) → i < 4
+        → at (fourCounts (withRegisterOf parameters registers kind n)) i ≡ byKind parameters kind (put n i 0) (put n i 1) (put n i 2) (put n i 3)
+    with-at kind n =
+        four-each (λ i. at (fourCounts (withRegisterOf parameters registers kind n)) i
+        ≡ byKind parameters kind (put n i 0) (put n i 1) (put n i 2) (put n i 3)) refl refl refl refl
+
+    with-is : (k n j : ℕ) → k < length ks → j < length ks → at (fourCounts (withRegisterOf parameters registers (at ks k) n)) j ≡ put n j k
+    with-is k n j h l = with-at (at ks k) n j (omega (arith, names-four)) ∙ kind-place (put n j) k h
+
+    pub with-own : (k n : ℕ) → k < length ks → at (fourCounts (withRegisterOf parameters registers (at ks k) n)) k ≡ n
+    with-own k n h = with-is k n k h h ∙ rw (eq-eqb k k refl)
+
+    pub with-other : (k n j : ℕ) → k < length ks → j < length ks → ¬ (j ≡ k)
+        → at (fourCounts (withRegisterOf parameters registers (at ks k) n)) j ≡ at (fourCounts registers) j
+    with-other k n j h l apart = with-is k n j h l ∙ rw (ne-eqb k j (λ e. apart (sym e)))
 
     pub count-left : (j : ℕ) → j < length ks → at (fourCounts (withoutOldest registers)) j ≡ at (fourCounts registers) j - 1
     count-left j h =
         four-each (λ i. at (fourCounts (withoutOldest registers)) i ≡ at (fourCounts registers) i - 1) refl refl refl refl j
         (omega (arith, names-four))
 
-    pub complete-has : complete parameters registers ≡ true → (j : ℕ) → j < length ks → 0 < at (fourCounts registers) j
-    complete-has e j h =
-        has-true (at ks j) (at (fourCounts registers) j) (kinds-small ks (names .fit) j h)
-        (rw (kind-present j h) at (four-true (hasAt parameters registers) e j (omega (arith, names-four))))
+    abbrev aboveAt : ℕ → ℕ → Bool
+    aboveAt bound i = above bound (at (fourKinds parameters) i) (at (fourCounts registers) i)
 
-    pub incomplete-lacks : complete parameters registers ≡ false → (j : ℕ) × (j < length ks) × (at (fourCounts registers) j ≡ 0)
-    incomplete-lacks e =
-        let (j, h, lacks) = four-false (hasAt parameters registers) e in
-        let (known, none) = has-false (at (fourKinds parameters) j) (at (fourCounts registers) j) lacks in
-        (j, by-cases (decLt j (length ks)) (λ l. l) (λ l. absurd (known (kind-absent j (omega arith) h))), none)
+    kind-there : (j : ℕ) → j < length ks → ¬ (at (fourKinds parameters) j ≡ noKind)
+    kind-there j h same = omega (arith, sym (kind-present j h) ∙ same, kinds-small ks (names .fit) j h)
+
+    -- a kind of the list is there, so its number is compared
+    above-is : (bound j : ℕ) → j < length ks → aboveAt bound j ≡ ltb bound (at (fourCounts registers) j)
+    above-is bound j h = rw (ne-eqb (at (fourKinds parameters) j) noKind (kind-there j h))
+
+    -- the first two kinds are there, and no fourth without a third
+    above-four : (bound : ℕ) → eachAbove parameters registers bound
+        ≡ (aboveAt bound 0 && (aboveAt bound 1 && (aboveAt bound 2 && aboveAt bound 3)))
+    above-four bound =
+        rw (above-is bound 0 (omega (arith, names .several)), above-is bound 1 (names .several))
+        (by-cases (decLt 2 (length ks))
+        (λ h. rw (ne-eqb (parameters .third) noKind (kind-there 2 h)) refl)
+        (λ h. rw (
+          eq-eqb (parameters .third) noKind (kind-absent 2 (omega arith) (omega arith)),
+          eq-eqb (parameters .fourth) noKind (kind-absent 3 (omega arith) (omega arith)),
+        ) refl))
+
+    pub above-each : (bound : ℕ) → eachAbove parameters registers bound ≡ true → (j : ℕ) → j < length ks → bound < at (fourCounts registers) j
+    above-each bound e j h =
+        ltb-true bound (at (fourCounts registers) j)
+        (sym (above-is bound j h) ∙ four-true (aboveAt bound) (sym (above-four bound) ∙ e) j (omega (arith, names-four)))
+
+    pub above-lacks : (bound : ℕ) → eachAbove parameters registers bound ≡ false
+        → (j : ℕ) × (j < length ks) × (at (fourCounts registers) j ≤ bound)
+    above-lacks bound e =
+        let (j, h, lacks) = four-false (aboveAt bound) (sym (above-four bound) ∙ e) in
+        let (known, few) = above-false bound (at (fourKinds parameters) j) (at (fourCounts registers) j) lacks in
+        (j, by-cases (decLt j (length ks)) (λ l. l) (λ l. absurd (known (kind-absent j (omega arith) h))), few)

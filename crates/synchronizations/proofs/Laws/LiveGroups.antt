@@ -5,13 +5,14 @@ use Rattle.constraint.proofs.Library.{getD-drop, length, length-drop, ltb, ltb-
 use Rattle.constraint.proofs.{History.Accepts, History.Past, Lists.Each, Lists.Rising, Lists.at-left, Lists.at-next, Lists.rising-by}
 use Rattle.constraint.specs.{Limits.noLimit, Steps.Step, Steps.at, Steps.clock, Steps.event, Steps.times}
 use Rattle.synchronizations.proofs.Laws.Columns.{column, columns-added}
-use Rattle.synchronizations.proofs.Laws.Counts.{Names, complete-has, count-is, count-left, count-none, count-other, count-own, fourCounts}
-use Rattle.synchronizations.proofs.Laws.Counts.{incomplete-lacks}
+use Rattle.synchronizations.proofs.Laws.Counts.{Names, above-each, above-lacks, count-is, count-left, count-none, fourCounts}
+use Rattle.synchronizations.proofs.Laws.Counts.{with-other, with-own}
 use Rattle.synchronizations.proofs.Laws.Groups.{Behind, Groups, groups-begun, groups-joined, groups-left, groups-none, longer-own}
 use Rattle.synchronizations.proofs.Laws.Groups.{oldest-first}
-use Rattle.synchronizations.specs.StrongSynchronization.{complete, countOf, counted, decideStrongSynchronization, withoutOldest}
+use Rattle.synchronizations.specs.Kinds.{registerOf}
+use Rattle.synchronizations.specs.StrongSynchronization.{complete, counted, decideStrongSynchronization, withoutOldest}
 use Rattle.row_type.proofs.{Exact.ByOutcome, Exact.GoesOn, Oldest.due-reached, Oldest.due-within}
-use Rattle.row_type.specs.Parts.{dueOldest, noRegisters, none-left, waits}
+use Rattle.row_type.specs.Parts.{dueOldest, noRegisters, none-left, plus, waits}
 use Rattle.row_type.specs.{declared.Change.Change, declared.Registers.Registers, declared.Parameters.Parameters}
 use Rattle.ring.specs.declared.Edit.the-variants.{Drop, Push}
 
@@ -75,9 +76,12 @@ module _ {parameters : Parameters} {ks : List ℕ} (names : Names parameters ks)
   counts-after : (j : ℕ) → j < length ks → length (column ks after j) ≡ live .done + at (fourCounts more) j
   counts-after j h =
       by-cases (ℕ-discrete j k)
-      (λ e. rw e (omega (arith, own-longer, live .counts k own, count-own names registers k own few)))
-      (λ e. omega (arith, other-same j h e, live .counts j h, count-other names registers k j own h e))
+      (λ e. rw e (omega (arith, own-longer, live .counts k own, with-own names registers k counted-is own, count-is names registers k own, few)))
+      (λ e. omega (arith, other-same j h e, live .counts j h, with-other names registers k counted-is j own h e))
     where
+      counted-is : ℕ
+      counted-is = plus (registerOf parameters registers (at ks k)) 1
+
       few : at (fourCounts registers) k < noLimit
       few = omega (arith, live .counts k own, rising-short (column ks steps k) (clock steps) (rising k) (past .past (at ks k)), past .small)
 
@@ -89,7 +93,7 @@ module _ {parameters : Parameters} {ks : List ℕ} (names : Names parameters ks)
 
   event-joins : at (fourCounts registers) k < length firsts → complete parameters more ≡ false → LiveGroups ks tolerance after more firsts
   event-joins fits e =
-      let (j, h, none) = incomplete-lacks names more e in
+      let (j, h, none) = above-lacks names more 0 e in
       record { done = live .done; groups = groups-after fits; behind = (j, h, omega (arith, counts-after j h)); counts = counts-after }
 
   event-completes : at (fourCounts registers) k < length firsts → complete parameters more ≡ true
@@ -103,7 +107,7 @@ module _ {parameters : Parameters} {ks : List ℕ} (names : Names parameters ks)
       }
     where
       full : (j : ℕ) → j < length ks → live .done < length (column ks after j)
-      full j h = omega (arith, counts-after j h, complete-has names more e j h)
+      full j h = omega (arith, counts-after j h, above-each names more 0 e j h)
 
       alone : Behind (length ks) (live .done) (column ks steps) → length (column ks after k) ≡ suc (live .done)
       alone (j, h, lacks) =
@@ -151,17 +155,18 @@ module _ {parameters : Parameters} {ks : List ℕ} (names : Names parameters ks)
       }
   joins-cases B false fits f = record { live = event-joins fits f; due-is = refl; kept-is = refl; in-time = in-time }
 
-  event-cases : (B : Type 0) (joins completes : Bool) → ltb (countOf parameters registers (at ks k)) (length firsts) ≡ joins
+  event-cases : (B : Type 0) (joins completes : Bool) → ltb (registerOf parameters registers (at ks k)) (length firsts) ≡ joins
       → complete parameters more ≡ completes
       → ByOutcome B Goes
       (cond joins (cond completes (waits tolerance firsts (Drop 1) (withoutOldest more)) (waits tolerance firsts (Drop 0) more))
       (waits tolerance firsts (Push 0 t) more))
   event-cases B true completes e f =
-      joins-cases B completes (omega (arith, ltb-true (countOf parameters registers (at ks k)) (length firsts) e, count-is names registers k own)) f
+      joins-cases B completes
+      (omega (arith, ltb-true (registerOf parameters registers (at ks k)) (length firsts) e, count-is names registers k own)) f
   event-cases B false completes e f =
       let last : at (fourCounts registers) k ≡ length firsts = omega (
         arith,
-        ltb-false (countOf parameters registers (at ks k)) (length firsts) e,
+        ltb-false (registerOf parameters registers (at ks k)) (length firsts) e,
         count-is names registers k own,
         live .counts k own,
         live .groups .begun k own,
@@ -179,4 +184,4 @@ module _ {parameters : Parameters} {ks : List ℕ} (names : Names parameters ks)
   pub event-does : (B : Type 0) → parameters .upper ≡ tolerance
       → ByOutcome B Goes (decideStrongSynchronization parameters registers firsts (at ks k) t)
   unfolding decideStrongSynchronization
-  event-does B is = rw is (event-cases B (ltb (countOf parameters registers (at ks k)) (length firsts)) (complete parameters more) refl refl)
+  event-does B is = rw is (event-cases B (ltb (registerOf parameters registers (at ks k)) (length firsts)) (complete parameters more) refl refl)

@@ -10,9 +10,10 @@ use Rattle.constraint.specs.{Waiting.begunIncomplete, Waiting.waiting}
 use Rattle.synchronizations.proofs.Laws.Columns.{behind-same, completes, groups-late, groups-left-over, groups-meet, groups-same, groups-wait}
 use Rattle.synchronizations.proofs.Laws.Counts.{Names, OfKinds, of-kinds}
 use Rattle.synchronizations.proofs.Laws.LiveGroups.{LiveGroups, due, event-does, kept, live-none}
-use Rattle.synchronizations.specs.StrongSynchronization.{complete, countOf, counted, decideStrongSynchronization}
+use Rattle.synchronizations.specs.Kinds.{registerOf, withFour}
+use Rattle.synchronizations.specs.StrongSynchronization.{complete, counted, decideStrongSynchronization}
 use Rattle.synchronizations.specs.StrongSynchronization.{overflowsStrongSynchronization}
-use Rattle.synchronizations.specs.StrongSynchronization.{machineStrongSynchronization, withCounts, withoutOldest}
+use Rattle.synchronizations.specs.StrongSynchronization.{machineStrongSynchronization, withoutOldest}
 use Rattle.row_type.proofs.Exact.{ByOutcome, Exact, GoesOn, OfStream, Sound, Starts}
 use Rattle.row_type.proofs.FitsRow.{FitsRow, Unkept, calm-by, kind-overflows, dropped, free-first, keeping-counts, neither, places-each, pushed}
 use Rattle.row_type.proofs.FitsRow.{unkept-by}
@@ -141,11 +142,11 @@ unkept-strong-synchronization : (parameters : Parameters) (m : Registers) (times
 unfolding decideStrongSynchronization
 unkept-strong-synchronization parameters m times kind t e =
     let now : Registers = counted parameters m kind in
-    unkept-by countsSaved (ltb (countOf parameters m kind) (length times)) _ (waits (parameters .upper) times (Push 0 t) now)
+    unkept-by countsSaved (ltb (registerOf parameters m kind) (length times)) _ (waits (parameters .upper) times (Push 0 t) now)
     (unkept-by countsSaved (complete parameters now) (waits (parameters .upper) times (Drop 1) (withoutOldest now))
     (waits (parameters .upper) times (Drop 0) now)
-    (ap (withCounts _ _ _ _) e) (ap (withCounts _ _ _ _) e))
-    (ap (withCounts _ _ _ _) e)
+    (ap (withFour _ _ _ _) e) (ap (withFour _ _ _ _) e))
+    (ap (withFour _ _ _ _) e)
 
 crowding-strong-synchronization : (parameters : Parameters) (registers : Registers) (times : List ℕ) (kind t : ℕ) → 63 ≤ length times
     → length times ≤ 64
@@ -156,7 +157,7 @@ crowding-strong-synchronization parameters registers times kind t many few =
     let now : Registers = counted parameters registers kind in
     let full : Change = waits (parameters .upper) times (Drop 1) (withoutOldest now) in
     let part : Change = waits (parameters .upper) times (Drop 0) now in
-    split (ltb (countOf parameters registers kind) (length times))
+    split (ltb (registerOf parameters registers kind) (length times))
     (λ b. cond (ltb (length times) waitingLimit) false (cond b false true)
     ≡ kind-overflows (cond b (cond (complete parameters now) full part) (waits (parameters .upper) times (Push 0 t) now)) times)
     (λ _. neither (ltb (length times) waitingLimit)
@@ -170,6 +171,6 @@ fitsStrongSynchronization =
       keeping = keeping-counts;
       unkept = unkept-strong-synchronization;
       crowding = crowding-strong-synchronization;
-      room = λ parameters registers n s t many free. free-first n free (cond (ltb (countOf parameters registers s) n) false true);
+      room = λ parameters registers n s t many free. free-first n free (cond (ltb (registerOf parameters registers s) n) false true);
       places = places-each;
     }

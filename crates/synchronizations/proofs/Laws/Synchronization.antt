@@ -3,83 +3,43 @@
 use Rattle.constraint.proofs.Counting.{next-above, next-least, next-snoc, nextFree}
 use Rattle.constraint.proofs.History.{Accepts, Past, clock-event, clock-tick, closed-event, times-append, times-other, times-own, times-tick}
 use Rattle.constraint.proofs.History.{with-time}
-use Rattle.constraint.proofs.Library.{Bool, List, [], _&&_, _++_, _+_, _-_, _<_, _||_, _∙_, _∷_, _≡_, _≤_, _⊎_, and-eq-true-iff, ap, append-nil}
-use Rattle.constraint.proofs.Library.{arith, by-cases, cond, decLt, eq-eqb, eqb, eqb-false, false, false≢true, inl, inr, length, length-append, ltb}
-use Rattle.constraint.proofs.Library.{ltb-false, ltb-true, ne-eqb, refl, suc, sym, true, zero, ℕ, ℕ-discrete}
-use Rattle.constraint.proofs.Lists.{at-left, at-next, at-right, split}
+use Rattle.constraint.proofs.Library.{Bool, List, [], _++_, _+_, _-_, _<_, _∙_, _∷_, _≡_, _≤_, _⊎_, ap, append-nil}
+use Rattle.constraint.proofs.Library.{arith, by-cases, decLt, eqb, false, false≢true, inl, inr, length, length-append}
+use Rattle.constraint.proofs.Library.{ne-eqb, refl, subst, suc, sym, true, zero, ℕ, ℕ-discrete}
+use Rattle.constraint.proofs.Lists.{at-left, at-next, at-right}
 use Rattle.constraint.proofs.{Continuations.SameTimes, Continuations.continues-late, Continuations.same-times, Streams.streams}
 use Rattle.constraint.specs.Steps.{Step, at, clock, closed, event, own, tick, times}
-use Rattle.constraint.specs.{Accepted.KindsFit, Accepted.kinds, Continuation.Continues, Continuation.Open, Continuation.stop, Limits.lastKind}
-use Rattle.constraint.specs.{Limits.lastTime, Limits.waitingLimit, Meets.Meets, Meets.MeetsSynchronization, Meets.Recorded, Waiting.waiting}
+use Rattle.constraint.specs.{Accepted.KindsFit, Accepted.kinds, Continuation.Continues, Continuation.Open, Continuation.stop}
+use Rattle.constraint.specs.{Limits.lastTime, Limits.noLimit, Meets.Meets, Meets.MeetsSynchronization, Meets.Recorded, Waiting.waiting}
 use Rattle.constraint.specs.Constraint.{Constraint, Synchronization}
 use Rattle.synchronizations.proofs.Laws.Columns.{Reaches, reaches-before}
-use Rattle.synchronizations.proofs.Laws.Counts.{Names, OfKinds, count-none, four-each, four-false, four-true, fourCounts, fourKinds}
-use Rattle.synchronizations.proofs.Laws.Counts.{kind-absent}
-use Rattle.synchronizations.proofs.Laws.Counts.{kind-present}
-use Rattle.synchronizations.proofs.Laws.Counts.{names-four, of-kinds}
+use Rattle.synchronizations.proofs.Laws.Counts.{Names, OfKinds, above-each, above-lacks, count-none, fourCounts}
+use Rattle.synchronizations.proofs.Laws.Counts.{of-kinds, with-other, with-own}
 use Rattle.synchronizations.proofs.Laws.Windows.{Lasts, OneMore, Owing, Settled, SettledBefore, all-now, all-past, earlier-after, owing-begins}
 use Rattle.synchronizations.proofs.Laws.Windows.{owing-ends, owing-late, owing-same, owing-stays, settled-on, settled-same}
-use Rattle.synchronizations.specs.StrongSynchronization.{withCounts}
-use Rattle.synchronizations.specs.Synchronization.{afterEvent, decideSynchronization, full, latest, machineSynchronization, newer, recent}
+use Rattle.synchronizations.specs.Synchronization.{afterEvent, allSaved, decideSynchronization, full, latest, machineSynchronization}
 use Rattle.row_type.proofs.Exact.{ByOutcome, Exact, GoesOn, OfStream, Sound, Starts, Waits}
-use Rattle.row_type.proofs.FitsRow.{FitsRow, Steady, fits-steady, keeping-counts, steady-by, steady-drop}
-use Rattle.row_type.proofs.{Oldest.due-passed, SeveralKinds.by-place, SeveralKinds.kinds-apart, SeveralKinds.kinds-small, SeveralKinds.kinds-stream}
-use Rattle.row_type.specs.{Parts.dueOldest, Parts.none-left, Parts.plus, Parts.waits, Parameters.noKind, Parameters.parametersOf}
+use Rattle.row_type.proofs.FitsRow.{FitsRow, Steady, fits-steady, steady-by, steady-drop}
+use Rattle.row_type.proofs.{SeveralKinds.by-place, SeveralKinds.kinds-apart, SeveralKinds.kinds-stream}
+use Rattle.row_type.specs.{Parts.continuesWith, Parts.plus, Parts.withLast, Parameters.parametersOf}
 use Rattle.row_type.specs.{Parameters.startWords, Parameters.waitsIn}
-use Rattle.row_type.specs.{Words.countsSaved, declared.Change.Change, declared.Registers.Registers, declared.Parameters.Parameters}
-use Rattle.ring.specs.{Ring.changed, declared.Edit.Edit, declared.Edit.the-variants.Drop, declared.Edit.the-variants.Push}
+use Rattle.row_type.specs.{declared.Change.Change, declared.Registers.Registers, declared.Parameters.Parameters}
+use Rattle.ring.specs.{declared.Edit.the-variants.Drop}
 
 -- ---- the marks
 
-recent-true : (tolerance t kind last : ℕ) → kind ≤ lastKind → recent tolerance t kind last ≡ true → (0 < last) × (t < last + tolerance)
-recent-true tolerance t kind last small e =
-    let (some, near) = and-eq-true-iff (ltb 0 last) (ltb t (plus last tolerance)) .0 (rw (ne-eqb kind noKind (λ same. omega arith)) at e) in
-    (ltb-true 0 last some, omega (arith, ltb-true t (plus last tolerance) near))
-
-recent-false : (tolerance t kind last : ℕ) → t ≤ lastTime → recent tolerance t kind last ≡ false
-    → (¬ (kind ≡ noKind)) × (0 < last → last + tolerance ≤ t)
-recent-false tolerance t kind last small =
-    split (eqb kind noKind)
-    (λ x. (x || (ltb 0 last && ltb t (plus last tolerance))) ≡ false → (¬ (kind ≡ noKind)) × (0 < last → last + tolerance ≤ t))
-    (λ e f. absurd (false≢true (sym f)))
-    (λ e f. (eqb-false kind noKind e, λ some. by-last (ltb 0 last) refl some f))
-  where
-    by-last : (b : Bool) → ltb 0 last ≡ b → 0 < last → (b && ltb t (plus last tolerance)) ≡ false → last + tolerance ≤ t
-    by-last true e some f = omega (arith, ltb-false t (plus last tolerance) f)
-    by-last false e some f = absurd (omega (arith, ltb-false 0 last e))
-
 module _ {parameters : Parameters} {ks : List ℕ} (names : Names parameters ks) (registers : Registers) where
-  latest-at : (k t i : ℕ) → i < 4 → at (fourCounts (latest parameters registers k t)) i ≡ newer k t (at (fourKinds parameters) i)
-      (at (fourCounts registers) i)
-  latest-at k t =
-      four-each (λ i. at (fourCounts (latest parameters registers k t)) i ≡ newer k t (at (fourKinds parameters) i) (at (fourCounts registers) i))
-      refl refl refl refl
-
-  latest-own : (k t : ℕ) → k < length ks → t ≤ lastTime → at (fourCounts (latest parameters registers (at ks k) t)) k ≡ suc t
-  latest-own k t h small =
-      latest-at (at ks k) t k (omega (arith, names-four names)) ∙ rw (kind-present names k h, eq-eqb (at ks k) (at ks k) refl) (omega arith)
-
-  latest-other : (k t j : ℕ) → k < length ks → j < length ks → ¬ (j ≡ k)
-      → at (fourCounts (latest parameters registers (at ks k) t)) j ≡ at (fourCounts registers) j
-  latest-other k t j h l apart =
-      latest-at (at ks k) t j (omega (arith, names-four names))
-      ∙ rw (kind-present names j l, ne-eqb (at ks k) (at ks j) (kinds-apart ks (names .fit) k j h l (λ e. apart (sym e))))
-
-  abbrev recentAt : ℕ → ℕ → Bool
-  recentAt t i = recent (parameters .upper) t (at (fourKinds parameters) i) (at (fourCounts registers) i)
-
   full-has : (t : ℕ) → full parameters registers t ≡ true → (j : ℕ) → j < length ks
       → (0 < at (fourCounts registers) j) × (t < at (fourCounts registers) j + parameters .upper)
   full-has t e j h =
-      recent-true (parameters .upper) t (at ks j) (at (fourCounts registers) j) (kinds-small ks (names .fit) j h)
-      (rw (kind-present names j h) at (four-true (recentAt t) e j (omega (arith, names-four names))))
+      let since = above-each names registers (t - parameters .upper) e j h in
+      (omega arith, omega arith)
 
-  full-lacks : (t : ℕ) → t ≤ lastTime → full parameters registers t ≡ false
+  full-lacks : (t : ℕ) → full parameters registers t ≡ false
       → (j : ℕ) × (j < length ks) × (0 < at (fourCounts registers) j → at (fourCounts registers) j + parameters .upper ≤ t)
-  full-lacks t small e =
-      let (j, h, lacks) = four-false (recentAt t) e in
-      let (known, early) = recent-false (parameters .upper) t (at (fourKinds parameters) j) (at (fourCounts registers) j) small lacks in
-      (j, by-cases (decLt j (length ks)) (λ l. l) (λ l. absurd (known (kind-absent names j (omega arith) h))), early)
+  full-lacks t e =
+      let (j, h, before) = above-lacks names registers (t - parameters .upper) e in
+      (j, h, λ some. omega arith)
 
 -- ---- what is recorded
 
@@ -143,23 +103,32 @@ module _ (ks : List ℕ) where
         reached = λ j s h e. next-in (times (at ks j) steps) s e;
       }
 
--- nothing is owed, or the one time is the oldest event in no full window
-abbrev pub Owed : List ℕ → ℕ → List Step → List ℕ → Type 0
-Owed ks tolerance steps [] = Settled (Recorded ks steps) (length ks) tolerance
-Owed ks tolerance steps (u ∷ []) = Owing (Recorded ks steps) (length ks) tolerance u
-Owed ks tolerance steps (u ∷ (v ∷ us)) = ⊥
+-- nothing is owed, or the oldest event in no full window is, given by one more than its time
+abbrev pub Owed : List ℕ → ℕ → List Step → ℕ → Type 0
+Owed ks tolerance steps zero = Settled (Recorded ks steps) (length ks) tolerance
+Owed ks tolerance steps (suc u) = Owing (Recorded ks steps) (length ks) tolerance u
+
+-- its due time, and whether there is none
+abbrev dueOwed : ℕ → ℕ → ℕ
+dueOwed tolerance zero = noLimit
+dueOwed tolerance (suc u) = plus u tolerance
+
+abbrev noneOwed : ℕ → Bool
+noneOwed zero = true
+noneOwed (suc u) = false
 
 -- what the row keeps: the last time of each kind, and what is owed
-pub record LiveWindows (ks : List ℕ) (tolerance : ℕ) (steps : List Step) (registers : Registers) (owed : List ℕ) : Type 0 where
+pub record LiveWindows (ks : List ℕ) (tolerance : ℕ) (steps : List Step) (registers : Registers) (times : List ℕ) : Type 0 where
+  pub no-times : times ≡ []
   pub lasts : (j : ℕ) → j < length ks → at (fourCounts registers) j ≡ next ks steps j
-  pub owes : Owed ks tolerance steps owed
+  pub owes : Owed ks tolerance steps (registers .last)
 
 -- its due time, and whether it is kept
 abbrev due : ℕ → Registers → List ℕ → ℕ
-due tolerance registers owed = dueOldest tolerance owed
+due tolerance registers times = dueOwed tolerance (registers .last)
 
 abbrev kept : Registers → List ℕ → Bool
-kept registers owed = none-left owed
+kept registers times = noneOwed (registers .last)
 
 recorded-past : (ks : List ℕ) (steps : List Step) (t : ℕ) → Past steps → clock steps ≤ t → (j s : ℕ) → j < length ks → Recorded ks steps j s → s ≤ t
 recorded-past ks steps t past later j s h (i, l, e) = omega (arith, past .past (at ks j) i l)
@@ -179,50 +148,56 @@ module _ {parameters : Parameters} {ks : List ℕ} (names : Names parameters ks)
   one-more : OneMore (Recorded ks steps) (Recorded ks after) (length ks) k t
   one-more = recorded-event ks (names .fit) steps k t of-row (recorded-past ks steps t past (accepts .in-order .0))
 
+  later : plus t 1 ≡ suc t
+  later = omega (arith, accepts .time-small)
+
   lasts-after : (j : ℕ) → j < length ks → at (fourCounts noted) j ≡ next ks after j
   lasts-after j h =
       by-cases (ℕ-discrete j k)
-      (λ e. rw e (latest-own names registers k t of-row (accepts .time-small)
+      (λ e. rw e (with-own names registers k (plus t 1) of-row ∙ later
       ∙ sym (ap nextFree (times-own (at ks k) t steps) ∙ next-snoc (times (at ks k) steps) t (accepts .in-order .1))))
-      (λ e. latest-other names registers k t j of-row h e ∙ lasts j h
+      (λ e. with-other names registers k (plus t 1) j of-row h e ∙ lasts j h
       ∙ sym (ap nextFree (times-other (at ks j) (at ks k) t steps (kinds-apart ks (names .fit) k j of-row h (λ f. e (sym f))))))
 
   -- what the row keeps after a change that it goes on with
-  abbrev Goes : List ℕ → Change → Type 0
-  Goes owed = GoesOn (LiveWindows ks (parameters .upper) after) (due (parameters .upper)) kept owed t
+  abbrev Goes : Change → Type 0
+  Goes = GoesOn (LiveWindows ks (parameters .upper) after) (due (parameters .upper)) kept [] t
 
   full-after : full parameters noted t ≡ true → (j : ℕ) → j < length ks → (0 < next ks after j) × (t < next ks after j + parameters .upper)
   full-after e j h = rw (← lasts-after j h) (full-has names noted t e j h)
 
   lacks-after : full parameters noted t ≡ false → (j : ℕ) × (j < length ks) × (0 < next ks after j → next ks after j + parameters .upper ≤ t)
-  lacks-after e = let (j, h, lacks) = full-lacks names noted t (accepts .time-small) e in (j, h, rw (← lasts-after j h) lacks)
+  lacks-after e = let (j, h, lacks) = full-lacks names noted t e in (j, h, rw (← lasts-after j h) lacks)
 
-  goes-on : (owed : List ℕ) (edit : Edit) → Owed ks (parameters .upper) after (changed edit owed)
-      → t ≤ dueOldest (parameters .upper) (changed edit owed)
-      → Goes owed (waits (parameters .upper) owed edit noted)
-  goes-on owed edit owes in-time = record { live = record { lasts = lasts-after; owes = owes }; due-is = refl; kept-is = refl; in-time = in-time }
+  goes-on : (owed : ℕ) → Owed ks (parameters .upper) after owed → t ≤ dueOwed (parameters .upper) owed
+      → Goes (continuesWith (Drop 0) (withLast noted owed) (dueOwed (parameters .upper) owed) (noneOwed owed))
+  goes-on owed owes in-time =
+      record { live = record { no-times = refl; lasts = lasts-after; owes = owes }; due-is = refl; kept-is = refl; in-time = in-time }
 
-  event-cases : (B : Type 0) (owed : List ℕ) (overflows : Bool) → full parameters noted t ≡ overflows → Owed ks (parameters .upper) steps owed
-      → t ≤ dueOldest (parameters .upper) owed → ByOutcome B (Goes owed) (afterEvent parameters noted owed t overflows)
-  event-cases B [] true e settled in-time =
-      goes-on [] _ (settled-on one-more (parameters .upper) (next ks after) (recorded-lasts ks after) (full-after e) settled) in-time
-  event-cases B [] false e settled in-time =
+  event-cases : (B : Type 0) (owed : ℕ) (fills : Bool) → full parameters noted t ≡ fills → Owed ks (parameters .upper) steps owed
+      → t ≤ dueOwed (parameters .upper) owed → ByOutcome B Goes (afterEvent parameters noted owed t fills)
+  event-cases B zero true e settled in-time =
+      goes-on 0 (settled-on one-more (parameters .upper) (next ks after) (recorded-lasts ks after) (full-after e) settled) in-time
+  event-cases B zero false e settled in-time =
       let (j, h, lacks) = lacks-after e in
-      goes-on [] _ (owing-begins one-more (parameters .upper) (next ks after) (recorded-lasts ks after) j h lacks of-row settled)
+      subst (λ (n : ℕ). Goes (continuesWith (Drop 0) (withLast noted n) (plus t (parameters .upper)) false)) (sym later)
+      (goes-on (suc t) (owing-begins one-more (parameters .upper) (next ks after) (recorded-lasts ks after) j h lacks of-row settled)
+      (omega (arith, accepts .time-small)))
+  event-cases B (suc u) true e owing in-time =
+      goes-on 0 (owing-ends one-more (parameters .upper) (next ks after) (recorded-lasts ks after) (full-after e) u (omega arith) owing)
       (omega (arith, accepts .time-small))
-  event-cases B (u ∷ []) true e owing in-time =
-      goes-on (u ∷ []) _
-      (owing-ends one-more (parameters .upper) (next ks after) (recorded-lasts ks after) (full-after e) u (omega arith) owing)
-      (omega (arith, accepts .time-small))
-  event-cases B (u ∷ []) false e owing in-time =
+  event-cases B (suc u) false e owing in-time =
       let (j, h, lacks) = lacks-after e in
-      goes-on (u ∷ []) _ (owing-stays one-more (parameters .upper) (next ks after) (recorded-lasts ks after) j h lacks u owing) in-time
+      let time : suc u - 1 ≡ u = omega arith in
+      rw (ne-eqb (suc u) 0 (λ same. omega arith), time)
+      (goes-on (suc u) (owing-stays one-more (parameters .upper) (next ks after) (recorded-lasts ks after) j h lacks u owing) in-time)
 
   -- no event breaks the row
-  event-does : (B : Type 0) (owed : List ℕ) → Owed ks (parameters .upper) steps owed → t ≤ dueOldest (parameters .upper) owed
-      → ByOutcome B (Goes owed) (decideSynchronization parameters registers owed (at ks k) t)
+  event-does : (B : Type 0) → Owed ks (parameters .upper) steps (registers .last)
+      → t ≤ dueOwed (parameters .upper) (registers .last)
+      → ByOutcome B Goes (decideSynchronization parameters registers [] (at ks k) t)
   unfolding decideSynchronization
-  event-does B owed = event-cases B owed (full parameters noted t) refl
+  event-does B = event-cases B (registers .last) (full parameters noted t) refl
 
 -- ---- Open
 
@@ -292,51 +267,55 @@ module _ (c : Constraint) (s : Synchronized c) where
   live-start =
       rw (s .no-words)
       (record {
-        live = record { lasts = λ j h. count-none (s .names) j h; owes = λ j t h (i, l, e). absurd (omega arith) };
+        live = record { no-times = refl; lasts = λ j h. count-none (s .names) j h; owes = λ j t h (i, l, e). absurd (omega arith) };
         due-is = refl;
         kept-is = refl;
       })
 
   -- ---- Events
 
-  live-does : {steps : List Step} {registers : Registers} {owed : List ℕ} {k t : ℕ} → Past steps → Live steps registers owed → OfStream c k
-      → Accepts steps (event k t) → t ≤ dueOldest tolerance owed
-      → ByOutcome (¬ Open c (steps ++ (event k t ∷ []))) (GoesOn (Live (steps ++ (event k t ∷ []))) (due tolerance) kept owed t)
-      (decideSynchronization (parametersOf c) registers owed k t)
-  live-does {steps} {registers} {owed} {k} {t} past live =
-      by-place c (kinds c) (s .streams-are) (λ j. Accepts steps (event j t) → t ≤ dueOldest tolerance owed
-      → ByOutcome (¬ Open c (steps ++ (event j t ∷ []))) (GoesOn (Live (steps ++ (event j t ∷ []))) (due tolerance) kept owed t)
-      (decideSynchronization (parametersOf c) registers owed j t))
+  live-does : {steps : List Step} {registers : Registers} {times : List ℕ} {k t : ℕ} → Past steps → Live steps registers times → OfStream c k
+      → Accepts steps (event k t) → t ≤ due tolerance registers times
+      → ByOutcome (¬ Open c (steps ++ (event k t ∷ []))) (GoesOn (Live (steps ++ (event k t ∷ []))) (due tolerance) kept times t)
+      (decideSynchronization (parametersOf c) registers times k t)
+  live-does {steps} {registers} {times} {k} {t} past live =
+      rw (live .no-times)
+      (by-place c (kinds c) (s .streams-are) (λ j. Accepts steps (event j t) → t ≤ due tolerance registers []
+      → ByOutcome (¬ Open c (steps ++ (event j t ∷ []))) (GoesOn (Live (steps ++ (event j t ∷ []))) (due tolerance) kept [] t)
+      (decideSynchronization (parametersOf c) registers [] j t))
       (λ i h accepts in-time. event-does (s .names) steps registers i t past (live .lasts) h accepts
-      (¬ Open c (steps ++ (event (at (kinds c) i) t ∷ []))) owed (live .owes) in-time)
+      (¬ Open c (steps ++ (event (at (kinds c) i) t ∷ []))) (live .owes) in-time))
 
   -- ---- Ticks
 
-  owed-same : (a b : List Step) → SameTimes (kinds c) a b → (owed : List ℕ) → Owed (kinds c) tolerance a owed → Owed (kinds c) tolerance b owed
-  owed-same a b same [] =
+  owed-same : (a b : List Step) → SameTimes (kinds c) a b → (owed : ℕ) → Owed (kinds c) tolerance a owed → Owed (kinds c) tolerance b owed
+  owed-same a b same zero =
       settled-same (Recorded (kinds c) a) (Recorded (kinds c) b) (length (kinds c)) tolerance
       (λ j t h r. rw (← same j h) r) (λ j t h r. rw (same j h) r)
-  owed-same a b same (u ∷ []) =
+  owed-same a b same (suc u) =
       owing-same (Recorded (kinds c) a) (Recorded (kinds c) b) (length (kinds c)) tolerance
       (λ j t h r. rw (← same j h) r) (λ j t h r. rw (same j h) r) u
-  owed-same a b same (u ∷ (v ∷ us)) = λ never. never
 
-  live-same : (a b : List Step) (registers : Registers) (owed : List ℕ) → own (streams c) a ≡ own (streams c) b → Live a registers owed
-      → Live b registers owed
-  live-same a b registers owed equal live =
+  live-same : (a b : List Step) (registers : Registers) (times : List ℕ) → own (streams c) a ≡ own (streams c) b → Live a registers times
+      → Live b registers times
+  live-same a b registers times equal live =
       let same : SameTimes (kinds c) a b = rw (s .streams-are) at (same-times (streams c) a b equal) in
-      record { lasts = λ j h. rw (← same j h) (live .lasts j h); owes = owed-same a b same owed (live .owes) }
+      record {
+        no-times = live .no-times;
+        lasts = λ j h. rw (← same j h) (live .lasts j h);
+        owes = owed-same a b same (registers .last) (live .owes);
+      }
 
-  owed-late : (steps : List Step) (owed : List ℕ) (t : ℕ) → Owed (kinds c) tolerance steps owed → 0 < length owed → at owed 0 + tolerance < t
+  owed-late : (steps : List Step) (owed t : ℕ) → Owed (kinds c) tolerance steps owed → dueOwed tolerance owed < t → t ≤ lastTime
       → (further : List Step) → Continues (steps ++ (tick t ∷ [])) further
       → ¬ MeetsSynchronization (kinds c) tolerance (steps ++ (tick t ∷ []) ++ further)
   unfolding MeetsSynchronization
-  owed-late steps [] t settled some passed further follows meets = absurd (omega arith)
-  owed-late steps (u ∷ []) t owing some passed further follows meets =
+  owed-late steps zero t settled passed small further follows meets = absurd (omega arith)
+  owed-late steps (suc u) t owing passed small further follows meets =
       let ks = kinds c in
       let ticked = steps ++ (tick t ∷ []) in
       owing-late (Recorded ks steps) (Recorded ks (ticked ++ further)) (length ks) tolerance t u
-      (λ j r h there before. old j r before (recorded-late ks ticked further j r follows there)) owing passed
+      (λ j r h there before. old j r before (recorded-late ks ticked further j r follows there)) owing (omega arith)
       (meets (owing .kind) u (owing .of-row) (recorded-old ks ticked further (owing .kind) u
       (recorded-old ks steps (tick t ∷ []) (owing .kind) u (owing .there))))
     where
@@ -344,19 +323,18 @@ module _ (c : Constraint) (s : Synchronized c) where
       old j r before (inl there) = rw (times-tick (at (kinds c) j) t steps) at there
       old j r before (inr late) = absurd (omega (arith, clock-tick t steps))
 
-  live-late : (steps : List Step) (registers : Registers) (owed : List ℕ) (t : ℕ) → Live steps registers owed → dueOldest tolerance owed < t
+  live-late : (steps : List Step) (registers : Registers) (times : List ℕ) (t : ℕ) → Live steps registers times → due tolerance registers times < t
       → t ≤ lastTime → ¬ Open c (steps ++ (tick t ∷ []))
-  live-late steps registers owed t live passed small (further, follows, meets) =
-      let (some, late) = due-passed tolerance t owed small passed in
-      owed-late steps owed t (live .owes) some late further follows (rw (s .meets (steps ++ (tick t ∷ []) ++ further)) at meets)
+  live-late steps registers times t live passed small (further, follows, meets) =
+      owed-late steps (registers .last) t (live .owes) passed small further follows (rw (s .meets (steps ++ (tick t ∷ []) ++ further)) at meets)
 
   -- ---- Open
 
-  owed-open : (steps : List Step) (owed : List ℕ) → Past steps → closed steps ≡ false → Owed (kinds c) tolerance steps owed
-      → clock steps ≤ dueOldest tolerance owed → Reaches (MeetsSynchronization (kinds c) tolerance) steps
+  owed-open : (steps : List Step) (owed : ℕ) → Past steps → closed steps ≡ false → Owed (kinds c) tolerance steps owed
+      → clock steps ≤ dueOwed tolerance owed → Reaches (MeetsSynchronization (kinds c) tolerance) steps
   unfolding MeetsSynchronization
-  owed-open steps [] past goes-on settled in-time = ([], stop, rw (append-nil steps) settled)
-  owed-open steps (u ∷ []) past goes-on owing in-time =
+  owed-open steps zero past goes-on settled in-time = ([], stop, rw (append-nil steps) settled)
+  owed-open steps (suc u) past goes-on owing in-time =
       let ks = kinds c in
       let recorded = recorded-past ks steps (clock steps) past (omega arith) in
       fill ks (s .names .fit) tolerance (clock steps) u (recorded (owing .kind) u (owing .of-row) (owing .there)) (omega arith) (length ks) steps
@@ -368,36 +346,30 @@ module _ (c : Constraint) (s : Synchronized c) where
         earlier = owing .earlier;
       })
 
-  live-open : (steps : List Step) (registers : Registers) (owed : List ℕ) → Past steps → closed steps ≡ false → Live steps registers owed
-      → clock steps ≤ dueOldest tolerance owed → Open c steps
-  live-open steps registers owed past goes-on live in-time =
-      let (further, follows, meets) = owed-open steps owed past goes-on (live .owes) in-time in
+  live-open : (steps : List Step) (registers : Registers) (times : List ℕ) → Past steps → closed steps ≡ false → Live steps registers times
+      → clock steps ≤ due tolerance registers times → Open c steps
+  live-open steps registers times past goes-on live in-time =
+      let (further, follows, meets) = owed-open steps (registers .last) past goes-on (live .owes) in-time in
       (further, follows, rw (s .meets (steps ++ further)) meets)
 
   -- ---- Waiting
 
-  owed-few : (steps : List Step) (owed : List ℕ) → Owed (kinds c) tolerance steps owed → length owed ≤ waitingLimit
-  owed-few steps [] owes = omega arith
-  owed-few steps (u ∷ []) owes = omega arith
-
-  live-waits : (steps : List Step) (registers : Registers) (owed : List ℕ) → Live steps registers owed
-      → Waits (waitsIn (parametersOf c .tag)) (waiting c steps) (length owed)
-  live-waits steps registers owed live = rw (s .waits-in) (s .waits steps, owed-few steps owed (live .owes))
+  live-waits : (steps : List Step) (registers : Registers) (times : List ℕ) → Live steps registers times
+      → Waits (waitsIn (parametersOf c .tag)) (waiting c steps) (length times)
+  live-waits steps registers times live = rw (s .waits-in) (s .waits steps, omega (arith, ap length (live .no-times)))
 
   -- ---- Close
 
-  live-kept : (steps : List Step) (registers : Registers) (owed : List ℕ) → Live steps registers owed → none-left owed ≡ true → Meets c steps
+  owed-kept : (steps : List Step) (owed : ℕ) → Owed (kinds c) tolerance steps owed → noneOwed owed ≡ true → Meets c steps
   unfolding MeetsSynchronization
-  live-kept steps registers [] live e = rw (s .meets steps) (live .owes)
-  live-kept steps registers (u ∷ us) live e = absurd (false≢true e)
+  owed-kept steps zero settled e = rw (s .meets steps) settled
+  owed-kept steps (suc u) owing e = absurd (false≢true e)
 
-  live-not-kept : (steps : List Step) (registers : Registers) (owed : List ℕ) → Live steps registers owed → none-left owed ≡ false → ¬ Meets c steps
+  owed-not-kept : (steps : List Step) (owed : ℕ) → Owed (kinds c) tolerance steps owed → noneOwed owed ≡ false → ¬ Meets c steps
   unfolding MeetsSynchronization
-  live-not-kept steps registers [] live e = absurd (false≢true (sym e))
-  live-not-kept steps registers (u ∷ (v ∷ us)) live e = absurd (live .owes)
-  live-not-kept steps registers (u ∷ []) live e =
-      λ meets. let owing = live .owes in
-      owing .uncovered ((rw (s .meets steps) at meets) (owing .kind) u (owing .of-row) (owing .there))
+  owed-not-kept steps zero settled e = absurd (false≢true (sym e))
+  owed-not-kept steps (suc u) owing e =
+      λ meets. owing .uncovered ((rw (s .meets steps) at meets) (owing .kind) u (owing .of-row) (owing .there))
 
   -- ---- Exact
 
@@ -413,8 +385,8 @@ module _ (c : Constraint) (s : Synchronized c) where
         late = λ past live. live-late _ _ _ _ live;
         is-open = live-open _ _ _;
         waits = λ past live. live-waits _ _ _ live;
-        is-kept = λ past live in-time. live-kept _ _ _ live;
-        not-kept = λ past live. live-not-kept _ _ _ live;
+        is-kept = λ {steps} {registers} past live in-time. owed-kept steps (registers .last) (live .owes);
+        not-kept = λ {steps} {registers} past live. owed-not-kept steps (registers .last) (live .owes);
       }
 
 -- §5.11
@@ -427,18 +399,14 @@ exactSynchronization ks x sound =
 
 -- ---- In a row
 
--- an event changes the four marks alone, and with a time in the ring it lets no other in
+-- no times are kept, and all registers are
 steady-synchronization : (parameters : Parameters) (m : Registers) (times : List ℕ) (kind t : ℕ)
-    → Steady countsSaved m times (decideSynchronization parameters m times kind t)
+    → Steady allSaved m times (decideSynchronization parameters m times kind t)
 unfolding decideSynchronization
 steady-synchronization parameters m times kind t =
-    steady-by (full parameters (latest parameters m kind t) t) (steady-drop 1 (ap (withCounts _ _ _ _))) (by-times times)
-  where
-    by-times : (times : List ℕ) → Steady countsSaved m times
-        (cond (none-left times) (waits (parameters .upper) times (Push 0 t) (latest parameters m kind t))
-        (waits (parameters .upper) times (Drop 0) (latest parameters m kind t)))
-    by-times [] = record { unkept = ap (withCounts _ _ _ _); no-more = λ many. absurd (omega arith) }
-    by-times (u ∷ us) = steady-drop 0 (ap (withCounts _ _ _ _))
+    steady-by (full parameters (latest parameters m kind t) t) (steady-drop 0 (λ e. refl))
+    (steady-by (eqb (m .last) 0) (steady-drop 0 (λ e. refl)) (steady-drop 0 (λ e. refl)))
 
 pub fitsSynchronization : FitsRow machineSynchronization
-fitsSynchronization = fits-steady keeping-counts steady-synchronization
+fitsSynchronization =
+    fits-steady (record { over-past = λ registers past. refl; over-own = λ registers. refl }) steady-synchronization

@@ -178,19 +178,22 @@ pub fn save_undo_counts(row: &mut [[u64; SIZE]; 2])
     row[1][UNDO_FOUR] = four;
 }
 
-// A row's state is that of one that is broken at a step.
-fn break_numbers(w: &mut [u64; SIZE], number: u64)
-    ensures { λ _. ⌜ NumbersBecome (λ state past. brokenAt number) (λ state past. past) (now (w .entry)) (now (w .exit)) ⌝ }
+// Why a row is broken, where an event breaks it.
+pub const BY_EVENT: u64 = 2;
+
+// A row's state is that of one that an event at t breaks, by the step of that number. Cause and moment take two words that a broken row does not use.
+fn break_numbers(w: &mut [u64; SIZE], t: u64, number: u64)
+    ensures { λ _. ⌜ NumbersBecome (λ state past. brokenAt t number) (λ state past. past) (now (w .entry)) (now (w .exit)) ⌝ }
 {
     w[LAST] = 0;
     w[ONE] = 0;
     w[TWO] = 0;
     w[THREE] = 0;
     w[FOUR] = 0;
-    w[HEAD] = 0;
+    w[HEAD] = BY_EVENT;
     w[LEN] = 0;
     w[DUE] = NO_LIMIT;
-    w[KEPT] = 0;
+    w[KEPT] = t;
     w[BROKEN] = number;
 }
 
@@ -215,12 +218,12 @@ pub fn save_undo_all(row: &mut [[u64; SIZE]; 2], number: u64)
     save_undo(row, 0, number);
 }
 
-// The row breaks at the step of that number, which overwrites nothing.
-pub fn break_at(row: &mut [[u64; SIZE]; 2], number: u64)
-    ensures { λ _. ⌜ BreaksRow (now (row .entry)) number (now (row .exit)) ⌝ }
+// An event at t breaks the row, by the step of that number, which overwrites nothing.
+pub fn break_at(row: &mut [[u64; SIZE]; 2], t: u64, number: u64)
+    ensures { λ _. ⌜ BreaksRow (now (row .entry)) t number (now (row .exit)) ⌝ }
 {
     save_undo_all(row, number);
-    break_numbers(&mut row[1], number);
+    break_numbers(&mut row[1], t, number);
 }
 
 // The ring stays as it is, before the step of that number.

@@ -30,7 +30,7 @@ unfolding rowWords numberWords
 by-type m entry exit stream t number made is parameters times state past e =
     made parameters times state past e
     ∙ ap (λ (x : Machine). changedWords (x .keeps) parameters times state past
-    (x .decide parameters (state .registers) (ring times (state .head) (state .len)) stream t) number)
+    (x .decide parameters (state .registers) (ring times (state .head) (state .len)) stream t) t number)
     (sym is ∙ ap (λ (row : List (List ℕ)). machineOf (tagIn row)) e)
 
 returns : tie.Need-returns

@@ -35,14 +35,14 @@ pub fn apply(row: &mut [[u64; SIZE]; 2], stream: u64, t: u64, number: u64)
             row_words::settle(&mut row[1], t, 0);
             return;
         }
-        row_words::break_at(row, number);
+        row_words::break_at(row, t, number);
         return;
     }
     if parts::reaches(parts::front(&row[0], head, len), lower, t) {
         row_words::fewer_wait(row, 1, number);
         return;
     }
-    row_words::break_at(row, number);
+    row_words::break_at(row, t, number);
 }
 
 // Whether an event lets one more wait, where there is no room.

@@ -13,7 +13,7 @@ use row_type::row_words;
 ghost use mathlib.Core.Path.{_≡_};
 ghost use Prim.Native.Nat.{_<_};
 ghost use Rattle.ring.specs.Ring.{ring};
-ghost use Rattle.row_type.specs.Words.{noneSaved, Makes, Applies};
+ghost use Rattle.row_type.specs.Words.{noneSaved, MakesAt, Applies};
 ghost use Rattle.event_chain.specs.Age.{suits, afterStimulusAge, afterResponseAge, owed, owedBut, dueAge, aged, decideAge};
 
 // Whether the latest stimulus, where there is one, is minimum to maximum before a response at t.
@@ -114,7 +114,7 @@ pub fn apply(row: &mut [[u64; SIZE]; 2], stream: u64, t: u64, number: u64)
     let high = word(&row[0], head, len, 2 * colour + 1);
     if parts::kind_of(stream) == row[1][row_words::FIRST] {
         let pair = after_stimulus(row[1][row_words::LOWER], high, t);
-        store(row, colour, pair, number);
+        store(row, colour, pair, t, number);
         return;
     }
     let pair = after_response(
@@ -124,16 +124,17 @@ pub fn apply(row: &mut [[u64; SIZE]; 2], stream: u64, t: u64, number: u64)
         high,
         t,
     );
-    store(row, colour, pair, number);
+    store(row, colour, pair, t, number);
 }
 
 // The words of a colour are new.
-fn store(row: &mut [[u64; SIZE]; 2], colour: usize, pair: Pair, number: u64)
+fn store(row: &mut [[u64; SIZE]; 2], colour: usize, pair: Pair, t: u64, number: u64)
     requires { ⌜ colour < 8 ⌝ }
-    ensures { λ _. ⌜ Makes noneSaved (now (row .entry)) (λ parameters registers words. aged registers words colour pair) number (now (row .exit)) ⌝ }
+    ensures { λ _. ⌜ MakesAt noneSaved (now (row .entry)) (λ parameters registers words. aged registers words colour pair) t number
+        (now (row .exit)) ⌝ }
 {
     if pair.breaks {
-        row_words::break_at(row, number);
+        row_words::break_at(row, t, number);
         return;
     }
     let head = row[1][row_words::HEAD] as usize;

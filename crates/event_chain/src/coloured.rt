@@ -10,7 +10,7 @@ ghost use mathlib.Core.Path.{_≡_};
 ghost use Prim.Native.Nat.{_<_, _≤_, suc};
 ghost use Rattle.constraint.specs.Steps.{at};
 ghost use Rattle.ring.specs.Ring.{ring};
-ghost use Rattle.row_type.specs.Words.{noneSaved, Makes, parametersAt};
+ghost use Rattle.row_type.specs.Words.{noneSaved, Makes, MakesAt, parametersAt};
 ghost use Rattle.event_chain.specs.Coloured.{leastOf, mostOf, wordsAt, wordsBut, dueWords, noted, eventWords, firstWord, kindCount, placeAmong};
 ghost use Rattle.event_chain.specs.OutputSynchronization.{firstResponse, owedOutput, breaksOutput, wordOutput};
 ghost use Rattle.event_chain.specs.InputSynchronization.{together, owedInput, owedEither, breaksInput, wordInput};
@@ -301,16 +301,16 @@ pub(crate) fn apply_output(
     number: u64,
 )
     requires { ⌜ (kinds ≤ 4) × (colour < 8) × (kind < 5) ⌝ }
-    ensures { λ _. ⌜ Makes noneSaved (now (row .entry))
+    ensures { λ _. ⌜ MakesAt noneSaved (now (row .entry))
         (λ parameters registers words. eventWords (owedOutput kinds tolerance) (breaksOutput kinds)
-        (wordOutput kinds) registers words colour kind t) number
+        (wordOutput kinds) registers words colour kind t) t number
         (now (row .exit)) ⌝ }
 {
     let head = row[1][row_words::HEAD] as usize;
     let len = row[1][row_words::LEN] as usize;
     let w = words_at(&row[0], head, len, colour);
     if breaks_output(&w, kinds, kind, t) {
-        row_words::break_at(row, number);
+        row_words::break_at(row, t, number);
         return;
     }
     let value = first_word(w[kind], t);
@@ -328,15 +328,15 @@ pub(crate) fn apply_input(
     number: u64,
 )
     requires { ⌜ (kinds ≤ 4) × (colour < 8) × (kind < 5) ⌝ }
-    ensures { λ _. ⌜ Makes noneSaved (now (row .entry))
+    ensures { λ _. ⌜ MakesAt noneSaved (now (row .entry))
         (λ parameters registers words. eventWords (owedInput kinds tolerance) (breaksInput kinds) (wordInput kinds) registers words colour kind t)
-        number (now (row .exit)) ⌝ }
+        t number (now (row .exit)) ⌝ }
 {
     let head = row[1][row_words::HEAD] as usize;
     let len = row[1][row_words::LEN] as usize;
     let w = words_at(&row[0], head, len, colour);
     if breaks_input(&w, kinds, kind, t) {
-        row_words::break_at(row, number);
+        row_words::break_at(row, t, number);
         return;
     }
     let value = word_input(&w, kinds, kind, t);

@@ -8,7 +8,7 @@ ghost use mathlib.Core.Path.{_≡_};
 ghost use mathlib.Core.Bool.{true, false};
 ghost use Prim.Native.Nat.{_<_};
 ghost use Rattle.ring.specs.Ring.{ring};
-ghost use Rattle.row_type.specs.Words.{noneSaved, Makes, Applies};
+ghost use Rattle.row_type.specs.Words.{noneSaved, MakesAt, Applies};
 ghost use Rattle.event_chain.specs.Reaction.{latest, highBut, dueBut, afterStimulus, afterResponse, paired, decideReaction};
 
 // How many colours there are.
@@ -128,20 +128,20 @@ pub fn apply(row: &mut [[u64; SIZE]; 2], stream: u64, t: u64, number: u64)
             high,
             t,
         );
-        store(row, colour, pair, number);
+        store(row, colour, pair, t, number);
         return;
     }
-    store(row, colour, after_response(low, high, t), number);
+    store(row, colour, after_response(low, high, t), t, number);
 }
 
 // The words of a colour are new.
-fn store(row: &mut [[u64; SIZE]; 2], colour: usize, pair: Pair, number: u64)
+fn store(row: &mut [[u64; SIZE]; 2], colour: usize, pair: Pair, t: u64, number: u64)
     requires { ⌜ colour < 8 ⌝ }
-    ensures { λ _. ⌜ Makes noneSaved (now (row .entry)) (λ parameters registers words. paired registers words colour pair) number
+    ensures { λ _. ⌜ MakesAt noneSaved (now (row .entry)) (λ parameters registers words. paired registers words colour pair) t number
         (now (row .exit)) ⌝ }
 {
     if pair.breaks {
-        row_words::break_at(row, number);
+        row_words::break_at(row, t, number);
         return;
     }
     let head = row[1][row_words::HEAD] as usize;

@@ -5,7 +5,7 @@ use ring::SIZE;
 use ring::minus;
 use row_type::parts;
 use row_type::row_words;
-ghost use Rattle.row_type.specs.Words.{firstThreeSaved, Makes, Applies};
+ghost use Rattle.row_type.specs.Words.{firstThreeSaved, MakesAt, Applies};
 ghost use Rattle.execution.specs.ExecutionTime.{enters, runningFrom, whileIdle, whileRunning};
 ghost use Rattle.execution.specs.ExecutionTime.{decideExecutionTime};
 
@@ -27,7 +27,7 @@ pub fn apply(row: &mut [[u64; SIZE]; 2], stream: u64, t: u64, number: u64)
     ensures { λ _. ⌜ Applies firstThreeSaved decideExecutionTime (now (row .entry)) stream t number (now (row .exit)) ⌝ }
 {
     if t < row[1][row_words::LAST] {
-        row_words::break_at(row, number);
+        row_words::break_at(row, t, number);
         return;
     }
     let phase = row[1][PHASE];
@@ -44,24 +44,24 @@ pub fn apply(row: &mut [[u64; SIZE]; 2], stream: u64, t: u64, number: u64)
         run(row, t, ran, number);
         return;
     }
-    row_words::break_at(row, number);
+    row_words::break_at(row, t, number);
 }
 
 // What an event makes of a row between two executions: only a start may come, and some time must be left to run.
 fn apply_idle(row: &mut [[u64; SIZE]; 2], stream: u64, t: u64, number: u64)
-    ensures { λ _. ⌜ Makes firstThreeSaved (now (row .entry)) (λ parameters registers times. whileIdle parameters registers stream t) number
+    ensures { λ _. ⌜ MakesAt firstThreeSaved (now (row .entry)) (λ parameters registers times. whileIdle parameters registers stream t) t number
         (now (row .exit)) ⌝ }
 {
     if stream == row[1][row_words::FIRST] && 0 < row[1][row_words::UPPER] {
         run(row, t, 0, number);
         return;
     }
-    row_words::break_at(row, number);
+    row_words::break_at(row, t, number);
 }
 
 // What an event makes of a running execution: a stop ends it, not before lower; a preempt must leave some time to run.
 fn apply_running(row: &mut [[u64; SIZE]; 2], stream: u64, t: u64, number: u64)
-    ensures { λ _. ⌜ Makes firstThreeSaved (now (row .entry)) (λ parameters registers times. whileRunning parameters registers stream t) number
+    ensures { λ _. ⌜ MakesAt firstThreeSaved (now (row .entry)) (λ parameters registers times. whileRunning parameters registers stream t) t number
         (now (row .exit)) ⌝ }
 {
     let ran = parts::plus(
@@ -76,12 +76,12 @@ fn apply_running(row: &mut [[u64; SIZE]; 2], stream: u64, t: u64, number: u64)
         enter(row, PREEMPTED, t, ran, NO_LIMIT, false, number);
         return;
     }
-    row_words::break_at(row, number);
+    row_words::break_at(row, t, number);
 }
 
 // The row goes on with an execution that runs from t on: it must stop before it has run longer than upper.
 fn run(row: &mut [[u64; SIZE]; 2], t: u64, ran: u64, number: u64)
-    ensures { λ _. ⌜ Makes firstThreeSaved (now (row .entry)) (λ parameters registers times. runningFrom parameters registers t ran) number
+    ensures { λ _. ⌜ MakesAt firstThreeSaved (now (row .entry)) (λ parameters registers times. runningFrom parameters registers t ran) t number
         (now (row .exit)) ⌝ }
 {
     let due = parts::plus(t, minus(row[1][row_words::UPPER], ran));
@@ -98,7 +98,7 @@ fn enter(
     kept: bool,
     number: u64,
 )
-    ensures { λ _. ⌜ Makes firstThreeSaved (now (row .entry)) (λ parameters registers times. enters phase t ran due kept registers) number
+    ensures { λ _. ⌜ MakesAt firstThreeSaved (now (row .entry)) (λ parameters registers times. enters phase t ran due kept registers) t number
         (now (row .exit)) ⌝ }
 {
     row_words::save_undo_first_three(row);

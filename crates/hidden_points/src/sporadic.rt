@@ -11,7 +11,7 @@ ghost use lib.Dec.{eqb};
 ghost use Prim.Native.Nat.{min};
 ghost use Rattle.constraint.specs.Limits.{noLimit};
 ghost use Rattle.row_type.specs.Parts.{plus};
-ghost use Rattle.row_type.specs.Words.{firstThreeSaved, Makes, Applies};
+ghost use Rattle.row_type.specs.Words.{firstThreeSaved, MakesAt, Applies};
 ghost use Rattle.hidden_points.specs.Sporadic.{pointAt, stride, decideSporadic};
 
 // Where the last hidden point can be: from a low to a high.
@@ -38,12 +38,12 @@ pub fn apply(row: &mut [[u64; SIZE]; 2], stream: u64, t: u64, number: u64)
         place(row, t, low, high, number);
         return;
     }
-    row_words::break_at(row, number);
+    row_words::break_at(row, t, number);
 }
 
 // The row goes on with an event at t, whose point can be at each place from low to high.
 fn place(row: &mut [[u64; SIZE]; 2], t: u64, low: u64, high: u64, number: u64)
-    ensures { λ _. ⌜ Makes firstThreeSaved (now (row .entry)) (λ parameters registers times. pointAt parameters registers t low high) number
+    ensures { λ _. ⌜ MakesAt firstThreeSaved (now (row .entry)) (λ parameters registers times. pointAt parameters registers t low high) t number
         (now (row .exit)) ⌝ }
 {
     let due = parts::plus(

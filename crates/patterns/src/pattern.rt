@@ -10,7 +10,7 @@ ghost use lib.Dec.{ltb};
 ghost use Rattle.constraint.specs.Steps.{at};
 ghost use Rattle.ring.specs.declared.Edit.the-variants.{Drop};
 ghost use Rattle.row_type.specs.Parts.{continuesWith, farEnough};
-ghost use Rattle.row_type.specs.Words.{countsSaved, Makes, Applies};
+ghost use Rattle.row_type.specs.Words.{countsSaved, Makes, MakesAt, Applies};
 ghost use Rattle.patterns.specs.Pattern.{numberAfter, stepTo, placedIn, decideInWords};
 
 const NUMBER: usize = row_words::ONE;
@@ -68,9 +68,9 @@ fn go_on(row: &mut [[u64; SIZE]; 2], next: u64, low: u64, high: u64, t: u64, due
 // The row goes on with an event at t whose point can be at each place from low to high, where there is such a place and the event after it is not
 // overdue.
 fn place(row: &mut [[u64; SIZE]; 2], t: u64, low: u64, high: u64, number: u64)
-    ensures { λ _. ⌜ Makes countsSaved (now (row .entry))
+    ensures { λ _. ⌜ MakesAt countsSaved (now (row .entry))
         (λ parameters registers words. placedIn (parameters .span) (parameters .upper) (parameters .jitter) (parameters .minimum) (at words) registers
-        t (registers .first) low high) number (now (row .exit)) ⌝ }
+        t (registers .first) low high) t number (now (row .exit)) ⌝ }
 {
     let head = row[1][row_words::HEAD] as usize;
     let len = row[1][row_words::LEN] as usize;
@@ -87,7 +87,7 @@ fn place(row: &mut [[u64; SIZE]; 2], t: u64, low: u64, high: u64, number: u64)
         go_on(row, next, low, high, parts::plus(t, 1), due, number);
         return;
     }
-    row_words::break_at(row, number);
+    row_words::break_at(row, t, number);
 }
 
 // What an event makes of the row, where it lies.
@@ -113,5 +113,5 @@ pub fn apply(row: &mut [[u64; SIZE]; 2], stream: u64, t: u64, number: u64)
         place(row, t, low, high, number);
         return;
     }
-    row_words::break_at(row, number);
+    row_words::break_at(row, t, number);
 }

@@ -133,5 +133,5 @@ pub fn apply(row: &mut [[u64; SIZE]; 2], stream: u64, t: u64, number: u64)
         note(row, place, parts::plus(t, 1), behind, after, due, number);
         return;
     }
-    row_words::break_at(row, number);
+    row_words::break_at(row, t, number);
 }

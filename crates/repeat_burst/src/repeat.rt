@@ -13,7 +13,7 @@ pub fn apply(row: &mut [[u64; SIZE]; 2], stream: u64, t: u64, number: u64)
     ensures { λ _. ⌜ Applies lastSaved decideRepeat (now (row .entry)) stream t number (now (row .exit)) ⌝ }
 {
     if !parts::far_enough(row[1][row_words::MINIMUM], row[1][row_words::LAST], t) {
-        row_words::break_at(row, number);
+        row_words::break_at(row, t, number);
         return;
     }
     let head = row[1][row_words::HEAD] as usize;
@@ -25,7 +25,7 @@ pub fn apply(row: &mut [[u64; SIZE]; 2], stream: u64, t: u64, number: u64)
             row[1][row_words::LOWER],
             t,
         ) {
-            row_words::break_at(row, number);
+            row_words::break_at(row, t, number);
             return;
         }
         dropped = 1;

@@ -37,7 +37,7 @@ pub fn apply(row: &mut [[u64; SIZE]; 2], stream: u64, t: u64, number: u64)
         row_words::settle(&mut row[1], NO_LIMIT, 1);
         return;
     }
-    row_words::break_at(row, number);
+    row_words::break_at(row, t, number);
 }
 
 // Whether an event lets two more numbers come, where there is no room for two.

@@ -1,32 +1,27 @@
 -- A row's words with a change are those of the row with the change, as either way of the change computes; and what occurs makes of a row what the
 -- clock or the close alone make of it, or what the event does.
 use Rattle.row.proofs.Names.{RowUndo, Bool, Change, List, StepInput, Row, State, _&&_, _∙_, _≡_, ap, applied, appliedRow, arith, both}
-use Rattle.row.proofs.Names.{brokenRow, brokenState, changedWords, concerns, cond, editPlace, edited, endedRow, endedSaves, endedState, endsBy}
-use Rattle.row.proofs.Names.{eq-eqb, eqb, eventAt, eventKeeps, eventRow, eventSaves, false, keptAtPlace, savedRegisters, ltb, ltb-false}
-use Rattle.row.proofs.Names.{ltb-true}
+use Rattle.row.proofs.Names.{brokenByEvent, brokenRow, brokenState, changedWords, concerns, cond, editPlace, edited, endedRow}
+use Rattle.row.proofs.Names.{endedSaves, endedState, endsBy}
+use Rattle.row.proofs.Names.{eq-eqb, eqb, eqb-true, eventAt, eventKeeps, eventRow, eventSaves, false, keptAtPlace, savedRegisters, ltb}
+use Rattle.row.proofs.Names.{ltb-false, ltb-true}
 use Rattle.row.proofs.Names.{mark, movesBy, ne-eqb, undoRecordOf, refl, ringOf, rowFrom, rowWords, savedAt, savedBy, split, stepKeeps}
 use Rattle.row.proofs.Names.{stepPlace}
 use Rattle.row.proofs.Names.{steppedRow, true, withChange, wordsOfRow, writesAt, ℕ}
 use Rattle.row.proofs.UndoComplete.{KeepsWhole, event-keeps-all}
-use Rattle.row.specs.Stored.{notedRow}
-use Rattle.row_type.specs.Words.{brokenAt}
 
-module _ (r : Row) (b : RowUndo) (change : Change) (number : ℕ) where
+module _ (r : Row) (b : RowUndo) (change : Change) (t number : ℕ) where
   abbrev at : ℕ
   at = editPlace (change .edit) (ringOf (r .times) (r .now .head) (r .now .len))
 
-  -- the row that a change breaks, before the cause is noted
-  abbrev pub plain : Row
-  plain = rowFrom (r .parameters) (r .times) (brokenAt number)
-
   pub changed-words : r .now .broken ≡ 0
-      → changedWords (savedRegisters (r .parameters .tag)) (r .parameters) (r .times) (r .now) (undoRecordOf b) change number
-      ≡ wordsOfRow (cond (change .breaks) plain (applied r change)) (cond (change .breaks) (savedAt r at number) (keptAtPlace r b at number))
-  unfolding changedWords wordsOfRow applied
+      → changedWords (savedRegisters (r .parameters .tag)) (r .parameters) (r .times) (r .now) (undoRecordOf b) change t number
+      ≡ wordsOfRow (withChange r change t number) (cond (change .breaks) (savedAt r at number) (keptAtPlace r b at number))
+  unfolding changedWords wordsOfRow withChange applied
   changed-words is-open =
       split (change .breaks)
-      (λ x. cond x (wordsOfRow plain (savedAt r at number)) (goes (r .now .broken))
-      ≡ wordsOfRow (cond x plain (applied r change)) (cond x (savedAt r at number) (keptAtPlace r b at number)))
+      (λ x. cond x (wordsOfRow (brokenByEvent r t number) (savedAt r at number)) (goes (r .now .broken))
+      ≡ wordsOfRow (cond x (brokenByEvent r t number) (applied r change)) (cond x (savedAt r at number) (keptAtPlace r b at number)))
       (λ _. refl) (λ _. ap goes is-open)
     where
       -- the words of the row that goes on
@@ -37,14 +32,17 @@ module _ (r : Row) (b : RowUndo) (change : Change) (number : ℕ) where
           (record { registers = change .registers; head = q .head; len = q .len; due = change .due; kept = mark (change .kept); broken = broken })
           (undoRecordOf (keptAtPlace r b at number))
 
-  -- the cause that is noted then makes it the row with the change
-  pub noted-change : (t : ℕ)
-      → notedRow (cond (change .breaks) plain (applied r change)) (r .now .due) t false ≡ withChange r change t number
-  unfolding withChange brokenRow applied
-  noted-change t =
-      split (change .breaks)
-      (λ x. notedRow (cond x plain (applied r change)) (r .now .due) t false ≡ cond x (brokenRow r t false number) (applied r change))
-      (λ _. refl) (λ _. refl)
+  -- a broken row stays as it is
+  pub event-words : cond (eqb (r .now .broken) 0)
+      (changedWords (savedRegisters (r .parameters .tag)) (r .parameters) (r .times) (r .now) (undoRecordOf b) change t number) (wordsOfRow r b)
+      ≡ wordsOfRow (cond (eqb (r .now .broken) 0) (withChange r change t number) r)
+      (cond (eqb (r .now .broken) 0) (cond (change .breaks) (savedAt r at number) (keptAtPlace r b at number)) b)
+  event-words =
+      split (eqb (r .now .broken) 0)
+      (λ x. cond x (changedWords (savedRegisters (r .parameters .tag)) (r .parameters) (r .times) (r .now) (undoRecordOf b) change t number)
+      (wordsOfRow r b) ≡ wordsOfRow (cond x (withChange r change t number) r)
+      (cond x (cond (change .breaks) (savedAt r at number) (keptAtPlace r b at number)) b))
+      (λ e. changed-words (eqb-true (r .now .broken) 0 e)) (λ _. refl)
 
 -- ---- what occurs
 

@@ -1,7 +1,8 @@
 -- Whether a step overflows a row does not depend on the number of the step, nor on its times: a row with room for two more words is crowded by
 -- nothing, as a change lets in two at most; and with 63 or 64 waiting, its type, its marks and how many wait say whether more are let in.
 use Rattle.row.proofs.Names.{Bool, Drop, Edit, List, StepInput, Push, PushTwo, Row, RowStep, Store, [], _&&_, _+_, _<_, _∙_, _∷_, _≡_, _≤_}
-use Rattle.row.proofs.Names.{ap, applied, arith, brokenRow, changeBy, changed, changedRow, concerns, cond, crowdedBy, crowding, kind-overflows}
+use Rattle.row.proofs.Names.{ap, applied, arith, brokenByEvent, brokenRow, changeBy, changed, changedRow, concerns, cond}
+use Rattle.row.proofs.Names.{crowdedBy, crowding, kind-overflows}
 use Rattle.row.proofs.Names.{drop, eqb, false, overflows, eventOverflows, itemsOf, le-ltb, length, length-append, length-drop, length-set, ltb}
 use Rattle.row.proofs.Names.{ltb-false}
 use Rattle.row.proofs.Names.{ltb-true, neither, refl, ring-length, rowStep, set, split, stays, steppedRow, sym, true, waitingLimit, withChange}
@@ -37,7 +38,7 @@ unfolding rowStep changedRow steppedRow withChange
 step-either r o number =
     by-tests (ltb 0 (r .now .broken)) (ltb (r .now .due) (o .time)) (concerns (r .parameters) (o .kind)) (ltb waitingLimit (r .now .len))
     (changeBy r o .breaks) (ltb waitingLimit (length (changed (changeBy r o .edit) (itemsOf r)))) (o .closes && eqb (r .now .kept) 0) r
-    (brokenRow r (o .time) (o .closes) number) (brokenRow r (o .time) false number) (applied r (changeBy r o))
+    (brokenRow r (o .time) (o .closes) number) (brokenByEvent r (o .time) number) (applied r (changeBy r o))
 
 pub step-crowds : (r : Row) (o : StepInput) (number : ℕ) → rowStep r o number .crowded ≡ crowds o r
 step-crowds r o number = ap (λ (s : RowStep). s .crowded) (step-either r o number) ∙ by-crowds (crowds o r) r (steppedRow o number r)

@@ -2,7 +2,8 @@
 -- applies it; and no step leaves more than 64 waiting, nor does a withdrawal.
 use Rattle.row.proofs.Names.{RowUndo, Bool, Change, Drop, Edit, StepInput, Push, PushTwo, Ring, Row, RowStep, Parameters, State, Store, _&&_}
 use Rattle.row.proofs.Names.{_+_}
-use Rattle.row.proofs.Names.{_∙_, _≡_, _≤_, ap, applied, undoOfEvent, appliedRow, arith, backRow, both, brokenRow, brokenState, changeBy}
+use Rattle.row.proofs.Names.{_∙_, _≡_, _≤_, ap, applied, undoOfEvent, appliedRow, arith, backRow, both, brokenByEvent}
+use Rattle.row.proofs.Names.{brokenRow, brokenState, changeBy}
 use Rattle.row.proofs.Names.{changed, changedRow, concerns, cond, crowding, dropRing, editPlace, edited, endedState, endsBy, eqb, false}
 use Rattle.row.proofs.Names.{itemsOf, keptWithout, length, ltb, ltb-true, movesBy, noRowUndo, noState, pushRing, putRing, refl, ringOf}
 use Rattle.row.proofs.Names.{ringPlace, rowFrom, rowStep, rowWithout, savedAt, savedBy, savedRow, set, split, stays, stepPlace, steppedRow}
@@ -74,7 +75,7 @@ same-parameters parameters true x y p q = p
 same-parameters parameters false x y p q = q
 
 changed-parameters : (r : Row) (change : Change) (t number : ℕ) → changedRow r change t number .row .parameters ≡ r .parameters
-unfolding changedRow brokenRow applied
+unfolding changedRow applied
 changed-parameters r change t number =
     same-parameters (r .parameters) (ltb waitingLimit (r .now .len)) _ _ refl
     (same-parameters (r .parameters) (change .breaks) _ _ refl
@@ -133,12 +134,12 @@ few-by true x y p q = p
 few-by false x y p q = q
 
 changed-few : (r : Row) (change : Change) (t number : ℕ) → Roomy (r .now) → Roomy (changedRow r change t number .row .now)
-unfolding changedRow brokenRow applied
+unfolding changedRow applied
 changed-few r change t number few =
     let more : Bool = ltb waitingLimit (length (changed (change .edit) (itemsOf r))) in
     let goes : RowStep = cond more (crowding r) (stays (applied r change)) in
-    few-by (ltb waitingLimit (r .now .len)) (crowding r) (cond (change .breaks) (stays (brokenRow r t false number)) goes) few
-    (few-by (change .breaks) (stays (brokenRow r t false number)) goes (omega arith)
+    few-by (ltb waitingLimit (r .now .len)) (crowding r) (cond (change .breaks) (stays (brokenByEvent r t number)) goes) few
+    (few-by (change .breaks) (stays (brokenByEvent r t number)) goes (omega arith)
     (few-by more (crowding r) (stays (applied r change)) few (edited-few (change .edit) (ringOf (r .times) (r .now .head) (r .now .len)) few)))
 
 pub step-few : (r : Row) (o : StepInput) (number : ℕ) → Roomy (r .now) → Roomy (rowStep r o number .row .now)

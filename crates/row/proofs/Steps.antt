@@ -2,8 +2,9 @@
 -- continuation was left. By cases on what the machine does at a step, from what each type proves.
 use Rattle.row.proofs.Names.{Accepts, Bool, BrokenAt, Change, Constraint, List, Meets, StepInput, Open, Past, Reads, Row, RowStep}
 use Rattle.row.proofs.Names.{Parameters, State, Step, Valid, Verdict, [], _&&_, _++_, _+_, _<_, _∙_, _∷_, _≡_, _≤_, _⊎_, among, ap, append-nil}
-use Rattle.row.proofs.Names.{applied, arith, both, broken-later, broken-now, broken-shut, brokenRow, changed, changedRow, clock, clock-close}
-use Rattle.row.proofs.Names.{clock-event, clock-tick, clockFrom, close, closeAt, closed, closed-close, closed-event, closed-tick, cond}
+use Rattle.row.proofs.Names.{applied, arith, both, broken-later, broken-now, broken-shut, brokenByEvent, brokenRow, changed, changedRow, clock}
+use Rattle.row.proofs.Names.{clock-close, clock-event, clock-tick, clockFrom, close, closeAt, closed, closed-close}
+use Rattle.row.proofs.Names.{closed-event, closed-tick, cond}
 use Rattle.row.proofs.Names.{continues-closed, crowding, decide, edited, eqb, eqb-false, eqb-true, event, eventAt, false, inl, inr, items}
 use Rattle.row.proofs.Names.{items-edited, itemsOf, lastTime, le-ltb, length, lt-ltb, ltb, ltb-false, ltb-true, mark, meets-same, noEvent}
 use Rattle.row.proofs.Names.{open-at-tick, open-of-meets, own, own-close, own-other, own-tick, past-of, reads-broken, reads-kept, reads-open}
@@ -16,6 +17,7 @@ use Rattle.row.proofs.OwnKinds.{among-own, concerns-none, concerns-own,
 use Rattle.row.proofs.Names.{causeBy, kindOf, kinds, momentBy}
 use Rattle.constraint.proofs.{History.past-tick, Library.append-assoc, Library.by-cases}
 use Rattle.constraint.proofs.Library.{decLt}
+use Rattle.row_type.specs.Words.{brokenFor}
 use Rattle.row.specs.Cause.{Cause, StepAt, at-close, by-event, overdue}
 
 -- ---- what holds between the steps and a row
@@ -148,20 +150,22 @@ module _ (c : Constraint) (exact : Exact c) (steps : List Step) (valid : Valid s
   tick-late words was t g later small = exact .late past (g .live) (subst (λ (n : ℕ). n < t) (g .due-is) later) small
 
   -- the row that the machine makes of one that breaks
+  broken-fits-for : (s : Step) (words : List ℕ) (cause moment : ℕ) → length words ≡ 64 → Open c steps → ¬ Open c (steps ++ (s ∷ []))
+      → Cause c (steps ++ (s ∷ [])) (length steps + 1) cause moment
+      → Fits c exact (steps ++ (s ∷ [])) (rowFrom (parametersOf c) words (brokenFor cause moment (length steps + 1)))
+  broken-fits-for s words cause moment whole o shut why =
+      record {
+        parameters-is = refl;
+        whole = whole;
+        state = inr (record { counted = omega arith; first = broken-now c steps s valid o shut; why = why });
+      }
+
   broken-fits : (s : Step) (words : List ℕ) (was : State) (t : ℕ) (closes : Bool) → length words ≡ 64 → Open c steps → ¬ Open c (steps ++ (s ∷ []))
       → Cause c (steps ++ (s ∷ [])) (length steps + 1) (causeBy (was .due) t closes) (momentBy (was .due) t)
       → Fits c exact (steps ++ (s ∷ [])) (brokenRow (rowFrom (parametersOf c) words was) t closes (length steps + 1))
   unfolding brokenRow
   broken-fits s words was t closes whole o shut why =
-      record {
-        parameters-is = refl;
-        whole = whole;
-        state = inr (record {
-          counted = omega arith;
-          first = broken-now c steps s valid o shut;
-          why = rw (lt-ltb 0 (length steps + 1) (omega arith)) why;
-        });
-      }
+      broken-fits-for s words (causeBy (was .due) t closes) (momentBy (was .due) t) whole o shut why
 
   -- this step is the last
   here : (s : Step) → StepAt (steps ++ (s ∷ [])) (length steps + 1) steps s
@@ -246,10 +250,9 @@ module _ (c : Constraint) (exact : Exact c) (steps : List Step) (valid : Valid s
 
       -- an event of the row's own that comes in time breaks it by itself
       event-why : among (kindOf k) (kinds c) ≡ true → t ≤ was .due
-          → Cause c (steps ++ (event k t ∷ [])) (length steps + 1) (causeBy (was .due) t false) (momentBy (was .due) t)
+          → Cause c (steps ++ (event k t ∷ [])) (length steps + 1) 2 t
       event-why own soon =
-          rw (le-ltb (was .due) t soon)
-          (by-event steps k t (here (event k t)) own (λ later. open-tick words was g (accepts .not-closed) t later (accepts .time-small) soon))
+          by-event steps k t (here (event k t)) own (λ later. open-tick words was g (accepts .not-closed) t later (accepts .time-small) soon)
 
       -- an event of no stream of the row's
       event-other : t ≤ was .due → among k (streams c) ≡ false → Fits c exact (steps ++ (event k t ∷ [])) row-was
@@ -311,9 +314,9 @@ module _ (c : Constraint) (exact : Exact c) (steps : List Step) (valid : Valid s
           rw (le-ltb waitingLimit (was .len) (g .room))
           (split (change .breaks)
           (λ x. cond x (¬ Open c (steps ++ (event k t ∷ []))) (Goes change)
-          → Holds (cond x (stays (brokenRow row-was t false (length steps + 1)))
+          → Holds (cond x (stays (brokenByEvent row-was t (length steps + 1)))
           (cond (ltb waitingLimit (length (changed (change .edit) (itemsOf row-was)))) (crowding row-was) (stays (applied row-was change)))))
-          (λ e shut. broken-fits (event k t) words was t false whole (going-open words was (accepts .not-closed) g) shut (event-why own soon))
+          (λ e shut. broken-fits-for (event k t) words 2 t whole (going-open words was (accepts .not-closed) g) shut (event-why own soon))
           (λ e goes. goes-after change goes) by)
 
       -- the event is of one of the row's kinds

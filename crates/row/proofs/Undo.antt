@@ -1,7 +1,9 @@
 -- A row that a step may change is put back word for word: an edit writes at its own place, or there and at the next, and a break writes no word. A
 -- row that it may not change stays as it is.
-use Rattle.row.proofs.Names.{RowUndo, Bool, Change, List, StepInput, Row, RowStep, _&&_, _≡_, ap, applied, backRow, both, brokenRow, changed}
-use Rattle.row.proofs.Names.{changedRow, concerns, cond, crowding, decide, edit-back, editPlace, eq-eqb, eqb, false, itemsOf, length, ltb}
+use Rattle.row.proofs.Names.{RowUndo, Bool, Change, List, StepInput, Row, RowStep, _&&_, _≡_, ap, applied, backRow}
+use Rattle.row.proofs.Names.{both, brokenByEvent, brokenRow}
+use Rattle.row.proofs.Names.{changed, changedRow, concerns, cond, crowding, decide, edit-back, editPlace, eq-eqb, eqb, false}
+use Rattle.row.proofs.Names.{itemsOf, length, ltb}
 use Rattle.row.proofs.Names.{movesBy, ne-eqb, putBack, refl, ringOf, rowFrom, rowStep, rowWithout, same-back, savedAt, savedBy, savedRow}
 use Rattle.row.proofs.Names.{secondAt, split, stays, stepPlace, timeAt, true, waitingLimit, ℕ}
 
@@ -22,6 +24,10 @@ module _ (r : Row) (whole : length (r .times) ≡ 64) where
   unfolding backRow brokenRow
   back-broken place t closes n number = ap (λ (words : List ℕ). rowFrom (r .parameters) words (r .now)) (back-words place)
 
+  back-event : (place t n : ℕ) → Back place (brokenByEvent r t n)
+  unfolding backRow
+  back-event place t n number = ap (λ (words : List ℕ). rowFrom (r .parameters) words (r .now)) (back-words place)
+
   -- one with a change
   abbrev at : Change → ℕ
   at change = editPlace (change .edit) (ringOf (r .times) (r .now .head) (r .now .len))
@@ -36,9 +42,9 @@ module _ (r : Row) (whole : length (r .times) ≡ 64) where
   unfolding changedRow
   back-changed change t n =
       split (ltb waitingLimit (r .now .len))
-      (λ x. Back (at change) (cond x (crowding r) (cond (change .breaks) (stays (brokenRow r t false n)) goes) .row))
+      (λ x. Back (at change) (cond x (crowding r) (cond (change .breaks) (stays (brokenByEvent r t n)) goes) .row))
       (λ e. back-same (at change))
-      (λ e. split (change .breaks) (λ x. Back (at change) (cond x (stays (brokenRow r t false n)) goes .row)) (λ f. back-broken (at change) t false n)
+      (λ e. split (change .breaks) (λ x. Back (at change) (cond x (stays (brokenByEvent r t n)) goes .row)) (λ f. back-event (at change) t n)
       (λ f. split more (λ x. Back (at change) (cond x (crowding r) (stays (applied r change)) .row)) (λ g. back-same (at change))
       (λ g. back-applied change)))
     where

@@ -1,7 +1,7 @@
 -- What a row's words keep by an event is all that the row was, where what its type never stores is 0; and that stays so: a type changes only marks
 -- that it keeps, and a row that breaks or begins has none.
 use Rattle.row.proofs.Names.{RowUndo, Constraint, StepInput, RestZero, Row, State, Unused, _∙_, _≡_, ap, applied, undoOfEvent, appliedKeeps}
-use Rattle.row.proofs.Names.{appliedRow, arith, backRow, both, brokenRow, brokenState, changeBy, concerns, cond, endedRow, endedSaves}
+use Rattle.row.proofs.Names.{appliedRow, arith, backRow, both, brokenByEvent, brokenState, changeBy, concerns, cond, endedRow, endedSaves}
 use Rattle.row.proofs.Names.{endedState, endsBy, eqb, eqb-true, eventKeeps, eventRow, eventSaves, false, itemsOf, keptAtPlace, savedRegisters}
 use Rattle.row.proofs.Names.{keptWithout, ltb, ltb-false, noRowUndo, noRegisters, refl, rowFrom, rowOf, rowWithout, parametersOf, savedAt}
 use Rattle.row.proofs.Names.{secondAt}
@@ -70,10 +70,10 @@ module _ (r : Row) (b : RowUndo) where
   -- ---- it stays so
 
   applied-rest-zero : (o : StepInput) (number : ℕ) → RestZero r b → r .now .broken ≡ 0 → RestZero (appliedRow r o number) (undoOfEvent r o number)
-  unfolding withChange brokenRow applied
+  unfolding withChange applied
   applied-rest-zero o number f is-open =
       split (changeBy r o .breaks)
-      (λ x. RestZero (cond x (brokenRow r (o .time) false number) (applied r (changeBy r o))) (undoOfEvent r o number))
+      (λ x. RestZero (cond x (brokenByEvent r (o .time) number) (applied r (changeBy r o))) (undoOfEvent r o number))
       (λ _. record { now-unused = none-unused (r .parameters .tag); past-unused = f .now-unused; past-open = is-open })
       (λ _.
       record {

@@ -17,6 +17,7 @@ use Rattle.row_type.specs.declared.Registers.{Registers}
 use Rattle.row_type.specs.declared.Change.{Change}
 use Rattle.row_type.specs.declared.State.{State}
 use Rattle.row_type.specs.Machine.{Machine, noMachine}
+use Rattle.row_type.specs.Words.{brokenFor, brokenAt}
 use Rattle.row.specs.declared.StepInput.{StepInput}
 use Rattle.row.specs.declared.Row.{Row}
 use Rattle.row.specs.declared.RowStep.{RowStep}
@@ -98,22 +99,16 @@ causeBy due t closes = cond (ltb due t) 1 (cond closes 3 2)
 abbrev pub momentBy : ℕ → ℕ → ℕ
 momentBy due t = cond (ltb due t) due t
 
--- the row broken at a step: it keeps the step, the cause and the moment, and holds nothing waiting. Cause and moment stand where an open row has the
--- start of its ring and the mark for kept
+-- the row broken at a step: it keeps the step, the cause and the moment, and holds nothing waiting
 abbrev pub brokenState : State → ℕ → Bool → ℕ → State
-brokenState was t closes number =
-    record {
-      registers = noRegisters;
-      head = cond (ltb 0 number) (causeBy (was .due) t closes) 0;
-      len = 0;
-      due = noLimit;
-      kept = cond (ltb 0 number) (momentBy (was .due) t) 0;
-      broken = number;
-    }
+brokenState was t closes number = brokenFor (causeBy (was .due) t closes) (momentBy (was .due) t) number
 
--- §6.4
+-- §6.4: so by the clock or the close, and by an event at t, which comes in time
 unfoldable pub brokenRow : Row → ℕ → Bool → ℕ → Row
 brokenRow r t closes number = rowFrom (r .parameters) (r .times) (brokenState (r .now) t closes number)
+
+abbrev pub brokenByEvent : Row → ℕ → ℕ → Row
+brokenByEvent r t number = rowFrom (r .parameters) (r .times) (brokenAt t number)
 
 -- the row with a ring and what a change says of the rest
 abbrev pub goingRow : Parameters → Ring → Change → Row
@@ -136,7 +131,7 @@ crowding r = record { crowded = true; row = r }
 unfoldable pub changedRow : Row → Change → ℕ → ℕ → RowStep
 changedRow r change t number =
     cond (ltb waitingLimit (r .now .len)) (crowding r)
-    (cond (change .breaks) (stays (brokenRow r t false number))
+    (cond (change .breaks) (stays (brokenByEvent r t number))
     (cond (ltb waitingLimit (length (changed (change .edit) (itemsOf r)))) (crowding r)
     (stays (applied r change))))
 

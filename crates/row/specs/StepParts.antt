@@ -11,7 +11,7 @@ use Rattle.row_type.specs.declared.Change.{Change}
 use Rattle.row.specs.declared.RowUndo.{RowUndo}
 use Rattle.row.specs.declared.StepInput.{StepInput}
 use Rattle.row.specs.declared.Row.{Row}
-use Rattle.row.specs.Machine.{machineOf, decide, concerns, itemsOf, brokenState, brokenRow, applied}
+use Rattle.row.specs.Machine.{machineOf, decide, concerns, itemsOf, brokenState, brokenRow, brokenByEvent, applied}
 use Rattle.row.specs.Undo.{savedAt}
 
 -- ---- the question for 64 (§8.12)
@@ -58,7 +58,7 @@ changeBy r o = decide (r .parameters) (r .now .registers) (itemsOf r) (o .stream
 
 -- the row with a change that does not crowd it: broken, or with the change
 unfoldable pub withChange : Row → Change → ℕ → ℕ → Row
-withChange r change t number = cond (change .breaks) (brokenRow r t false number) (applied r change)
+withChange r change t number = cond (change .breaks) (brokenByEvent r t number) (applied r change)
 
 -- the row after an event that concerns it, where it is not overdue and has room
 abbrev pub appliedRow : Row → StepInput → ℕ → Row

@@ -1,7 +1,7 @@
 -- A row where it lies: the words that it is, with what is kept of it, and what a step, a withdrawal and a fresh start make of them.
 use Prim.Native.Nat.{ℕ, _-_, min}
 use mathlib.Core.Path.{_≡_}
-use mathlib.Core.Bool.{Bool, cond}
+use mathlib.Core.Bool.{cond}
 use mathlib.Core.List.{List}
 use lib.ListN.{getD}
 use lib.Dec.{eqb, ltb}
@@ -14,7 +14,7 @@ use Rattle.row_type.specs.Words.{UndoRecord, rowWords, registersAt, changedWord
 use Rattle.row.specs.declared.RowUndo.{RowUndo}
 use Rattle.row.specs.declared.StepInput.{StepInput}
 use Rattle.row.specs.declared.Row.{Row}
-use Rattle.row.specs.Machine.{machineOf, decide, concerns, rowFrom, eventAt, causeBy, momentBy}
+use Rattle.row.specs.Machine.{machineOf, decide, concerns, rowFrom, eventAt}
 use Rattle.row.specs.Undo.{noRowUndo, savedAt, rowWithout, keptWithout}
 use Rattle.row.specs.StepParts.{endsBy, endedState, changeBy, appliedRow, writesAt, undoOfEvent}
 
@@ -33,21 +33,6 @@ wordsOfRow r b = rowWords (r .parameters) (r .times) (r .now) (undoRecordOf b)
 abbrev pub stateAt : List ℕ → State
 stateAt w =
     record { registers = registersAt w; head = getD w 15 0; len = getD w 16 0; due = getD w 17 0; kept = getD w 18 0; broken = getD w 19 0 }
-
--- a state in which the cause and the moment are noted where it is broken, by its due time before the step to a time
-abbrev pub noted : State → ℕ → ℕ → Bool → State
-noted state due t closes =
-    record {
-      registers = state .registers;
-      head = cond (ltb 0 (state .broken)) (causeBy due t closes) (state .head);
-      len = state .len;
-      due = state .due;
-      kept = cond (ltb 0 (state .broken)) (momentBy due t) (state .kept);
-      broken = state .broken;
-    }
-
-abbrev pub notedRow : Row → ℕ → ℕ → Bool → Row
-notedRow r due t closes = rowFrom (r .parameters) (r .times) (noted (r .now) due t closes)
 
 -- ---- what an event makes of a row that it concerns: a broken one stays as it is
 
@@ -135,12 +120,14 @@ hintAfterRow r room = cond (ltb 62 (r .now .len)) (min room (64 - slotsUsedBy (r
 
 -- ---- what a function on a row's words promises, whatever row they are
 
--- what an event of one of its streams makes of them, by its type
+-- what an event of one of its streams makes of them, by its type, where the row is not broken
 abbrev pub Changes : List (List ℕ) → ℕ → ℕ → ℕ → List (List ℕ) → Type 0
 Changes entry stream t number exit =
     (parameters : Parameters) (times : List ℕ) (state : State) (past : UndoRecord) → entry ≡ rowWords parameters times state past
-    → exit ≡ changedWords (savedRegisters (parameters .tag)) parameters times state past
-    (decide parameters (state .registers) (ring times (state .head) (state .len)) stream t) number
+    → exit ≡ cond (eqb (state .broken) 0)
+    (changedWords (savedRegisters (parameters .tag)) parameters times state past
+    (decide parameters (state .registers) (ring times (state .head) (state .len)) stream t) t number)
+    (rowWords parameters times state past)
 
 abbrev pub Becomes : List (List ℕ) → (Row → Row) → (Row → RowUndo → RowUndo) → List (List ℕ) → Type 0
 Becomes entry step saves exit = (r : Row) (b : RowUndo) → entry ≡ wordsOfRow r b → exit ≡ wordsOfRow (step r) (saves r b)

@@ -43,9 +43,7 @@ ghost use Rattle.row.specs.Machine.{eventAt, rowOf, rowStep};
 ghost use Rattle.row.specs.declared.RowUndo.{RowUndo};
 ghost use Rattle.row.specs.declared.Row.{Row};
 ghost use Rattle.row.specs.Stored.{undoRecordOf, wordsOfRow, eventRow, eventKeeps, endedRow, endedSaves, stepKeeps, Changes};
-ghost use Rattle.row.specs.Stored.{noted, appliedKeeps};
 ghost use Rattle.row.specs.Machine.{brokenRow, causeBy, momentBy};
-ghost use Rattle.row.specs.StepParts.{appliedRow};
 ghost use Rattle.row.specs.Undo.{savedAt};
 ghost use Rattle.row.specs.Stored.{larger, slotsUsedBy, slotsUsedIn, hintAfterRow, Becomes, Withdraws, stateAt, nothing};
 
@@ -66,12 +64,14 @@ fn state_at(w: &[u64; SIZE]) -> State
     }
 }
 
-// What an event of one of its streams makes of the row, by its type; a row of no type breaks.
+// What an event of one of its streams makes of the row, by its type; a row of no type breaks, and a broken one stays as it is. The remainder bounds
+// the number, and an arm for each below the bound lets the dispatch do without a test.
 fn apply_by_type(row: &mut [[u64; SIZE]; 2], stream: u64, t: u64, number: u64)
     ensures { λ _. ⌜ Changes (now (row .entry)) stream t number (now (row .exit)) ⌝ }
 {
-    let tag = row[1][row_words::TYPE_TAG];
-    match tag {
+    let live = row[1][row_words::LIVE] % 32;
+    match live {
+        0 => {}
         1 => delay::apply(row, stream, t, number),
         2 => strong_delay::apply(row, stream, t, number),
         3 | 5 => repeat::apply(row, stream, t, number),
@@ -87,14 +87,14 @@ fn apply_by_type(row: &mut [[u64; SIZE]; 2], stream: u64, t: u64, number: u64)
         14 => input_synchronization::apply(row, stream, t, number),
         15 => pattern::apply(row, stream, t, number),
         16 => arbitrary::apply(row, stream, t, number),
-        _ => row_words::break_at(row, number),
+        17 | 19 | 21 | 23 | 25 | 27 | 29 | 31 => row_words::break_at(row, t, number),
+        18 | 20 | 22 | 24 | 26 | 28 | 30 => row_words::break_at(row, t, number),
+        _ => row_words::break_at(row, t, number),
     }
 }
 
-// Why a row is broken: it was overdue, an event broke it, or the close did.
+// Why a row is broken: it was overdue, or the close broke it. An event does by `row_words::break_at`.
 pub const OVERDUE: u64 = 1;
-
-pub const BY_EVENT: u64 = 2;
 
 pub const AT_CLOSE: u64 = 3;
 
@@ -108,7 +108,7 @@ fn cause_of(due: u64, time: u64, closes: bool) -> u64
     if closes {
         return AT_CLOSE;
     }
-    BY_EVENT
+    row_words::BY_EVENT
 }
 
 // Returns the moment of the break.
@@ -121,44 +121,21 @@ fn moment_of(due: u64, time: u64) -> u64
     time
 }
 
-// Notes the cause and the moment of a break, if a step to a time has broken the row, which was due at a time. They take the places of two words that
-// a broken row does not use.
-fn note_cause(w: &mut [u64; SIZE], due: u64, time: u64, closes: bool)
-    ensures { λ _. ⌜ NumbersBecome (λ state past. noted state due time closes) (λ state past. past) (now (w .entry)) (now (w .exit)) ⌝ }
-{
-    if w[row_words::BROKEN] == 0 {
-        return;
-    }
-    w[row_words::HEAD] = cause_of(due, time, closes);
-    w[row_words::KEPT] = moment_of(due, time);
-}
-
-// The row breaks at the step of that number, to a time.
+// The row breaks at the step of that number, to a time, which is no event of the row.
 fn break_for(row: &mut [[u64; SIZE]; 2], time: u64, closes: bool, number: u64)
     ensures { λ _. ⌜ Becomes (now (row .entry)) (λ r. brokenRow r time closes number) (λ r b. savedAt r 0 number) (now (row .exit)) ⌝ }
 {
     let due = row[1][row_words::DUE];
-    row_words::break_at(row, number);
-    note_cause(&mut row[1], due, time, closes);
-}
-
-// What an event of one of its streams makes of a row that is not broken.
-fn apply_event(row: &mut [[u64; SIZE]; 2], stream: u64, t: u64, number: u64)
-    ensures { λ _. ⌜ ((r : Row) (b : RowUndo) → now (row .entry) ≡ wordsOfRow r b → r .now .broken ≡ 0
-        → now (row .exit) ≡ wordsOfRow (appliedRow r (eventAt stream t) number) (appliedKeeps r b (eventAt stream t) number)) ⌝ }
-{
-    let due = row[1][row_words::DUE];
-    apply_by_type(row, stream, t, number);
-    note_cause(&mut row[1], due, t, false);
+    row_words::break_at(row, time, number);
+    row[1][row_words::HEAD] = cause_of(due, time, closes);
+    row[1][row_words::KEPT] = moment_of(due, time);
 }
 
 // The row after an event that concerns it, which is the step of that number.
 pub fn event(row: &mut [[u64; SIZE]; 2], stream: u64, t: u64, number: u64)
     ensures { λ _. ⌜ Becomes (now (row .entry)) (eventRow (eventAt stream t) number) (eventKeeps (eventAt stream t) number) (now (row .exit)) ⌝ }
 {
-    if row[1][row_words::BROKEN] == 0 {
-        apply_event(row, stream, t, number);
-    }
+    apply_by_type(row, stream, t, number);
 }
 
 // The row where the clock or the close alone goes to it, which is the step of that number.
@@ -215,6 +192,7 @@ fn put_parameters(w: &mut [u64; SIZE], parameters: Parameters)
     w[row_words::JITTER] = parameters.jitter;
     w[row_words::MINIMUM] = parameters.minimum;
     w[row_words::FIFTH] = parameters.fifth;
+    w[row_words::LIVE] = row_words::live_of(parameters.tag, 0);
 }
 
 // What a row keeps is put into its numbers.
@@ -232,6 +210,7 @@ fn put_state(w: &mut [u64; SIZE], state: State)
     w[row_words::DUE] = state.due;
     w[row_words::KEPT] = state.kept;
     w[row_words::BROKEN] = state.broken;
+    w[row_words::LIVE] = row_words::live_of(w[row_words::TYPE_TAG], state.broken);
 }
 
 // So is what is kept of it.

@@ -1,10 +1,11 @@
 -- The words of a row where it lies: two arrays of 64. The one is the ring of its times; the other has its constraint's numbers, what it keeps, what
 -- it kept before its last step, and what that step overwrote in the ring (§3.13).
-use Prim.Native.Nat.{ℕ}
+use Prim.Native.Nat.{ℕ, min}
 use mathlib.Core.Path.{_≡_}
 use mathlib.Core.Bool.{Bool, cond}
 use mathlib.Core.List.{List, [], _∷_}
 use lib.ListN.{getD, replicate}
+use lib.Dec.{eqb}
 use Rattle.constraint.specs.Limits.{noLimit}
 use Rattle.ring.specs.Ring.{Ring, ringOf, ring, edited, editPlace, timeAt, secondAt}
 use Rattle.ring.specs.declared.Edit.{Edit}
@@ -18,7 +19,7 @@ use Rattle.row_type.specs.declared.Change.{Change}
 
 -- the places after the last number are 0
 abbrev pub spare : List ℕ
-spare = replicate 29 0
+spare = replicate 28 0
 
 -- what a row was before its last step: what it kept, where the step wrote into its ring and the words there, and the number of that step
 pub record UndoRecord : Type 0 where
@@ -27,6 +28,13 @@ pub record UndoRecord : Type 0 where
   pub first : ℕ
   pub second : ℕ
   pub step : ℕ
+
+-- what an event dispatches on: the number of the row's type, or 31 for a larger one and for 0, which is no type's; 0 once the row is broken
+abbrev pub typed : ℕ → ℕ
+typed tag = cond (eqb tag 0) 31 (min tag 31)
+
+abbrev pub liveOf : ℕ → ℕ → ℕ
+liveOf tag broken = cond (eqb broken 0) (typed tag) 0
 
 unfoldable pub numberWords : Parameters → State → UndoRecord → List ℕ
 numberWords parameters state past =
@@ -37,7 +45,8 @@ numberWords parameters state past =
     ∷ past .state .registers .last ∷ past .state .registers .first ∷ past .state .registers .second ∷ past .state .registers .third
     ∷ past .state .registers .fourth
     ∷ past .state .head ∷ past .state .len ∷ past .state .due ∷ past .state .kept ∷ past .state .broken
-    ∷ past .place ∷ past .first ∷ past .second ∷ past .step ∷ parameters .fifth ∷ spare
+    ∷ past .place ∷ past .first ∷ past .second ∷ past .step ∷ parameters .fifth
+    ∷ liveOf (parameters .tag) (state .broken) ∷ spare
 
 unfoldable pub rowWords : Parameters → List ℕ → State → UndoRecord → List (List ℕ)
 rowWords parameters times state past = times ∷ numberWords parameters state past ∷ []
@@ -139,9 +148,14 @@ countsSaved registers past =
 
 -- ---- what an event makes of them
 
--- a row that is broken at a step keeps the step, and nothing waits in it
-abbrev pub brokenAt : ℕ → State
-brokenAt number = record { registers = noRegisters; head = 0; len = 0; due = noLimit; kept = 0; broken = number }
+-- a row that is broken keeps the step, and nothing waits in it. Cause and moment stand where an open row has the start of its ring and the mark for
+-- kept
+abbrev pub brokenFor : ℕ → ℕ → ℕ → State
+brokenFor cause moment number = record { registers = noRegisters; head = cause; len = 0; due = noLimit; kept = moment; broken = number }
+
+-- so is one that an event at t breaks: the cause is 2 (§15.14)
+abbrev pub brokenAt : ℕ → ℕ → State
+brokenAt t number = brokenFor 2 t number
 
 -- what a row keeps with another ring
 abbrev pub withRing : State → Ring → State
@@ -158,11 +172,11 @@ abbrev pub settled : State → ℕ → ℕ → State
 settled state due kept =
     record { registers = state .registers; head = state .head; len = state .len; due = due; kept = kept; broken = state .broken }
 
--- the row's words after a change that does not crowd it, made by the step of that number, of a type that keeps some of the marks
-unfoldable pub changedWords : (Registers → Registers → Registers) → Parameters → List ℕ → State → UndoRecord → Change → ℕ → List (List ℕ)
-changedWords keeps parameters times state past change number =
+-- the row's words after a change that does not crowd it, made by an event at t, the step of that number, of a type that keeps some of the marks
+unfoldable pub changedWords : (Registers → Registers → Registers) → Parameters → List ℕ → State → UndoRecord → Change → ℕ → ℕ → List (List ℕ)
+changedWords keeps parameters times state past change t number =
     cond (change .breaks)
-    (rowWords parameters times (brokenAt number) (undoOf times state (editPlace (change .edit) (ringOf times (state .head) (state .len))) number))
+    (rowWords parameters times (brokenAt t number) (undoOf times state (editPlace (change .edit) (ringOf times (state .head) (state .len))) number))
     (rowWords parameters (edited (change .edit) (ringOf times (state .head) (state .len)) .times)
     (goingOn state (edited (change .edit) (ringOf times (state .head) (state .len))) (change .registers) (change .due) (change .kept))
     (undoButRegisters times state (undoWith past (keeps (state .registers) (past .state .registers)))
@@ -194,10 +208,11 @@ SavesUndoAll entry number exit =
     (parameters : Parameters) (times : List ℕ) (state : State) (past : UndoRecord) → entry ≡ rowWords parameters times state past
     → exit ≡ rowWords parameters times state (undoOf times state 0 number)
 
-abbrev pub BreaksRow : List (List ℕ) → ℕ → List (List ℕ) → Type 0
-BreaksRow entry number exit =
+-- the row breaks by an event at t
+abbrev pub BreaksRow : List (List ℕ) → ℕ → ℕ → List (List ℕ) → Type 0
+BreaksRow entry t number exit =
     (parameters : Parameters) (times : List ℕ) (state : State) (past : UndoRecord) → entry ≡ rowWords parameters times state past
-    → exit ≡ rowWords parameters times (brokenAt number) (undoOf times state 0 number)
+    → exit ≡ rowWords parameters times (brokenAt t number) (undoOf times state 0 number)
 
 -- the ring is edited, and what the row was but for its marks is its past
 abbrev pub Edits : List (List ℕ) → Edit → ℕ → List (List ℕ) → Type 0
@@ -207,11 +222,16 @@ Edits entry edit number exit =
     (withRing state (edited edit (ringOf times (state .head) (state .len))))
     (undoButRegisters times state past (editPlace edit (ringOf times (state .head) (state .len))) number)
 
--- a change that the row's own numbers, marks and times give is made where the words lie, by a type that keeps some of the marks
-abbrev pub Makes : (Registers → Registers → Registers) → List (List ℕ) → (Parameters → Registers → List ℕ → Change) → ℕ → List (List ℕ) → Type 0
-Makes keeps entry change number exit =
+-- a change that the row's own numbers, marks and times give is made where the words lie, by an event at t of a type that keeps some of the marks
+abbrev pub MakesAt : (Registers → Registers → Registers) → List (List ℕ) → (Parameters → Registers → List ℕ → Change) → ℕ → ℕ → List (List ℕ)
+    → Type 0
+MakesAt keeps entry change t number exit =
     (parameters : Parameters) (times : List ℕ) (state : State) (past : UndoRecord) → entry ≡ rowWords parameters times state past
-    → exit ≡ changedWords keeps parameters times state past (change parameters (state .registers) (ring times (state .head) (state .len))) number
+    → exit ≡ changedWords keeps parameters times state past (change parameters (state .registers) (ring times (state .head) (state .len))) t number
+
+-- so is a change that breaks no row: its time does not matter
+abbrev pub Makes : (Registers → Registers → Registers) → List (List ℕ) → (Parameters → Registers → List ℕ → Change) → ℕ → List (List ℕ) → Type 0
+Makes keeps entry change number exit = MakesAt keeps entry change 0 number exit
 
 -- such a change where the times of the row wait, which keeps no marks by itself
 abbrev pub MakesWaiting : List (List ℕ) → Edit → ℕ → List (List ℕ) → Type 0
@@ -220,5 +240,5 @@ MakesWaiting entry edit number exit = Makes noneSaved entry (λ parameters regis
 -- the function of a row type: its machine's change is made
 abbrev pub Applies : (Registers → Registers → Registers) → (Parameters → Registers → List ℕ → ℕ → ℕ → Change) → List (List ℕ) → ℕ → ℕ → ℕ
     → List (List ℕ) → Type 0
-Applies keeps machine entry stream t number exit = Makes keeps entry (λ parameters registers times. machine parameters registers times stream t)
-    number exit
+Applies keeps machine entry stream t number exit = MakesAt keeps entry (λ parameters registers times. machine parameters registers times stream t)
+    t number exit

@@ -3,6 +3,7 @@ use crate::Parameters;
 use crate::Registers;
 use crate::parts::due_after;
 use crate::parts::plus;
+use crate::parts::smaller;
 use constraint::NO_LIMIT;
 use ring::SIZE;
 use ring::head_after;
@@ -18,7 +19,7 @@ ghost use Rattle.row_type.specs.declared.Parameters.{Parameters};
 ghost use Rattle.row_type.specs.declared.Registers.{Registers};
 ghost use Rattle.row_type.specs.Words.{parametersAt, registersAt, brokenAt, settled, lastSaved, firstThreeSaved, countsSaved};
 ghost use Rattle.row_type.specs.Words.{NumbersBecome, numbersSaved, SavesUndoRegisters, SavesUndo, SavesUndoAll, BreaksRow, Edits};
-ghost use Rattle.row_type.specs.Words.{MakesWaiting};
+ghost use Rattle.row_type.specs.Words.{MakesWaiting, liveOf};
 ghost use Rattle.ring.specs.declared.Edit.the-variants.{Drop, Push, PushTwo, Store};
 
 // The constraint's numbers.
@@ -94,6 +95,12 @@ pub const UNDO_STEP: usize = 33;
 
 // The fifth kind of the constraint.
 pub const FIFTH: usize = 34;
+
+// The row's type while the row is not broken, and 0 once it is: what an event dispatches on.
+pub const LIVE: usize = 35;
+
+// The number of no type.
+const NO_TYPE: u64 = 31;
 
 // The constraint's numbers as a rule.
 pub fn parameters_at(w: &[u64; SIZE]) -> Parameters
@@ -178,20 +185,37 @@ pub fn save_undo_counts(row: &mut [[u64; SIZE]; 2])
     row[1][UNDO_FOUR] = four;
 }
 
-// A row's state is that of one that is broken at a step.
-fn break_numbers(w: &mut [u64; SIZE], number: u64)
-    ensures { λ _. ⌜ NumbersBecome (λ state past. brokenAt number) (λ state past. past) (now (w .entry)) (now (w .exit)) ⌝ }
+// Returns what an event of a row dispatches on: its type, and 0 once it is broken.
+pub fn live_of(tag: u64, broken: u64) -> u64
+    ensures { λ r. ⌜ r ≡ liveOf tag broken ⌝ }
+{
+    if broken == 0 {
+        if tag == 0 {
+            return NO_TYPE;
+        }
+        return smaller(tag, NO_TYPE);
+    }
+    0
+}
+
+// Why a row is broken, where an event breaks it.
+pub const BY_EVENT: u64 = 2;
+
+// A row's state is that of one that an event at t breaks, by the step of that number. Cause and moment take two words that a broken row does not use.
+fn break_numbers(w: &mut [u64; SIZE], t: u64, number: u64)
+    ensures { λ _. ⌜ NumbersBecome (λ state past. brokenAt t number) (λ state past. past) (now (w .entry)) (now (w .exit)) ⌝ }
 {
     w[LAST] = 0;
     w[ONE] = 0;
     w[TWO] = 0;
     w[THREE] = 0;
     w[FOUR] = 0;
-    w[HEAD] = 0;
+    w[HEAD] = BY_EVENT;
     w[LEN] = 0;
     w[DUE] = NO_LIMIT;
-    w[KEPT] = 0;
+    w[KEPT] = t;
     w[BROKEN] = number;
+    w[LIVE] = live_of(w[TYPE_TAG], number);
 }
 
 // What the row is but for its marks becomes its past, before the step of that number, which overwrites words at a place.
@@ -215,12 +239,12 @@ pub fn save_undo_all(row: &mut [[u64; SIZE]; 2], number: u64)
     save_undo(row, 0, number);
 }
 
-// The row breaks at the step of that number, which overwrites nothing.
-pub fn break_at(row: &mut [[u64; SIZE]; 2], number: u64)
-    ensures { λ _. ⌜ BreaksRow (now (row .entry)) number (now (row .exit)) ⌝ }
+// An event at t breaks the row, by the step of that number, which overwrites nothing.
+pub fn break_at(row: &mut [[u64; SIZE]; 2], t: u64, number: u64)
+    ensures { λ _. ⌜ BreaksRow (now (row .entry)) t number (now (row .exit)) ⌝ }
 {
     save_undo_all(row, number);
-    break_numbers(&mut row[1], number);
+    break_numbers(&mut row[1], t, number);
 }
 
 // The ring stays as it is, before the step of that number.

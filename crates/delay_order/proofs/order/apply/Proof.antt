@@ -9,17 +9,18 @@ use Rattle.ring.specs.{Ring.dropRing, Ring.ringOf, declared.Edit.the-variants.D
 use Rattle.delay_order.proofs.order.apply.Tie as tie
 
 -- a change to other marks, as the words have it
-going-to : (parameters : Parameters) (times : List ℕ) (state : State) (past : UndoRecord) (registers : Registers) (number : ℕ)
-    → changedWords firstThreeSaved parameters times state past (changesTo registers) number
+going-to : (parameters : Parameters) (times : List ℕ) (state : State) (past : UndoRecord) (registers : Registers) (t number : ℕ)
+    → changedWords firstThreeSaved parameters times state past (changesTo registers) t number
     ≡ rowWords parameters times (goingOn state (dropRing 0 (ringOf times (state .head) (state .len))) registers (changesTo registers .due)
     (changesTo registers .kept))
     (undoButRegisters times state (undoWith past (firstThreeSaved (state .registers) (past .state .registers))) 0 number)
 unfolding changedWords changesTo
-going-to parameters times state past registers number = either (eqb (earlyOf registers) 0) noLimit (earlyOf registers - 1) (eqb (aheadOf registers) 0)
+going-to parameters times state past registers t number = either (eqb (earlyOf registers) 0) noLimit (earlyOf registers - 1)
+    (eqb (aheadOf registers) 0)
     false
   where
     either : (b : Bool) (d f : ℕ) (k l : Bool) → changedWords firstThreeSaved parameters times state past
-        (cond b (continuesWith (Drop 0) registers d k) (continuesWith (Drop 0) registers f l)) number
+        (cond b (continuesWith (Drop 0) registers d k) (continuesWith (Drop 0) registers f l)) t number
         ≡ rowWords parameters times
         (goingOn state (dropRing 0 (ringOf times (state .head) (state .len))) registers
         (cond b (continuesWith (Drop 0) registers d k) (continuesWith (Drop 0) registers f l) .due)

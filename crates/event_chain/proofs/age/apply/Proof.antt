@@ -19,7 +19,7 @@ returns c parameters times state past e =
     (afterResponseAge (parameters .lower) (parameters .upper) low high (s .t)) =
     a .after-stimulus .ensures ∙ rw (h .word2 .ensures, e, ← k .kind-of .ensures, eq-eqb _ _ (rw e at (i .if1 .taken))) refl in
     c .store .ensures parameters times state past e
-    ∙ ap (λ (p : Pair). changedWords noneSaved parameters times state past (aged (state .registers) words (s .stream % 8) p) (s .number)) pair
+    ∙ ap (λ (p : Pair). changedWords noneSaved parameters times state past (aged (state .registers) words (s .stream % 8) p) (s .t) (s .number)) pair
 
 returns-2 : tie.Need-returns-2
 unfolding rowWords numberWords decideAge
@@ -33,7 +33,7 @@ returns-2 c parameters times state past e =
     (afterResponseAge (parameters .lower) (parameters .upper) low high (s .t)) =
     a .after-response .ensures ∙ rw (h .word2 .ensures, l .word .ensures, e, ← k .kind-of .ensures, ne-eqb _ _ (rw e at (i .if1 .left))) refl in
     c .store2 .ensures parameters times state past e
-    ∙ ap (λ (p : Pair). changedWords noneSaved parameters times state past (aged (state .registers) words (s .stream % 8) p) (s .number)) pair
+    ∙ ap (λ (p : Pair). changedWords noneSaved parameters times state past (aged (state .registers) words (s .stream % 8) p) (s .t) (s .number)) pair
 
 pub apply-spec : {M : Type 1} → statement M
 apply-spec =

@@ -20,10 +20,10 @@ returns c parameters times state past e =
     c .break-at .ensures parameters times state past e
     ∙ ap (λ (b : Bool). changedWords noneSaved parameters times state past
     (cond b breaking (noted (owedOutput (s .kinds) (s .tolerance)) (state .registers) words (s .colour) (s .kind)
-    (wordOutput (s .kinds) (wordsAt words (s .colour)) (s .kind) (s .t)))) (s .number)) (sym breaks)
+    (wordOutput (s .kinds) (wordsAt words (s .colour)) (s .kind) (s .t)))) (s .t) (s .number)) (sym breaks)
 
 returns-2 : tie.Need-returns-2
-unfolding rowWords numberWords
+unfolding rowWords numberWords changedWords
 returns-2 c parameters times state past e =
     let v = c .before .before in let i = v .before in let b = i .before in let w = b .before .before in
     let s = w .before .before .before .before .args in
@@ -35,10 +35,10 @@ returns-2 c parameters times state past e =
     v .first-word .ensures ∙ ap (λ (v : List ℕ). firstWord (at v (s .kind)) (s .t)) is in
     c .note .ensures parameters times state past e
     ∙ ap (λ (x : ℕ). changedWords noneSaved parameters times state past
-    (noted (owedOutput (s .kinds) (s .tolerance)) (state .registers) words (s .colour) (s .kind) x) (s .number)) value
+    (noted (owedOutput (s .kinds) (s .tolerance)) (state .registers) words (s .colour) (s .kind) x) (s .t) (s .number)) value
     ∙ ap (λ (b : Bool). changedWords noneSaved parameters times state past
     (cond b breaking (noted (owedOutput (s .kinds) (s .tolerance)) (state .registers) words (s .colour) (s .kind)
-    (wordOutput (s .kinds) (wordsAt words (s .colour)) (s .kind) (s .t)))) (s .number)) (sym goes)
+    (wordOutput (s .kinds) (wordsAt words (s .colour)) (s .kind) (s .t)))) (s .t) (s .number)) (sym goes)
 
 pub apply-output-spec : {M : Type 1} → statement M
 apply-output-spec =

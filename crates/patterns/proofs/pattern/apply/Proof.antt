@@ -38,7 +38,7 @@ returns c parameters times state past e =
     h .minus .ensures ∙ rw (p .plus .ensures, offset, e) refl in
     let far : g .minus2 .result ≡ a .t - at words (state .registers .first) = g .minus2 .ensures ∙ rw offset refl in
     c .place .ensures parameters times state past e
-    ∙ ap (λ (change : Change). changedWords countsSaved parameters times state past change (a .number))
+    ∙ ap (λ (change : Change). changedWords countsSaved parameters times state past change (a .t) (a .number))
     (first (parameters .span) (parameters .upper) (parameters .jitter) (parameters .minimum) (at words) (state .registers) (a .t) (h .minus .result)
     (g .minus2 .result)
     (eq-eqb _ _ (rw e at (i .if1 .taken))) near far)
@@ -65,7 +65,7 @@ returns-2 c parameters times state past e =
     ≡ (farEnough (parameters .minimum) (state .registers .fourth) (a .t) && (ltb 0 (state .registers .first) || ltb 0 (parameters .upper))) =
     rw e at (f .may-follow .ensures) in
     c .place2 .ensures parameters times state past e
-    ∙ ap (λ (change : Change). changedWords countsSaved parameters times state past change (a .number))
+    ∙ ap (λ (change : Change). changedWords countsSaved parameters times state past change (a .t) (a .number))
     (later (parameters .span) (parameters .upper) (parameters .jitter) (parameters .minimum) (at words) (state .registers) (a .t) (y .larger .result)
     (x .smaller .result)
     (ne-eqb _ _ (rw e at (o .if1 .left))) (sym follows ∙ i .if2 .taken) low high)
@@ -81,7 +81,7 @@ returns-3 c parameters times state past e =
     ≡ (farEnough (parameters .minimum) (state .registers .fourth) (a .t) && (ltb 0 (state .registers .first) || ltb 0 (parameters .upper))) =
     rw e at (f .may-follow .ensures) in
     c .break-at .ensures parameters times state past e
-    ∙ ap (λ (change : Change). changedWords countsSaved parameters times state past change (a .number))
+    ∙ ap (λ (change : Change). changedWords countsSaved parameters times state past change (a .t) (a .number))
     (stops (parameters .span) (parameters .upper) (parameters .jitter) (parameters .minimum) (at words) (state .registers) (a .t) 0 0
     (ne-eqb _ _ (rw e at (o .if1 .left))) (sym follows ∙ i .if2 .left))
 

@@ -25,7 +25,7 @@ module _ (n period jitter minimum : ℕ) (offset : ℕ → ℕ) (registers : Reg
   stops e = rw (← o-is, ← due-is, e) refl
 
 returns : tie.Need-returns
-unfolding rowWords numberWords
+unfolding rowWords numberWords changedWords
 returns c parameters times state past e =
     let d = c .before in let i = d .before .before in let p = i .before .before .before in let q = p .before .before in let r = q .before in
     let v = r .before in let s = v .before .before in let n = s .before .before in let w = n .before .before in
@@ -40,7 +40,7 @@ returns c parameters times state past e =
     (state .registers .first) (a .high) =
     p .plus3 .ensures ∙ rw (q .plus2 .ensures, r .plus .ensures, after, step, next, e) refl in
     c .go-on .ensures parameters times state past e
-    ∙ ap (λ (change : Change). changedWords countsSaved parameters times state past change (a .number))
+    ∙ ap (λ (change : Change). changedWords countsSaved parameters times state past change (a .t) (a .number))
     (goes (parameters .span) (parameters .upper) (parameters .jitter) (parameters .minimum) (at words) (state .registers) (a .t) (a .low) (a .high)
     (w .word .result)
     (n .number-after .result) (p .plus3 .result) offset next due (le-leb _ _ (i .before .before .if1 .taken)) (i .before .if2 .taken) (i .if3 .taken)
@@ -67,7 +67,7 @@ returns-2 c parameters times state past e =
     (⊎-elim (λ x. rw (le-leb _ _ (x .0 .taken), x .1 .left) refl) (λ x. rw (lt-leb _ _ (x .left)) refl))
     (j .if1 .came) in
     c .break-at .ensures parameters times state past e
-    ∙ ap (λ (change : Change). changedWords countsSaved parameters times state past change (a .number))
+    ∙ ap (λ (change : Change). changedWords countsSaved parameters times state past change (a .t) (a .number))
     (stops (parameters .span) (parameters .upper) (parameters .jitter) (parameters .minimum) (at words) (state .registers) (a .t) (a .low) (a .high)
     (w .word .result)
     (n .number-after .result) (p .plus3 .result) offset next due failed)

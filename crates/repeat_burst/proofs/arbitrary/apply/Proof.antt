@@ -25,7 +25,7 @@ module _ (n : ℕ) (registers : Registers) (words : List ℕ) (t : ℕ) where
   stops early = rw early refl
 
 returns : tie.Need-returns
-unfolding rowWords numberWords decideInWords
+unfolding rowWords numberWords changedWords decideInWords
 returns c parameters times state past e =
     let q = c .before in let f = q .before .before in let w = f .before in let s = w .before .before in let d = s .before in
     let i = d .before .before in let l = i .before in let m = l .before .before in
@@ -40,7 +40,7 @@ returns c parameters times state past e =
     let behind : w .word .result ≡ at words (s .slot .result + 1) = rw e at (w .word .ensures) in
     let next : f .following .result ≡ nextPlace (state .registers .first) = rw e at (f .following .ensures) in
     c .note .ensures parameters times state past e
-    ∙ ap (λ (change : Change). changedWords countsSaved parameters times state past change (a .number))
+    ∙ ap (λ (change : Change). changedWords countsSaved parameters times state past change (a .t) (a .number))
     (goes (min (parameters .span) 8) (state .registers) words (a .t) (sym late ∙ i .if1 .taken) (s .slot .result) (q .plus .result) (w .word .result)
     (f .following .result) (d .due-after .result) place (q .plus .ensures) behind next due)
 
@@ -54,7 +54,7 @@ returns-2 c parameters times state past e =
     let late : l .late-enough .result ≡ lateEnough (min (parameters .span) 8) (lowerIn words) 16 (state .registers .first) words (a .t) =
     l .late-enough .ensures ∙ rw (n, e) refl in
     c .break-at .ensures parameters times state past e
-    ∙ ap (λ (change : Change). changedWords countsSaved parameters times state past change (a .number))
+    ∙ ap (λ (change : Change). changedWords countsSaved parameters times state past change (a .t) (a .number))
     (stops (min (parameters .span) 8) (state .registers) words (a .t) (sym late ∙ i .if1 .left))
 
 pub apply-spec : {M : Type 1} → statement M

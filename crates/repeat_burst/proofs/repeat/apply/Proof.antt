@@ -77,7 +77,7 @@ returns-3 c parameters times state past e =
           (k .save-undo-last .ensures parameters times state past e),
       c .plus .ensures,
     )
-    (ap (λ (change : Change). changedWords lastSaved parameters times state past change (a .number)) (sym decided))
+    (ap (λ (change : Change). changedWords lastSaved parameters times state past change (a .t) (a .number)) (sym decided))
 
 pub apply-spec : {M : Type 1} → statement M
 apply-spec =

@@ -23,7 +23,8 @@ pub fn apply(row: &mut [[u64; SIZE]; 2], stream: u64, t: u64, number: u64)
     let ahead = row[1][AHEAD];
     if stream == row[1][row_words::FIRST] {
         if early == 0 {
-            store(&mut row[1], early, parts::plus(ahead, 1));
+            row_words::settle(&mut row[1], NO_LIMIT, 0);
+            row[1][AHEAD] = parts::plus(ahead, 1);
             return;
         }
         store(&mut row[1], 0, ahead);

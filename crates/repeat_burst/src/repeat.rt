@@ -12,28 +12,27 @@ ghost use Rattle.repeat_burst.specs.Repeat.{overflowsRepeat, takenRepeat
 pub fn apply(row: &mut [[u64; SIZE]; 2], stream: u64, t: u64, number: u64)
     ensures { λ _. ⌜ Applies lastSaved decideRepeat (now (row .entry)) stream t number (now (row .exit)) ⌝ }
 {
-    if !parts::far_enough(row[1][row_words::MINIMUM], row[1][row_words::LAST], t) {
+    if !parts::far_enough(row[1][row_words::MINIMUM], row[1][row_words::LAST], t) || !span_reached(row, t) {
         row_words::break_at(row, number);
         return;
     }
-    let head = row[1][row_words::HEAD] as usize;
-    let len = row[1][row_words::LEN] as usize;
-    let mut dropped = 0;
-    if row[1][row_words::SPAN] <= len as u64 {
-        if !parts::reaches(
-            parts::front(&row[0], head, len),
-            row[1][row_words::LOWER],
-            t,
-        ) {
-            row_words::break_at(row, number);
-            return;
-        }
-        dropped = 1;
-    }
     row_words::save_undo_last(row);
-    row_words::one_more_waits(row, dropped, t, number);
+    if row[1][row_words::LEN] < row[1][row_words::SPAN] {
+        row_words::one_more_waits(row, 0, t, number);
+    } else {
+        row_words::newest_for_oldest(row, t, number);
+    }
     row[1][row_words::LAST] = parts::plus(t, 1);
     row[1][row_words::KEPT] = 1;
+}
+
+fn span_reached(row: &[[u64; SIZE]; 2], t: u64) -> bool
+{
+    let len = row[1][row_words::LEN];
+    if len < row[1][row_words::SPAN] {
+        return true;
+    }
+    parts::reaches(parts::front(&row[0], row[1][row_words::HEAD] as usize, len as usize), row[1][row_words::LOWER], t)
 }
 
 // Whether an event lets one more be kept, where there is no room.

@@ -42,8 +42,7 @@ pub fn apply(row: &mut [[u64; SIZE]; 2], stream: u64, t: u64, number: u64)
     row_words::break_at(row, number);
 }
 
-fn highest(first: u64, upper: u64, span: u64, n: u64, t: u64) -> u64
-{
+fn highest(first: u64, upper: u64, span: u64, n: u64, t: u64) -> u64 {
     parts::smaller(t, parts::plus(parts::plus(first, minus(upper, span)), n))
 }
 

@@ -88,9 +88,8 @@ pub fn front(times: &[u64; SIZE], head: usize, len: usize) -> u64
 pub fn oldest_with(times: &[u64; SIZE], head: usize, len: usize, dropped: usize, t: u64) -> u64
     ensures { λ r. ⌜ r ≡ front (drop dropped (ring (now (times .entry)) head len) ++ (t ∷ [])) ⌝ }
 {
-    let first = time_at(times, head, dropped);
     if dropped < len {
-        return first;
+        return time_at(times, head, dropped);
     }
     t
 }

@@ -1,6 +1,5 @@
 // Sporadic: no times are kept; the last hidden point can be at each place from first to second, and last is one more
 // than the last event's time.
-use constraint::NO_LIMIT;
 use ring::SIZE;
 use ring::minus;
 use row_type::parts;
@@ -32,13 +31,12 @@ pub fn apply(row: &mut [[u64; SIZE]; 2], stream: u64, t: u64, number: u64)
         return;
     }
     let stride = stride(row[1][row_words::LOWER]);
-    if stride <= upper && parts::far_enough(row[1][row_words::MINIMUM], last, t) {
-        let low = parts::larger(parts::plus(row[1][LOW], stride), near);
-        let high = parts::smaller(parts::plus(row[1][HIGH], upper), t);
-        if low <= high {
-            place(row, t, low, high, number);
-            return;
-        }
+    let low = parts::larger(parts::plus(row[1][LOW], stride), near);
+    let high = latest(upper, row[1][HIGH], t);
+    let far = parts::far_enough(row[1][row_words::MINIMUM], last, t);
+    if stride <= upper && far && low <= high {
+        place(row, t, low, high, number);
+        return;
     }
     row_words::break_at(row, number);
 }
@@ -64,9 +62,6 @@ fn place(row: &mut [[u64; SIZE]; 2], t: u64, low: u64, high: u64, number: u64)
 fn latest(upper: u64, high: u64, t: u64) -> u64
     ensures { λ r. ⌜ r ≡ cond (eqb upper noLimit) t (min (plus high upper) t) ⌝ }
 {
-    if upper == NO_LIMIT {
-        return t;
-    }
     parts::smaller(parts::plus(high, upper), t)
 }
 

@@ -23,27 +23,21 @@ pub fn apply(row: &mut [[u64; SIZE]; 2], stream: u64, t: u64, number: u64)
     let span = row[1][row_words::SPAN];
     let upper = row[1][row_words::UPPER];
     let near = minus(t, row[1][row_words::JITTER]);
+    let first = parts::plus(first_high(&row[0], head, len, t), minus(upper, span));
+    let high = parts::smaller(t, parts::plus(first, n));
     if n < span {
-        let high = highest(first_high(&row[0], head, len, t), upper, span, n, t);
         row_words::push_two(row, 0, near, high, number);
         row_words::settle(&mut row[1], NO_LIMIT, 1);
         return;
     }
-    if span <= upper {
-        let high = highest(first_high(&row[0], head, len, t), upper, span, n, t);
-        let oldest = parts::front(&row[0], head, len);
-        let low = parts::larger(near, parts::plus(oldest, row[1][row_words::LOWER]));
-        if low <= high {
-            row_words::two_for_oldest(row, low, high, number);
-            row_words::settle(&mut row[1], NO_LIMIT, 1);
-            return;
-        }
+    let oldest = parts::front(&row[0], head, len);
+    let low = parts::larger(near, parts::plus(oldest, row[1][row_words::LOWER]));
+    if span <= upper && low <= high {
+        row_words::two_for_oldest(row, low, high, number);
+        row_words::settle(&mut row[1], NO_LIMIT, 1);
+        return;
     }
     row_words::break_at(row, number);
-}
-
-fn highest(first: u64, upper: u64, span: u64, n: u64, t: u64) -> u64 {
-    parts::smaller(t, parts::plus(parts::plus(first, minus(upper, span)), n))
 }
 
 // Whether an event lets two more numbers come, where there is no room for two.

@@ -1,6 +1,5 @@
 // Sporadic: no times are kept; the last hidden point can be at each place from first to second, and last is one more
 // than the last event's time.
-use constraint::NO_LIMIT;
 use ring::SIZE;
 use ring::minus;
 use row_type::parts;
@@ -34,7 +33,8 @@ pub fn apply(row: &mut [[u64; SIZE]; 2], stream: u64, t: u64, number: u64)
     let stride = stride(row[1][row_words::LOWER]);
     let low = parts::larger(parts::plus(row[1][LOW], stride), near);
     let high = latest(upper, row[1][HIGH], t);
-    if parts::far_enough(row[1][row_words::MINIMUM], last, t) && stride <= upper && low <= high {
+    let far = parts::far_enough(row[1][row_words::MINIMUM], last, t);
+    if stride <= upper && far && low <= high {
         place(row, t, low, high, number);
         return;
     }
@@ -62,9 +62,6 @@ fn place(row: &mut [[u64; SIZE]; 2], t: u64, low: u64, high: u64, number: u64)
 fn latest(upper: u64, high: u64, t: u64) -> u64
     ensures { λ r. ⌜ r ≡ cond (eqb upper noLimit) t (min (plus high upper) t) ⌝ }
 {
-    if upper == NO_LIMIT {
-        return t;
-    }
     parts::smaller(parts::plus(high, upper), t)
 }
 

@@ -33,7 +33,7 @@ pub fn apply(row: &mut [[u64; SIZE]; 2], stream: u64, t: u64, number: u64)
     let oldest = parts::front(&row[0], head, len);
     let low = parts::larger(near, parts::plus(oldest, row[1][row_words::LOWER]));
     if span <= upper && low <= high {
-        row_words::push_two(row, 2, low, high, number);
+        row_words::two_for_oldest(row, low, high, number);
         row_words::settle(&mut row[1], NO_LIMIT, 1);
         return;
     }

@@ -114,7 +114,7 @@ ring-push l f n p t size room e = rw (add-one, ring-snoc, ring-set l f n p t (λ
 -- ---- Edits
 
 -- the place that is i behind a place
-place-is : (head i : ℕ) → ringPlace head i ≡ (head + i) % 64
+pub place-is : (head i : ℕ) → ringPlace head i ≡ (head + i) % 64
 place-is head i = omega arith
 
 -- the head, whether it moves or not, modulo 64

@@ -9,5 +9,6 @@ pub mod OneKind
 pub mod TwoKinds
 pub mod Sums
 pub mod Oldest
+mod Renewed
 pub mod Spans
 pub mod Tests

@@ -2,11 +2,11 @@
 pub use Rattle.constraint.proofs.Continuations.{SameTimes, continues-clock, continues-events, continues-late, events, same-times, times-events}
 pub use Rattle.constraint.proofs.Continuations.{times-no-events}
 pub use Rattle.constraint.proofs.History.{Accepts, Past, clock-event, clock-tick, times-append, times-other, times-own, times-tick}
-pub use Rattle.constraint.proofs.Library.{Bool, List, [], _&&_, _*_, _++_, _+_, _-_, _<_, _||_, _↔_, _∙_, _∷_, _≡_, _≤_, _⊎_, ap, append-nil}
+pub use Rattle.constraint.proofs.Library.{Bool, List, [], _%_, _&&_, _*_, _++_, _+_, _-_, _<_, _||_, _↔_, _∙_, _∷_, _≡_, _≤_, _⊎_, ap, append-nil}
 pub use Rattle.constraint.proofs.Library.{arith, by-cases, cond, decLt, drop, eq-eqb, eqb, eqb-false, eqb-true, false, getD, inl, inr, le-leb, le-ltb}
 pub use Rattle.constraint.proofs.Library.{leb, leb-false, leb-true, length, length-append, length-drop, length-set, lt-leb, lt-ltb, ltb, ltb-false}
 pub use Rattle.constraint.proofs.Library.{ltb-true, ne-eqb, needs, refl, replicate, set, subst, subst₂, suc, sym, take, take-take, transport, true}
-pub use Rattle.constraint.proofs.Library.{true≢false, zero, ℕ}
+pub use Rattle.constraint.proofs.Library.{true≢false, zero, ℕ, ℕ-discrete}
 pub use Rattle.constraint.proofs.Lists.{Each, Rising, at-left, at-next, each-cons, each-none, rising-by, rising-snoc, split}
 pub use Rattle.constraint.proofs.{Lengths.at-most, Streams.streams, Streams.streamsIn}
 pub use Rattle.constraint.specs.Accepted.{InRange, KindsSuit, LowerFirst, kinds, kindsIn}
@@ -22,9 +22,9 @@ pub use Rattle.row_type.specs.Parameters.{noFields, noKind, parametersOf
 pub use Rattle.row_type.specs.Parameters.{startWordCount, wordCounts}
 pub use Rattle.row_type.specs.Words.{countsSaved, firstThreeSaved, lastSaved, noneSaved, undoOf}
 pub use Rattle.row_type.specs.{declared.Change.Change, declared.Registers.Registers, declared.Parameters.Parameters}
-pub use Rattle.ring.proofs.{Laws.ring-cons, Laws.ring-from, Laws.ring-length, Laws.ring-spent, Shared.free, Shared.leb-same}
-pub use Rattle.ring.specs.Ring.{changed, dropRing, pushRing, putRing, ringOf, timeAt}
-pub use Rattle.ring.specs.declared.Edit.the-variants.{Drop, Store}
+pub use Rattle.ring.proofs.{Laws.place-is, Laws.ring-cons, Laws.ring-from, Laws.ring-length, Laws.ring-spent, Shared.free, Shared.leb-same}
+pub use Rattle.ring.specs.Ring.{changed, dropRing, edited, putRing, ringOf, ringPlace, timeAt}
+pub use Rattle.ring.specs.declared.Edit.the-variants.{Drop, Push, PushTwo, Store}
 unfoldable pub use Rattle.constraint.specs.{Accepted.KindsFit, Meets.SpansApart, Steps.times}
 unfoldable pub use Rattle.row_type.specs.Words.{changedWords, numberWords, rowWords}
-unfoldable pub use Rattle.ring.specs.Ring.{ring}
+unfoldable pub use Rattle.ring.specs.Ring.{pushRing, ring}

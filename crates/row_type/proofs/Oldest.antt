@@ -37,6 +37,10 @@ pub due-or-pushed : (upper t : ℕ) (times : List ℕ) → dueOr (plus t upper) 
 due-or-pushed upper t [] = refl
 due-or-pushed upper t (s ∷ times) = refl
 
+pub due-front : (upper t : ℕ) (times : List ℕ) → plus (front (times ++ (t ∷ []))) upper ≡ dueOldest upper (times ++ (t ∷ []))
+due-front upper t [] = refl
+due-front upper t (s ∷ times) = refl
+
 -- the times rise, so a clock that is not past it is past that of none
 pub due-each : (upper t : ℕ) (times : List ℕ) → Rising times → t ≤ dueOldest upper times → Each (λ s. t ≤ s + upper) times
 due-each upper t [] rise h = each-none (λ s. t ≤ s + upper)

@@ -3,14 +3,16 @@ use crate::Registers;
 use constraint::FIRST_COLOURED;
 use constraint::NO_LIMIT;
 use ring::SIZE;
+use ring::minus;
 use ring::time_at;
 ghost use mathlib.Core.Path.{_≡_};
 ghost use Prim.Native.Nat.{_+_, _-_, min, max};
 ghost use lib.Dec.{leb};
+ghost use mathlib.Core.List.{[], _∷_, _++_};
 ghost use lib.ListN.{drop, getD};
 ghost use Rattle.constraint.specs.Streams.{kindOf};
 ghost use Rattle.ring.specs.Ring.{ring};
-ghost use Rattle.row_type.specs.Parts.{plus, farEnough, front, dueOr, noRegisters};
+ghost use Rattle.row_type.specs.Parts.{plus, farEnough, front, noRegisters};
 
 // a + b, or the largest number where that is more.
 pub fn plus(a: u64, b: u64) -> u64
@@ -30,7 +32,10 @@ pub fn reaches(from: u64, by: u64, t: u64) -> bool
 pub fn far_enough(minimum: u64, last: u64, t: u64) -> bool
     ensures { λ r. ⌜ r ≡ farEnough minimum last t ⌝ }
 {
-    last == 0 || reaches(last - 1, minimum, t)
+    if last <= minus(t, minimum) {
+        return true;
+    }
+    reaches(last - 1, minimum, t)
 }
 
 // §1.9
@@ -79,21 +84,14 @@ pub fn front(times: &[u64; SIZE], head: usize, len: usize) -> u64
     time_at(times, head, 0)
 }
 
-// The due time that the oldest time gives once some have left, where one is left; else another.
-pub fn due_after(
-    upper: u64,
-    times: &[u64; SIZE],
-    head: usize,
-    len: usize,
-    dropped: usize,
-    otherwise: u64,
-) -> u64
-    ensures { λ r. ⌜ r ≡ dueOr otherwise upper (drop dropped (ring (now (times .entry)) head len)) ⌝ }
+// The oldest of the times once some have left and t has come.
+pub fn oldest_with(times: &[u64; SIZE], head: usize, len: usize, dropped: usize, t: u64) -> u64
+    ensures { λ r. ⌜ r ≡ front (drop dropped (ring (now (times .entry)) head len) ++ (t ∷ [])) ⌝ }
 {
     if dropped < len {
-        return plus(time_at(times, head, dropped), upper);
+        return time_at(times, head, dropped);
     }
-    otherwise
+    t
 }
 
 // The marks before any event.

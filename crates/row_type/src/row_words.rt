@@ -1,7 +1,7 @@
 // A row where it lies, in two arrays of 64 words: the ring of its times, and its numbers. What every row type does to them.
 use crate::Parameters;
 use crate::Registers;
-use crate::parts::due_after;
+use crate::parts::oldest_with;
 use crate::parts::plus;
 use crate::parts::smaller;
 use constraint::NO_LIMIT;
@@ -19,7 +19,10 @@ ghost use Rattle.row_type.specs.declared.Parameters.{Parameters};
 ghost use Rattle.row_type.specs.declared.Registers.{Registers};
 ghost use Rattle.row_type.specs.Words.{parametersAt, registersAt, brokenAt, settled, lastSaved, firstThreeSaved, countsSaved};
 ghost use Rattle.row_type.specs.Words.{NumbersBecome, numbersSaved, SavesUndoRegisters, SavesUndo, SavesUndoAll, BreaksRow, Edits};
-ghost use Rattle.row_type.specs.Words.{MakesWaiting, liveOf};
+ghost use Rattle.row_type.specs.Words.{MakesWaiting, liveOf, withRing};
+ghost use mathlib.Core.List.{[]};
+ghost use lib.Dec.{eqb};
+ghost use Rattle.ring.specs.Ring.{ringOf};
 ghost use Rattle.ring.specs.declared.Edit.the-variants.{Drop, Push, PushTwo, Store};
 
 // The constraint's numbers.
@@ -254,17 +257,6 @@ pub fn stay(row: &mut [[u64; SIZE]; 2], number: u64)
     save_undo(row, 0, number);
 }
 
-// The oldest times leave by the step of that number, as many as dropped says.
-fn drop_oldest(row: &mut [[u64; SIZE]; 2], dropped: usize, number: u64)
-    ensures { λ _. ⌜ Edits (now (row .entry)) (Drop dropped) number (now (row .exit)) ⌝ }
-{
-    save_undo(row, 0, number);
-    if 0 < dropped {
-        row[1][HEAD] = place_of(row[1][HEAD] as usize, dropped) as u64;
-        row[1][LEN] = left(row[1][LEN] as usize, dropped) as u64;
-    }
-}
-
 // So they do, and a word goes behind the rest.
 fn push_one(row: &mut [[u64; SIZE]; 2], dropped: usize, word: u64, number: u64)
     ensures { λ _. ⌜ Edits (now (row .entry)) (Push dropped word) number (now (row .exit)) ⌝ }
@@ -302,16 +294,52 @@ pub fn put_two(row: &mut [[u64; SIZE]; 2], place: usize, first: u64, second: u64
     put_pair(&mut row[0], head, len, place, first, second);
 }
 
+// The oldest two leave a ring of at least two, and two words take their places.
+pub fn two_for_oldest(row: &mut [[u64; SIZE]; 2], first: u64, second: u64, number: u64)
+    ensures { λ _. ⌜ Edits (now (row .entry)) (PushTwo 2 first second) number (now (row .exit)) ⌝ }
+{
+    let head = row[1][HEAD] as usize;
+    let len = row[1][LEN] as usize;
+    if 2 <= len && len <= SIZE {
+        let at = place_of(head, len);
+        let after = place_of(at, 1);
+        save_undo(row, SIZE + at, number);
+        row[0][at] = first;
+        row[0][after] = second;
+        row[1][HEAD] = place_of(head, 2) as u64;
+        return;
+    }
+    push_two(row, 2, first, second, number);
+}
+
+// The ring begins at another place, if some of its times leave.
+fn move_head(w: &mut [u64; SIZE], dropped: usize, next: usize)
+    ensures { λ _. ⌜ NumbersBecome (λ state past. withRing state (ringOf [] (cond (eqb dropped 0) (state .head) next) (state .len)))
+        (λ state past. past) (now (w .entry)) (now (w .exit)) ⌝ }
+{
+    if 0 < dropped {
+        w[HEAD] = next as u64;
+    }
+}
+
 // The times of the row wait: the oldest leave by the step of that number, and the oldest that is left gives the due time.
 pub fn fewer_wait(row: &mut [[u64; SIZE]; 2], dropped: usize, number: u64)
     ensures { λ _. ⌜ MakesWaiting (now (row .entry)) (Drop dropped) number (now (row .exit)) ⌝ }
 {
     let head = row[1][HEAD] as usize;
     let len = row[1][LEN] as usize;
-    let due = due_after(row[1][UPPER], &row[0], head, len, dropped, NO_LIMIT);
-    drop_oldest(row, dropped, number);
-    row[1][DUE] = due;
-    row[1][KEPT] = one_if(len <= dropped);
+    let next = place_of(head, dropped);
+    stay(row, number);
+    move_head(&mut row[1], dropped, next);
+    if len <= dropped {
+        row[1][DUE] = NO_LIMIT;
+        row[1][KEPT] = 1;
+        row[1][LEN] = 0;
+        return;
+    }
+    row[1][LEN] = (len - dropped) as u64;
+    row[1][DUE] = plus(row[0][next], row[1][UPPER]);
+    row[1][KEPT] = 0;
 }
 
 // So they do, and t waits too.
@@ -321,10 +349,30 @@ pub fn one_more_waits(row: &mut [[u64; SIZE]; 2], dropped: usize, t: u64, number
     let head = row[1][HEAD] as usize;
     let len = row[1][LEN] as usize;
     let upper = row[1][UPPER];
-    let due = due_after(upper, &row[0], head, len, dropped, plus(t, upper));
+    let due = plus(oldest_with(&row[0], head, len, dropped, t), upper);
     push_one(row, dropped, t, number);
     row[1][DUE] = due;
     row[1][KEPT] = 0;
+}
+
+// The oldest leaves a ring that is not empty, and t takes its place.
+pub fn newest_for_oldest(row: &mut [[u64; SIZE]; 2], t: u64, number: u64)
+    ensures { λ _. ⌜ MakesWaiting (now (row .entry)) (Push 1 t) number (now (row .exit)) ⌝ }
+{
+    let head = row[1][HEAD] as usize;
+    let len = row[1][LEN] as usize;
+    let upper = row[1][UPPER];
+    if 0 < len && len <= SIZE {
+        let at = place_of(head, len);
+        let due = plus(oldest_with(&row[0], head, len, 1, t), upper);
+        save_undo(row, at, number);
+        row[0][at] = t;
+        row[1][DUE] = due;
+        row[1][KEPT] = 0;
+        row[1][HEAD] = place_of(head, 1) as u64;
+        return;
+    }
+    one_more_waits(row, 1, t, number);
 }
 
 // A row's state is that of one that goes on with its marks and its ring: its due time, and 1 where it is kept if the recording is closed now.

@@ -43,7 +43,7 @@ returns-2 c parameters times state past e =
     z .smaller .ensures ∙ rw (q .plus2 .ensures, y .plus .ensures, d .minus2 .ensures, g .first-high .ensures, e) refl in
     let low : l .larger .result ≡ lowestPoint parameters (state .len / 2) (front kept) (a .t) =
     l .larger .ensures ∙ rw (m .minus .ensures, l .before .plus3 .ensures, f .front .ensures, e, le-ltb _ _ (rw e at (n .if1 .left))) refl in
-    let pushed = p .push-two2 .ensures parameters times state past e in
+    let pushed = p .two-for-oldest .ensures parameters times state past e in
     let done = c .settle2 .ensures parameters _ _ (ap (λ w. getD w 1 []) pushed) in
     rw (
       done,

@@ -1,10 +1,10 @@
 -- Each event is the partner of one beyond of the other kind, or one more beyond itself; what is beyond is stored.
-use Rattle.constraint.proofs.Library.{Bool, List, [], _-_, _≡_, ap, cond, eq-eqb, eqb, false, getD, ne-eqb, needs, refl, true, ℕ}
+use Rattle.constraint.proofs.Library.{Bool, List, [], _-_, _<_, _≡_, ap, arith, cond, eq-eqb, eqb, false, getD, ne-eqb, needs, refl, true, ℕ}
 use Rattle.constraint.specs.Limits.{noLimit}
 use Rattle.row_type.specs.Words.{UndoRecord, changedWords, firstThreeSaved, goingOn, undoButRegisters, numberWords, undoWith, rowWords}
-use Rattle.row_type.specs.{Parts.continuesWith, Parts.earlyOf, declared.Registers.Registers, declared.Parameters.Parameters, declared.State.State}
+use Rattle.row_type.specs.{Parts.continuesWith, Parts.earlyOf, Parts.plus, declared.Registers.Registers, declared.Parameters.Parameters, declared.State.State}
 use Rattle.delay_order.proofs.order.apply.Statement.{statement}
-use Rattle.delay_order.specs.Order.{aheadOf, changesTo, decideOrder}
+use Rattle.delay_order.specs.Order.{aheadOf, changesTo, decideOrder, withAhead}
 use Rattle.ring.specs.{Ring.dropRing, Ring.ringOf, declared.Edit.the-variants.Drop}
 use Rattle.delay_order.proofs.order.apply.Tie as tie
 
@@ -29,19 +29,30 @@ going-to parameters times state past registers t number = either (eqb (earlyOf r
     either true d f k l = refl
     either false d f k l = refl
 
+-- where sources are beyond and no target is, the row waits without a limit
+waiting : (registers : Registers) → earlyOf registers ≡ 0 → 0 < aheadOf registers
+    → (changesTo registers .due ≡ noLimit) × (changesTo registers .kept ≡ false)
+unfolding changesTo
+waiting registers none some = rw (eq-eqb (earlyOf registers) 0 none, ne-eqb (aheadOf registers) 0 (λ zero. omega arith)) (refl, refl)
+
 returns : tie.Need-returns
 unfolding rowWords numberWords decideOrder
 returns c parameters times state past e =
     let b = c .before .before .before in let i = b .before in let s = i .before .before .before .before in
     let k = s .before .before .save-undo-first-three .ensures parameters times state past e in
     let stayed = s .stay .ensures parameters times state (undoWith past (firstThreeSaved (state .registers) (past .state .registers))) k in
+    let none : state .registers .last ≡ 0 = rw stayed at (b .if2 .taken) in
+    let more : Registers = withAhead (state .registers) (plus (aheadOf (state .registers)) 1) in
+    let wait = waiting more none (omega arith) in
     rw (
-      c .store .ensures parameters _ _ (ap (λ w. getD w 1 []) stayed),
+      c .wait-for-target .ensures parameters _ _ (ap (λ w. getD w 1 []) stayed),
       c .before .plus .ensures,
       stayed,
       eq-eqb _ _ (rw stayed at (i .if1 .taken)),
-      eq-eqb _ _ (rw stayed at (b .if2 .taken)),
+      eq-eqb _ _ none,
       going-to,
+      wait .0,
+      wait .1,
     ) refl
 
 returns-2 : tie.Need-returns-2
@@ -51,7 +62,7 @@ returns-2 c parameters times state past e =
     let k = s .before .before .save-undo-first-three .ensures parameters times state past e in
     let stayed = s .stay .ensures parameters times state (undoWith past (firstThreeSaved (state .registers) (past .state .registers))) k in
     rw (
-      c .store2 .ensures parameters _ _ (ap (λ w. getD w 1 []) stayed),
+      c .store .ensures parameters _ _ (ap (λ w. getD w 1 []) stayed),
       stayed,
       eq-eqb _ _ (rw stayed at (i .if1 .taken)),
       ne-eqb _ _ (rw stayed at (b .if2 .left)),
@@ -65,7 +76,7 @@ returns-3 c parameters times state past e =
     let k = s .before .before .save-undo-first-three .ensures parameters times state past e in
     let stayed = s .stay .ensures parameters times state (undoWith past (firstThreeSaved (state .registers) (past .state .registers))) k in
     rw (
-      c .store3 .ensures parameters _ _ (ap (λ w. getD w 1 []) stayed),
+      c .store2 .ensures parameters _ _ (ap (λ w. getD w 1 []) stayed),
       c .before .plus2 .ensures,
       stayed,
       ne-eqb _ _ (rw stayed at (i .if1 .left)),
@@ -80,7 +91,7 @@ returns-4 c parameters times state past e =
     let k = s .before .before .save-undo-first-three .ensures parameters times state past e in
     let stayed = s .stay .ensures parameters times state (undoWith past (firstThreeSaved (state .registers) (past .state .registers))) k in
     rw (
-      c .store4 .ensures parameters _ _ (ap (λ w. getD w 1 []) stayed),
+      c .store3 .ensures parameters _ _ (ap (λ w. getD w 1 []) stayed),
       stayed,
       ne-eqb _ _ (rw stayed at (i .if1 .left)),
       ne-eqb _ _ (rw stayed at (b .if3 .left)),

@@ -1,4 +1,4 @@
--- The row goes on where both tests hold; its oldest time leaves where it has span of them, and the oldest that is left gives the due time.
+-- The row goes on where both tests hold, with the time that has come.
 use Rattle.constraint.proofs.Library.{List, [], _++_, _∙_, _∷_, _≡_, ap, drop, le-ltb, length, lt-ltb, needs, not-false, not-true, refl, sym, true, ℕ}
 use Rattle.constraint.proofs.Library.{⊎-elim}
 use Rattle.row_type.proofs.Oldest.{due-or-pushed}
@@ -24,65 +24,30 @@ goes-on parameters registers kept stream t dropped far reached left =
     (due-or-pushed (parameters .upper) t (drop (leaving parameters (length kept)) kept)))
 
 returns : tie.Need-returns
-unfolding rowWords numberWords changedWords decideRepeat
+unfolding rowWords numberWords changedWords
 returns c parameters times state past e =
-    let i = c .before .before in
-    rw (
-      c .break-at .ensures parameters times state past e,
-      ← rw e at (i .before .far-enough .ensures),
-      not-true (i .before .far-enough .result) (i .if1 .taken),
-    ) refl
-
-returns-2 : tie.Need-returns-2
-unfolding rowWords numberWords changedWords decideRepeat
-returns-2 c parameters times state past e =
-    let i = c .before .before in let r = i .before in let o = r .before .before in let s = o .before .before in
-    let n = s .before .before .before .before in
-    rw (
-      c .break-at2 .ensures parameters times state past e,
-      ← rw e at (n .before .far-enough .ensures),
-      not-false (n .before .far-enough .result) (n .if1 .left),
-      ring-length,
-      le-ltb _ _ (rw e at (s .if2 .taken)),
-      ← rw e at (o .front .ensures),
-      ← rw e at (r .reaches .ensures),
-      not-true (r .reaches .result) (i .if3 .taken),
-    )
-    refl
-
-returns-3 : tie.Need-returns-3
-unfolding rowWords numberWords changedWords decideRepeat
-returns-3 c parameters times state past e =
-    let w = c .before in let k = w .before .before in let j = k .before .before in let n = j .before .before .before .before in
-    let a = n .before .before .before .before .args in
+    let w = c .before in let k = w .before .before in let j = k .before .before in let r = j .before in let i = r .before .before in
+    let n = i .before in let a = n .before .before .before .args in
     let kept = ring times (state .head) (state .len) in
-    let left : j .if2 .dropped ≡ leaving parameters (length kept) =
-    ⊎-elim (λ b. b .6 ∙ rw (ring-length, le-ltb _ _ (rw e at (b .0 .taken))) refl)
-    (λ b. b .1 ∙ rw (ring-length, lt-ltb _ _ (rw e at (b .0 .left))) refl) (j .if2 .came) in
-    let reached : spanReached parameters kept (a .t) ≡ true =
-    ⊎-elim
-    (λ b. rw (
-      ring-length,
-      le-ltb _ _ (rw e at (b .0 .taken)),
-      ← rw e at (b .2 .ensures),
-      ← rw e at (b .4 .ensures),
-      not-false (b .4 .result) (b .5 .left),
-    ) refl)
-    (λ b. rw (ring-length, lt-ltb _ _ (rw e at (b .0 .left))) refl) (j .if2 .came) in
-    let far : farEnough (parameters .minimum) (state .registers .last) (a .t) ≡ true =
-    sym (rw e at (n .before .far-enough .ensures)) ∙ not-false (n .before .far-enough .result) (n .if1 .left) in
-    let decided = goes-on parameters (state .registers) kept (a .stream) (a .t) (j .if2 .dropped) far reached left in
+    let far : farEnough (parameters .minimum) (state .registers .last) (a .t) ≡ true = sym (rw e at (n .far-enough .ensures)) ∙ i .if1 .taken in
+    let reached : spanReached parameters kept (a .t) ≡ true = sym (r .span-reached .ensures parameters times state past e) ∙ j .if2 .taken in
+    let decided = goes-on parameters (state .registers) kept (a .stream) (a .t) (leaving parameters (length kept)) far reached refl in
     rw (
-      w .one-more-waits .ensures parameters times state (undoWith past (lastSaved (state .registers) (past .state .registers)))
+      w .push-time .ensures parameters times state (undoWith past (lastSaved (state .registers) (past .state .registers)))
           (k .save-undo-last .ensures parameters times state past e),
       c .plus .ensures,
     )
     (ap (λ (change : Change). changedWords lastSaved parameters times state past change (a .t) (a .number)) (sym decided))
 
+returns-2 : tie.Need-returns-2
+unfolding rowWords numberWords changedWords decideRepeat
+returns-2 c parameters times state past e =
+    let j = c .before .before in let n = j .before in
+    rw (c .break-at .ensures parameters times state past e, ← rw e at (n .far-enough .ensures))
+    (⊎-elim (λ w. rw (w .0 .taken, ← w .2 .ensures parameters times state past e, w .3 .left) refl) (λ w. rw (w .left) refl) (j .if1 .came))
+
 pub apply-spec : {M : Type 1} → statement M
 apply-spec =
     tie.close (tie.spec (λ c. search needs) (λ c. search needs) (λ c. search needs) (λ c. search needs) (λ c κs. search needs) (λ c κs. search
-    needs) returns (λ c. search needs) (λ c. search needs) (λ c. search needs) (λ c. search needs) (λ c. search needs) (λ c. search needs) (λ c.
-    search needs) (λ c κs. search needs) (λ c. search needs) (λ c. search needs) (λ c κs. search needs) (λ c κs. search needs) returns-2 (λ c κs.
-    search needs) (λ c κs. search needs) (λ c κs. search needs) (λ c. search needs) (λ c. search needs) (λ c. search needs) (λ c. search needs)
-    returns-3)
+    needs) (λ c κs. search needs) (λ c κs. search needs) (λ c κs. search needs) (λ c. search needs) (λ c. search needs) (λ c. search needs) (λ c.
+    search needs) returns (λ c κs. search needs) returns-2)

@@ -1,8 +1,9 @@
 -- The laws of each type.
-mod Words
+pub mod Words
 mod ByColour
 mod ByPairs
-mod ByWords
+pub mod ByWords
+pub mod Events
 mod Firsts
 mod Colour
 pub mod Reaction

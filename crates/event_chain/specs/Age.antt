@@ -3,17 +3,17 @@
 use Prim.Native.Nat.{ℕ, zero, suc, _+_, _*_, _%_, min}
 use mathlib.Core.Bool.{Bool, cond, _&&_}
 use mathlib.Core.List.{List}
-use lib.ListN.{getD}
+use lib.ListN.{getD, length}
 use lib.Dec.{eqb, ltb, leb}
 use Rattle.constraint.specs.Limits.{noLimit}
-use Rattle.constraint.specs.Streams.{kindOf}
 use Rattle.ring.specs.declared.Edit.the-variants.{Store}
-use Rattle.row_type.specs.Parts.{plus, continuesWith, breaking}
+use Rattle.row_type.specs.Parts.{plus, breaking}
 use Rattle.row_type.specs.declared.Parameters.{Parameters}
 use Rattle.row_type.specs.declared.Registers.{Registers}
 use Rattle.row_type.specs.declared.Change.{Change}
-use Rattle.row_type.specs.Words.{noneSaved}
+use Rattle.row_type.specs.Words.{lastSaved}
 use Rattle.row_type.specs.Machine.{Machine, neverOverflows, noneTaken}
+use Rattle.event_chain.specs.Marked.{colouredKind, dueMarked, dueNext, marking}
 use Rattle.event_chain.specs.declared.reaction.Pair.{Pair}
 use Rattle.event_chain.specs.Reaction.{pairOf, noPair, latest}
 
@@ -46,22 +46,26 @@ unfoldable pub dueAge : ℕ → ℕ → ℕ → ℕ → List ℕ → ℕ
 dueAge zero colour low high words = noLimit
 dueAge (suc n) colour low high words = min (dueAge n colour low high words) (owedBut colour low high words n)
 
--- the change that new words of a colour make; the row is kept where nothing is due
-abbrev pub aged : Registers → List ℕ → ℕ → Pair → Change
-aged registers words colour pair =
-    cond (pair .breaks) breaking
-    (continuesWith (Store (2 * colour) (pair .low) (pair .high)) registers (dueAge 8 colour (pair .low) (pair .high) words)
-    (eqb (dueAge 8 colour (pair .low) (pair .high) words) noLimit))
+-- what an event at t makes of its colour's words
+abbrev pub pairAfterAge : Parameters → ℕ → ℕ → ℕ → ℕ → Pair
+pairAfterAge parameters s low high t =
+    cond (eqb (colouredKind s) (parameters .first)) (afterStimulusAge (parameters .lower) high t)
+    (afterResponseAge (parameters .lower) (parameters .upper) low high t)
 
--- an event of one of the row's streams
+-- the change that new words of a colour make, whose last moment was another
+abbrev pub aged : Registers → List ℕ → ℕ → ℕ → Pair → Change
+aged registers words colour old pair =
+    cond (pair .breaks) breaking
+    (marking (Store (2 * colour) (pair .low) (pair .high)) registers
+    (dueNext (dueMarked registers) old (owed (pair .low) (pair .high)) (dueAge 8 colour (pair .low) (pair .high) words)))
+
+-- an event of one of the row's streams; a row of fewer than 16 words, which none is, breaks
 unfoldable pub decideAge : Parameters → Registers → List ℕ → ℕ → ℕ → Change
 decideAge parameters registers words s t =
     let colour = s % 8 in
     let low = getD words (2 * colour) 0 in
     let high = getD words (2 * colour + 1) 0 in
-    aged registers words colour
-    (cond (eqb (kindOf s) (parameters .first)) (afterStimulusAge (parameters .lower) high t)
-    (afterResponseAge (parameters .lower) (parameters .upper) low high t))
+    cond (ltb (length words) 16) breaking (aged registers words colour (owed low high) (pairAfterAge parameters s low high t))
 
 abbrev pub machineAge : Machine
-machineAge = record { keeps = noneSaved; decide = decideAge; overflows = neverOverflows; taken = noneTaken }
+machineAge = record { keeps = lastSaved; decide = decideAge; overflows = neverOverflows; taken = noneTaken }

@@ -1,18 +1,19 @@
 -- Rows of coloured kinds with five words for each colour: one for each of the row's kinds, at the kind's place among them. An event gives the word of
 -- its kind a new value, and the due time is the first last moment of the eight colours.
 use Prim.Native.Nat.{ℕ, zero, suc, _+_, _*_, _%_, min, max}
-use mathlib.Core.Bool.{Bool, cond}
+use mathlib.Core.Bool.{Bool, cond, _||_}
 use mathlib.Core.List.{List, [], _∷_}
-use lib.ListN.{getD, set}
-use lib.Dec.{eqb}
+use lib.ListN.{getD, length, set}
+use lib.Dec.{eqb, ltb}
 use Rattle.constraint.specs.Limits.{noLimit}
-use Rattle.constraint.specs.Streams.{kindOf}
+use Rattle.constraint.specs.Steps.{at}
 use Rattle.ring.specs.declared.Edit.{Edit}
-use Rattle.ring.specs.declared.Edit.the-variants.{Store}
+use Rattle.ring.specs.declared.Edit.the-variants.{Drop, Store}
 use Rattle.row_type.specs.Parts.{plus, continuesWith, breaking}
 use Rattle.row_type.specs.declared.Parameters.{Parameters}
 use Rattle.row_type.specs.declared.Registers.{Registers}
 use Rattle.row_type.specs.declared.Change.{Change}
+use Rattle.event_chain.specs.Marked.{colouredKind, dueMarked, dueNext, marking}
 
 -- the least of the first n numbers, and the largest
 unfoldable pub leastOf : (ℕ → ℕ) → ℕ → ℕ
@@ -49,15 +50,23 @@ wordsBut words d j x e = cond (eqb e d) (set (wordsAt words d) j x) (wordsAt wor
 unfoldable pub dueWords : (List ℕ → ℕ) → List ℕ → ℕ → ℕ → ℕ → ℕ → ℕ
 dueWords owed words d j x n = leastOf (λ e. owed (wordsBut words d j x e)) n
 
--- the change that a new word of the j-th kind and of the colour d makes; the row is kept where nothing is due
+-- the change that a new word of the j-th kind and of the colour d makes
 abbrev pub noted : (List ℕ → ℕ) → Registers → List ℕ → ℕ → ℕ → ℕ → Change
 noted owed registers words d j x =
-    continuesWith (oneNew (5 * d + j) x words) registers (dueWords owed words d j x 8) (eqb (dueWords owed words d j x 8) noLimit)
+    marking (oneNew (5 * d + j) x words) registers
+    (dueNext (dueMarked registers) (owed (wordsAt words d)) (owed (set (wordsAt words d) j x)) (dueWords owed words d j x 8))
 
--- a kind's event at t, of the colour d: whether it breaks the row, and the new word, by the colour's words, the kind's place and the time
+-- no word changes
+abbrev pub unchanged : Registers → Change
+unchanged registers = continuesWith (Drop 0) registers (dueMarked registers) (eqb (dueMarked registers) noLimit)
+
+-- a kind's event at t, of the colour d: whether it breaks the row, and the new word, by the colour's words, the kind's place and the time; a row of
+-- fewer than 40 words, which none is, breaks
 abbrev pub eventWords : (List ℕ → ℕ) → (List ℕ → ℕ → ℕ → Bool) → (List ℕ → ℕ → ℕ → ℕ) → Registers → List ℕ → ℕ → ℕ → ℕ → Change
 eventWords owed breaks word registers words d j t =
-    cond (breaks (wordsAt words d) j t) breaking (noted owed registers words d j (word (wordsAt words d) j t))
+    let w = wordsAt words d in
+    cond (ltb (length words) 40 || breaks w j t) breaking
+    (cond (eqb (word w j t) (at w j)) (unchanged registers) (noted owed registers words d j (word w j t)))
 
 -- how many kinds there are beside the stimulus or the response, at most four
 abbrev pub kindCount : Parameters → ℕ
@@ -76,4 +85,4 @@ unfoldable pub decideWords : (ℕ → ℕ → List ℕ → ℕ) → (ℕ → Lis
     → Parameters → Registers → List ℕ → ℕ → ℕ → Change
 decideWords owed breaks word parameters registers words s t =
     eventWords (owed (kindCount parameters) (parameters .upper)) (breaks (kindCount parameters)) (word (kindCount parameters)) registers words (s % 8)
-    (placeAmong parameters (kindOf s)) t
+    (placeAmong parameters (colouredKind s)) t

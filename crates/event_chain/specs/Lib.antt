@@ -1,4 +1,5 @@
 -- The machines of rows of coloured kinds.
+pub mod Marked
 pub mod Reaction
 pub mod Age
 pub mod Coloured

@@ -8,7 +8,7 @@ use Rattle.constraint.specs.Limits.{noLimit}
 use Rattle.constraint.specs.Steps.{at}
 use Rattle.row_type.specs.Parts.{plus}
 use Rattle.row_type.specs.Machine.{Machine, neverOverflows, noneTaken}
-use Rattle.row_type.specs.Words.{noneSaved}
+use Rattle.row_type.specs.Words.{lastSaved}
 use Rattle.row_type.specs.declared.Parameters.{Parameters}
 use Rattle.row_type.specs.declared.Registers.{Registers}
 use Rattle.row_type.specs.declared.Change.{Change}
@@ -39,4 +39,4 @@ decideOutputSynchronization = decideWords owedOutput breaksOutput wordOutput
 
 abbrev pub machineOutputSynchronization : Machine
 machineOutputSynchronization =
-    record { keeps = noneSaved; decide = decideOutputSynchronization; overflows = neverOverflows; taken = noneTaken }
+    record { keeps = lastSaved; decide = decideOutputSynchronization; overflows = neverOverflows; taken = noneTaken }

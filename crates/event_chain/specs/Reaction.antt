@@ -3,17 +3,17 @@
 use Prim.Native.Nat.{ℕ, zero, suc, _+_, _-_, _*_, _%_, min}
 use mathlib.Core.Bool.{true, false, cond}
 use mathlib.Core.List.{List}
-use lib.ListN.{getD}
+use lib.ListN.{getD, length}
 use lib.Dec.{eqb, ltb}
 use Rattle.constraint.specs.Limits.{noLimit}
-use Rattle.constraint.specs.Streams.{kindOf}
 use Rattle.ring.specs.declared.Edit.the-variants.{Store}
-use Rattle.row_type.specs.Parts.{plus, continuesWith, breaking}
+use Rattle.row_type.specs.Parts.{plus, breaking}
 use Rattle.row_type.specs.declared.Parameters.{Parameters}
 use Rattle.row_type.specs.declared.Registers.{Registers}
 use Rattle.row_type.specs.declared.Change.{Change}
-use Rattle.row_type.specs.Words.{noneSaved}
+use Rattle.row_type.specs.Words.{lastSaved}
 use Rattle.row_type.specs.Machine.{Machine, neverOverflows, noneTaken}
+use Rattle.event_chain.specs.Marked.{colouredKind, dueMarked, dueNext, marking}
 use Rattle.event_chain.specs.declared.reaction.Pair.{Pair}
 
 -- the words of a colour that goes on, and of one that breaks the row
@@ -48,21 +48,25 @@ unfoldable pub dueBut : ℕ → ℕ → ℕ → List ℕ → ℕ
 dueBut zero colour high words = noLimit
 dueBut (suc n) colour high words = min (dueBut n colour high words) (latest (highBut colour high words n))
 
--- the change that new words of a colour make; the row is kept where nothing is due
-abbrev pub paired : Registers → List ℕ → ℕ → Pair → Change
-paired registers words colour pair =
-    cond (pair .breaks) breaking
-    (continuesWith (Store (2 * colour) (pair .low) (pair .high)) registers (dueBut 8 colour (pair .high) words)
-    (eqb (dueBut 8 colour (pair .high) words) noLimit))
+-- what an event at t makes of its colour's words
+abbrev pub pairAfter : Parameters → ℕ → ℕ → ℕ → ℕ → Pair
+pairAfter parameters s low high t =
+    cond (eqb (colouredKind s) (parameters .first)) (afterStimulus (parameters .lower) (parameters .upper) low high t) (afterResponse low high t)
 
--- an event of one of the row's streams
+-- the change that new words of a colour make, whose second word was another
+abbrev pub paired : Registers → List ℕ → ℕ → ℕ → Pair → Change
+paired registers words colour old pair =
+    cond (pair .breaks) breaking
+    (marking (Store (2 * colour) (pair .low) (pair .high)) registers
+    (dueNext (dueMarked registers) (latest old) (latest (pair .high)) (dueBut 8 colour (pair .high) words)))
+
+-- an event of one of the row's streams; a row of fewer than 16 words, which none is, breaks
 unfoldable pub decideReaction : Parameters → Registers → List ℕ → ℕ → ℕ → Change
 decideReaction parameters registers words s t =
     let colour = s % 8 in
     let low = getD words (2 * colour) 0 in
     let high = getD words (2 * colour + 1) 0 in
-    paired registers words colour
-    (cond (eqb (kindOf s) (parameters .first)) (afterStimulus (parameters .lower) (parameters .upper) low high t) (afterResponse low high t))
+    cond (ltb (length words) 16) breaking (paired registers words colour high (pairAfter parameters s low high t))
 
 abbrev pub machineReaction : Machine
-machineReaction = record { keeps = noneSaved; decide = decideReaction; overflows = neverOverflows; taken = noneTaken }
+machineReaction = record { keeps = lastSaved; decide = decideReaction; overflows = neverOverflows; taken = noneTaken }

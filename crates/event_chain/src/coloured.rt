@@ -1,19 +1,26 @@
 // Rows of coloured kinds with five words for each colour, one for each of the row's kinds: OutputSynchronization and InputSynchronization.
+use crate::marked::due_marked;
+use crate::marked::put_marked;
 use crate::reaction::COLOURS;
 use crate::reaction::latest;
 use constraint::NO_LIMIT;
 use ring::SIZE;
+use ring::place_of;
+use ring::time_at;
 use row_type::parts;
 use row_type::parts::word;
 use row_type::row_words;
 ghost use mathlib.Core.Path.{_≡_};
 ghost use Prim.Native.Nat.{_<_, _≤_, suc};
+ghost use lib.ListN.{set};
 ghost use Rattle.constraint.specs.Steps.{at};
 ghost use Rattle.ring.specs.Ring.{ring};
-ghost use Rattle.row_type.specs.Words.{noneSaved, Makes, MakesAt, parametersAt};
-ghost use Rattle.event_chain.specs.Coloured.{leastOf, mostOf, wordsAt, wordsBut, dueWords, noted, eventWords, firstWord, kindCount, placeAmong};
+ghost use Rattle.row_type.specs.Words.{lastSaved, Makes, MakesAt, parametersAt};
+ghost use Rattle.event_chain.specs.Marked.{dueNext, marking};
+ghost use Rattle.event_chain.specs.Coloured.{leastOf, mostOf, wordsAt, wordsBut, dueWords, oneNew, noted, unchanged, eventWords, firstWord};
+ghost use Rattle.event_chain.specs.Coloured.{kindCount, placeAmong};
 ghost use Rattle.event_chain.specs.OutputSynchronization.{firstResponse, owedOutput, breaksOutput, wordOutput};
-ghost use Rattle.event_chain.specs.InputSynchronization.{together, owedInput, owedEither, breaksInput, wordInput};
+ghost use Rattle.event_chain.specs.InputSynchronization.{together, owedInput, owedEither, lateStimulus, breaksInput, nextInput, wordInput};
 
 // How many words a colour has.
 const WIDTH: usize = 5;
@@ -210,25 +217,90 @@ fn due_but(
     due
 }
 
+// The due time after a word of a colour is new, by the due time before.
+fn due_after(
+    before: u64,
+    input: bool,
+    kinds: usize,
+    tolerance: u64,
+    times: &[u64; SIZE],
+    head: usize,
+    len: usize,
+    colour: usize,
+    kind: usize,
+    value: u64,
+) -> u64
+    requires { ⌜ (kinds ≤ 4) × (colour < 8) × (kind < 5) ⌝ }
+    ensures { λ r. ⌜ r ≡ dueNext before (owedEither input kinds tolerance (wordsAt (ring (now (times .entry)) head len) colour))
+        (owedEither input kinds tolerance (set (wordsAt (ring (now (times .entry)) head len) colour) kind value))
+        (dueWords (owedEither input kinds tolerance) (ring (now (times .entry)) head len) colour kind value 8) ⌝ }
+{
+    let mut w = words_at(times, head, len, colour);
+    let old = owed(input, &w, kinds, tolerance);
+    w[kind] = value;
+    let new = owed(input, &w, kinds, tolerance);
+    if new <= before {
+        return new;
+    }
+    if before < old {
+        return before;
+    }
+    due_but(
+        input,
+        kinds,
+        tolerance,
+        times,
+        head,
+        len,
+        colour,
+        kind,
+        value,
+    )
+}
+
+// A word is new, and the row goes on with a due time.
+fn put_word(row: &mut [[u64; SIZE]; 2], place: usize, value: u64, due: u64, number: u64)
+    requires { ⌜ place < 64 ⌝ }
+    ensures { λ _. ⌜ Makes lastSaved (now (row .entry)) (λ parameters registers words. marking (oneNew place value words) registers due) number
+        (now (row .exit)) ⌝ }
+{
+    let head = row[1][row_words::HEAD] as usize;
+    let len = row[1][row_words::LEN] as usize;
+    let behind = word(&row[0], head, len, place + 1);
+    put_marked(row, place, value, behind, due, number);
+}
+
+// No word changes.
+fn keep(row: &mut [[u64; SIZE]; 2], number: u64)
+    ensures { λ _. ⌜ Makes lastSaved (now (row .entry)) (λ parameters registers words. unchanged registers) number (now (row .exit)) ⌝ }
+{
+    let due = due_marked(row[1][row_words::LAST]);
+    row_words::save_undo_last(row);
+    row_words::stay(row, number);
+    row_words::settle(&mut row[1], due, row_words::one_if(due == NO_LIMIT));
+}
+
 // A word of a colour is new.
 fn note(
     row: &mut [[u64; SIZE]; 2],
     input: bool,
     kinds: usize,
-    tolerance: u64,
     colour: usize,
     kind: usize,
     value: u64,
     number: u64,
 )
     requires { ⌜ (kinds ≤ 4) × (colour < 8) × (kind < 5) ⌝ }
-    ensures { λ _. ⌜ Makes noneSaved (now (row .entry))
-        (λ parameters registers words. noted (owedEither input kinds tolerance) registers words colour kind value) number (now (row .exit)) ⌝ }
+    ensures { λ _. ⌜ Makes lastSaved (now (row .entry))
+        (λ parameters registers words. noted (owedEither input kinds (parameters .upper)) registers words colour kind value) number
+        (now (row .exit)) ⌝ }
 {
     let head = row[1][row_words::HEAD] as usize;
     let len = row[1][row_words::LEN] as usize;
-    let place = WIDTH * colour + kind;
-    let due = due_but(
+    let tolerance = row[1][row_words::UPPER];
+    let before = due_marked(row[1][row_words::LAST]);
+    let due = due_after(
+        before,
         input,
         kinds,
         tolerance,
@@ -239,9 +311,7 @@ fn note(
         kind,
         value,
     );
-    let behind = word(&row[0], head, len, place + 1);
-    row_words::put_two(row, place, value, behind, number);
-    row_words::settle(&mut row[1], due, row_words::one_if(due == NO_LIMIT));
+    put_word(row, WIDTH * colour + kind, value, due, number);
 }
 
 // A kind's word after an event at t: one more than its first event.
@@ -254,39 +324,68 @@ fn first_word(x: u64, t: u64) -> u64
     x
 }
 
+// A word of a colour, where there are 40 words.
+fn word_at(times: &[u64; SIZE], head: usize, len: usize, colour: usize, kind: usize) -> u64
+    requires { ⌜ (40 ≤ len) × (colour < 8) × (kind < 5) ⌝ }
+    ensures { λ r. ⌜ r ≡ at (wordsAt (ring (now (times .entry)) head len) colour) kind ⌝ }
+{
+    time_at(times, place_of(head, WIDTH * colour), kind)
+}
+
+// The first response of a colour of all n kinds, or the mark, where there are 40 words.
+fn first_at(times: &[u64; SIZE], head: usize, len: usize, colour: usize, n: usize) -> u64
+    requires { ⌜ (40 ≤ len) × (colour < 8) × (n ≤ 4) ⌝ }
+    ensures { λ r. ⌜ r ≡ firstResponse n (wordsAt (ring (now (times .entry)) head len) colour) ⌝ }
+{
+    let mut first = NO_LIMIT;
+    let mut i = 0;
+    while i < n {
+        first = parts::smaller(first, latest(word_at(times, head, len, colour, i + 1)));
+        i += 1;
+    }
+    first
+}
+
 // Whether an event at t breaks the row.
-fn breaks_output(w: &[u64; WIDTH], n: usize, kind: usize, t: u64) -> bool
-    requires { ⌜ n ≤ 4 ⌝ }
-    ensures { λ r. ⌜ r ≡ breaksOutput n (now (w .entry)) kind t ⌝ }
+fn breaks_output(
+    times: &[u64; SIZE],
+    head: usize,
+    len: usize,
+    colour: usize,
+    n: usize,
+    kind: usize,
+    t: u64,
+) -> bool
+    requires { ⌜ (40 ≤ len) × (colour < 8) × (n ≤ 4) ⌝ }
+    ensures { λ r. ⌜ r ≡ breaksOutput n (wordsAt (ring (now (times .entry)) head len) colour) kind t ⌝ }
 {
     if kind == 0 {
-        return first_response(w, n) < t;
+        return first_at(times, head, len, colour, n) < t;
     }
     false
 }
 
-fn breaks_input(w: &[u64; WIDTH], n: usize, kind: usize, t: u64) -> bool
-    requires { ⌜ n ≤ 4 ⌝ }
-    ensures { λ r. ⌜ r ≡ breaksInput n (now (w .entry)) kind t ⌝ }
+// So of an InputSynchronization, by the word of the response.
+fn breaks_input(response: u64, n: usize, kind: usize, t: u64) -> bool
+    ensures { λ r. ⌜ r ≡ lateStimulus n response kind t ⌝ }
 {
     if kind < n {
-        if 0 < w[n] {
-            return w[n] < parts::plus(t, 1);
+        if 0 < response {
+            return response < parts::plus(t, 1);
         }
         return false;
     }
     false
 }
 
-// The new word of an InputSynchronization.
-fn word_input(w: &[u64; WIDTH], n: usize, kind: usize, t: u64) -> u64
-    requires { ⌜ kind < 5 ⌝ }
-    ensures { λ r. ⌜ r ≡ wordInput n (now (w .entry)) kind t ⌝ }
+// The new word of an InputSynchronization, by the word before.
+fn word_input(old: u64, n: usize, kind: usize, t: u64) -> u64
+    ensures { λ r. ⌜ r ≡ nextInput n old kind t ⌝ }
 {
     if kind < n {
         return parts::plus(t, 1);
     }
-    first_word(w[kind], t)
+    first_word(old, t)
 }
 
 // What an event makes of an OutputSynchronization of so many kinds of responses, where it lies: of the stimulus at place 0, or of a response
@@ -294,51 +393,73 @@ fn word_input(w: &[u64; WIDTH], n: usize, kind: usize, t: u64) -> u64
 pub(crate) fn apply_output(
     row: &mut [[u64; SIZE]; 2],
     kinds: usize,
-    tolerance: u64,
     colour: usize,
     kind: usize,
     t: u64,
     number: u64,
 )
     requires { ⌜ (kinds ≤ 4) × (colour < 8) × (kind < 5) ⌝ }
-    ensures { λ _. ⌜ MakesAt noneSaved (now (row .entry))
-        (λ parameters registers words. eventWords (owedOutput kinds tolerance) (breaksOutput kinds)
+    ensures { λ _. ⌜ MakesAt lastSaved (now (row .entry))
+        (λ parameters registers words. eventWords (owedOutput kinds (parameters .upper)) (breaksOutput kinds)
         (wordOutput kinds) registers words colour kind t) t number
         (now (row .exit)) ⌝ }
 {
     let head = row[1][row_words::HEAD] as usize;
     let len = row[1][row_words::LEN] as usize;
-    let w = words_at(&row[0], head, len, colour);
-    if breaks_output(&w, kinds, kind, t) {
+    if len < 40 {
         row_words::break_at(row, t, number);
         return;
     }
-    let value = first_word(w[kind], t);
-    note(row, false, kinds, tolerance, colour, kind, value, number);
+    if breaks_output(&row[0], head, len, colour, kinds, kind, t) {
+        row_words::break_at(row, t, number);
+        return;
+    }
+    let old = word_at(&row[0], head, len, colour, kind);
+    let value = first_word(old, t);
+    if value == old {
+        keep(row, number);
+        return;
+    }
+    note(row, false, kinds, colour, kind, value, number);
 }
 
-// What an event makes of an InputSynchronization of so many kinds of stimuli: of one of these, or of the response behind them.
+// What an event makes of an InputSynchronization of so many kinds of stimuli: of one of these, or of the response behind them. Before the response a
+// stimulus leaves the due time as it is.
 pub(crate) fn apply_input(
     row: &mut [[u64; SIZE]; 2],
     kinds: usize,
-    tolerance: u64,
     colour: usize,
     kind: usize,
     t: u64,
     number: u64,
 )
     requires { ⌜ (kinds ≤ 4) × (colour < 8) × (kind < 5) ⌝ }
-    ensures { λ _. ⌜ MakesAt noneSaved (now (row .entry))
-        (λ parameters registers words. eventWords (owedInput kinds tolerance) (breaksInput kinds) (wordInput kinds) registers words colour kind t)
-        t number (now (row .exit)) ⌝ }
+    ensures { λ _. ⌜ MakesAt lastSaved (now (row .entry))
+        (λ parameters registers words. eventWords (owedInput kinds (parameters .upper)) (breaksInput kinds)
+        (wordInput kinds) registers words colour kind t) t number
+        (now (row .exit)) ⌝ }
 {
     let head = row[1][row_words::HEAD] as usize;
     let len = row[1][row_words::LEN] as usize;
-    let w = words_at(&row[0], head, len, colour);
-    if breaks_input(&w, kinds, kind, t) {
+    if len < 40 {
         row_words::break_at(row, t, number);
         return;
     }
-    let value = word_input(&w, kinds, kind, t);
-    note(row, true, kinds, tolerance, colour, kind, value, number);
+    let response = word_at(&row[0], head, len, colour, kinds);
+    if breaks_input(response, kinds, kind, t) {
+        row_words::break_at(row, t, number);
+        return;
+    }
+    let old = word_at(&row[0], head, len, colour, kind);
+    let value = word_input(old, kinds, kind, t);
+    if value == old {
+        keep(row, number);
+        return;
+    }
+    if kind < kinds && response == 0 {
+        let due = due_marked(row[1][row_words::LAST]);
+        put_word(row, WIDTH * colour + kind, value, due, number);
+        return;
+    }
+    note(row, true, kinds, colour, kind, value, number);
 }

@@ -2,5 +2,6 @@
 pub mod age;
 mod coloured;
 pub mod input_synchronization;
+mod marked;
 pub mod output_synchronization;
 pub mod reaction;

@@ -1,15 +1,22 @@
 // Reaction: two words for each colour. Both 0: nothing yet; a second word above 0: the first response has to come from the first word on and
 // before the second; else it came at one less than the first word.
+use crate::marked::coloured_kind;
+use crate::marked::due_marked;
+use crate::marked::put_marked;
 use constraint::NO_LIMIT;
 use ring::SIZE;
+use ring::place_of;
+use ring::second_at;
+use ring::time_at;
 use row_type::parts;
 use row_type::row_words;
 ghost use mathlib.Core.Path.{_≡_};
 ghost use mathlib.Core.Bool.{true, false};
 ghost use Prim.Native.Nat.{_<_};
 ghost use Rattle.ring.specs.Ring.{ring};
-ghost use Rattle.row_type.specs.Words.{noneSaved, MakesAt, Applies};
-ghost use Rattle.event_chain.specs.Reaction.{latest, highBut, dueBut, afterStimulus, afterResponse, paired, decideReaction};
+ghost use Rattle.row_type.specs.Words.{parametersAt, lastSaved, MakesAt, Applies};
+ghost use Rattle.event_chain.specs.Marked.{dueNext};
+ghost use Rattle.event_chain.specs.Reaction.{latest, highBut, dueBut, afterStimulus, afterResponse, pairAfter, paired, decideReaction};
 
 // How many colours there are.
 pub(crate) const COLOURS: usize = 8;
@@ -110,43 +117,68 @@ fn due_but(times: &[u64; SIZE], head: usize, len: usize, colour: usize, high: u6
     due
 }
 
-// §5.9, §5.9.1 to §5.9.5
-// What an event of one of the row's streams makes of it, where it lies.
-pub fn apply(row: &mut [[u64; SIZE]; 2], stream: u64, t: u64, number: u64)
-    ensures { λ _. ⌜ Applies noneSaved decideReaction (now (row .entry)) stream t number (now (row .exit)) ⌝ }
+// The due time after an event of a colour, by the due time before and the colour's second words before and after it.
+fn due_after(
+    before: u64,
+    times: &[u64; SIZE],
+    head: usize,
+    len: usize,
+    colour: usize,
+    old: u64,
+    high: u64,
+) -> u64
+    ensures { λ r. ⌜ r ≡ dueNext before (latest old) (latest high) (dueBut 8 colour high (ring (now (times .entry)) head len)) ⌝ }
 {
-    let colour = (stream % 8) as usize;
-    let head = row[1][row_words::HEAD] as usize;
-    let len = row[1][row_words::LEN] as usize;
-    let low = parts::word(&row[0], head, len, 2 * colour);
-    let high = parts::word(&row[0], head, len, 2 * colour + 1);
-    if parts::kind_of(stream) == row[1][row_words::FIRST] {
-        let pair = after_stimulus(
-            row[1][row_words::LOWER],
-            row[1][row_words::UPPER],
-            low,
-            high,
-            t,
-        );
-        store(row, colour, pair, t, number);
-        return;
+    let new = latest(high);
+    if new <= before {
+        return new;
     }
-    store(row, colour, after_response(low, high, t), t, number);
+    if before < latest(old) {
+        return before;
+    }
+    due_but(times, head, len, colour, high)
 }
 
-// The words of a colour are new.
-fn store(row: &mut [[u64; SIZE]; 2], colour: usize, pair: Pair, t: u64, number: u64)
+// What an event at t makes of the words of its colour.
+fn pair_after(w: &[u64; SIZE], stream: u64, low: u64, high: u64, t: u64) -> Pair
+    ensures { λ r. ⌜ r ≡ pairAfter (parametersAt (now (w .entry))) stream low high t ⌝ }
+{
+    if coloured_kind(stream) == w[row_words::FIRST] {
+        return after_stimulus(w[row_words::LOWER], w[row_words::UPPER], low, high, t);
+    }
+    after_response(low, high, t)
+}
+
+// The words of a colour, whose second word was another, are new.
+fn store(row: &mut [[u64; SIZE]; 2], colour: usize, old: u64, pair: Pair, t: u64, number: u64)
     requires { ⌜ colour < 8 ⌝ }
-    ensures { λ _. ⌜ MakesAt noneSaved (now (row .entry)) (λ parameters registers words. paired registers words colour pair) t number
+    ensures { λ _. ⌜ MakesAt lastSaved (now (row .entry)) (λ parameters registers words. paired registers words colour old pair) t number
         (now (row .exit)) ⌝ }
 {
     if pair.breaks {
         row_words::break_at(row, t, number);
         return;
     }
+    let before = due_marked(row[1][row_words::LAST]);
     let head = row[1][row_words::HEAD] as usize;
     let len = row[1][row_words::LEN] as usize;
-    let due = due_but(&row[0], head, len, colour, pair.high);
-    row_words::put_two(row, 2 * colour, pair.low, pair.high, number);
-    row_words::settle(&mut row[1], due, row_words::one_if(due == NO_LIMIT));
+    let due = due_after(before, &row[0], head, len, colour, old, pair.high);
+    put_marked(row, 2 * colour, pair.low, pair.high, due, number);
+}
+
+// §5.9, §5.9.1 to §5.9.5
+// What an event of one of the row's streams makes of it, where it lies.
+pub fn apply(row: &mut [[u64; SIZE]; 2], stream: u64, t: u64, number: u64)
+    ensures { λ _. ⌜ Applies lastSaved decideReaction (now (row .entry)) stream t number (now (row .exit)) ⌝ }
+{
+    if row[1][row_words::LEN] < 16 {
+        row_words::break_at(row, t, number);
+        return;
+    }
+    let colour = (stream % 8) as usize;
+    let place = SIZE + place_of(row[1][row_words::HEAD] as usize, 2 * colour);
+    let low = time_at(&row[0], place, 0);
+    let high = second_at(&row[0], place);
+    let pair = pair_after(&row[1], stream, low, high, t);
+    store(row, colour, high, pair, t, number);
 }

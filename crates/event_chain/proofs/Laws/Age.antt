@@ -4,23 +4,23 @@ use Rattle.event_chain.proofs.Laws.ByPairs.{ByPair, ByPairs, LostPair, 
 use Rattle.event_chain.proofs.Laws.Firsts.{each-snoc, latest-new, latest-old}
 use Rattle.event_chain.proofs.Laws.Words.{highOf, latest-some, lowOf, other-high, other-low, stored, stored-high, stored-low}
 use Rattle.event_chain.specs.Coloured.{leastOf}
-use Rattle.event_chain.specs.Age.{afterResponseAge, afterStimulusAge, decideAge, dueAge, machineAge, owed, owedBut, suits}
+use Rattle.event_chain.specs.Age.{afterResponseAge, afterStimulusAge, decideAge, dueAge, machineAge, owed, owedBut, pairAfterAge, suits}
 use Rattle.event_chain.specs.Reaction.{noPair, pairOf}
 use Rattle.event_chain.specs.declared.reaction.Pair.{Pair}
-use Rattle.constraint.proofs.Library.{List, [], _%_, _*_, _&&_, _++_, _+_, _-_, _<_, _∙_, _∷_, _≡_, _≤_, and-eq-true-iff, ap, ap₂, arith, by-cases}
-use Rattle.constraint.proofs.Library.{cond, decLt, eq-eqb, eqb, eqb-false, eqb-true, false, false≢true, getD, le-leb, leb, leb-false, leb-true}
+use Rattle.constraint.proofs.Library.{List, [], _%_, _&&_, _++_, _+_, _-_, _<_, _∙_, _∷_, _≡_, _≤_, and-eq-true-iff, ap, ap₂, arith, by-cases}
+use Rattle.constraint.proofs.Library.{cond, decLt, eq-eqb, eqb, eqb-false, eqb-true, false, false≢true, le-leb, leb, leb-false, leb-true}
 use Rattle.constraint.proofs.Library.{length}
 use Rattle.constraint.proofs.Library.{length-append, lt-ltb, ltb, ltb-true, min, ne-eqb, refl, subst, suc, sym, true, zero, ℕ}
 use Rattle.constraint.proofs.Library.{ℕ-discrete}
 use Rattle.constraint.proofs.Lists.{Each, at-left, at-next, each-none, split}
 use Rattle.constraint.specs.Steps.{at}
 use Rattle.constraint.specs.{Limits.lastTime}
-use Rattle.constraint.specs.{Limits.noLimit, Meets.Between, Meets.Meets, Meets.MeetsAge, Meets.latestOf, Streams.kindOf}
+use Rattle.constraint.specs.{Limits.noLimit, Meets.Between, Meets.Meets, Meets.MeetsAge, Meets.latestOf}
 use Rattle.constraint.specs.{Waiting.waiting}
 use Rattle.constraint.specs.{Constraint.Age}
 use Rattle.row_type.proofs.Exact.{Exact, Sound}
-use Rattle.row_type.proofs.FitsRow.{FitsRow, Steady, fits-steady, keeping-none}
-use Rattle.row_type.specs.{Parts.plus, Parameters.parametersOf, Words.noneSaved, declared.Registers.Registers}
+use Rattle.row_type.proofs.FitsRow.{FitsRow, Steady, fits-steady, keeping-last}
+use Rattle.row_type.specs.{Parts.plus, Parameters.parametersOf, Words.lastSaved, declared.Registers.Registers}
 use Rattle.row_type.specs.{declared.Parameters.Parameters}
 
 plus-is : (t x : ℕ) → t ≤ lastTime + 1 → x ≤ lastTime → plus t x ≡ t + x
@@ -430,14 +430,10 @@ exactAge stimulus response minimum maximum sound =
 
 -- ---- In a row
 
-steady-age : (parameters : Parameters) (m : Registers) (words : List ℕ) (s t : ℕ) → Steady noneSaved m words (decideAge parameters m words s t)
+steady-age : (parameters : Parameters) (m : Registers) (words : List ℕ) (s t : ℕ) → Steady lastSaved m words (decideAge parameters m words s t)
 unfolding decideAge
 steady-age parameters m words s t =
-    let low = getD words (2 * (s % 8)) 0 in
-    let high = getD words (2 * (s % 8) + 1) 0 in
-    steady-pair (dueAge 8) m words (s % 8)
-    (cond (eqb (kindOf s) (parameters .first)) (afterStimulusAge (parameters .lower) high t)
-    (afterResponseAge (parameters .lower) (parameters .upper) low high t))
+    steady-pair owed (dueAge 8) m words (s % 8) (pairAfterAge parameters s (lowOf words (s % 8)) (highOf words (s % 8)) t)
 
 pub fitsAge : FitsRow machineAge
-fitsAge = fits-steady keeping-none steady-age
+fitsAge = fits-steady keeping-last steady-age

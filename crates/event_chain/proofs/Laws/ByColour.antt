@@ -1,15 +1,14 @@
 -- Rows of coloured kinds, each colour by itself: such a row is exact if the words of a colour tell what an event of it does, and if a colour that is
 -- not kept can always be brought nearer by one event at its last moment or before. The colours do not disturb each other, and where each has a
 -- moment left, the one with the first last moment goes first.
-use Rattle.event_chain.specs.Coloured.{leastOf}
+use Rattle.event_chain.specs.{Coloured.leastOf, Marked.dueMarked, Marked.dueNext}
 use Rattle.constraint.proofs.History.{Accepts, Past, clock-event, clock-tick, closed-event, times-append, times-other, times-own, times-tick}
 use Rattle.constraint.proofs.History.{with-time}
 use Rattle.constraint.proofs.Library.{Bool, List, [], _++_, _+_, _-_, _<_, _↔_, _∙_, _∷_, _≡_, _≤_, ap, ap₂, append-assoc, arith, by-cases, cond}
 use Rattle.constraint.proofs.Library.{decLt}
-use Rattle.constraint.proofs.Library.{eq-eqb, eqb, eqb-false, eqb-true, false, length, length-append, min, ne-eqb, refl, subst, suc, sym, zero}
-use Rattle.constraint.proofs.Library.{ℕ}
-use Rattle.constraint.proofs.Library.{ℕ-discrete}
-use Rattle.constraint.proofs.Lists.{Each, each-append, at-left, at-right, each-cons, each-left, each-none, each-right}
+use Rattle.constraint.proofs.Library.{eq-eqb, eqb, eqb-false, eqb-true, false, leb, leb-false, leb-true, length, length-append, ltb, ltb-true, min}
+use Rattle.constraint.proofs.Library.{ne-eqb, refl, subst, suc, sym, zero, ℕ, ℕ-discrete}
+use Rattle.constraint.proofs.Lists.{Each, each-append, at-left, at-right, each-cons, each-left, each-none, each-right, split}
 use Rattle.constraint.proofs.Streams.{colour-at, colours, stream-below, streams, streams-apart}
 use Rattle.constraint.proofs.{Continuations.SameTimes, Continuations.continues-late, Continuations.same-times, Verdicts.open-of-meets}
 use Rattle.constraint.specs.Steps.{Step, at, clock, closed, event, own, tick, times}
@@ -49,6 +48,32 @@ pub least-same : (f g : ℕ → ℕ) (n : ℕ) → ((d : ℕ) → d < n → f d 
 unfolding leastOf
 least-same f g zero same = refl
 least-same f g (suc n) same = ap₂ min (least-same f g n (λ d l. same d (omega arith))) (same n (omega arith))
+
+-- where the last moment of one colour alone is new, the due time is found without the others, or all are looked at
+module _ (f g : ℕ → ℕ) (d : ℕ) (few : d < 8) (others : (e : ℕ) → e < 8 → ¬ (e ≡ d) → g e ≡ f e) where
+  above : (t : ℕ) → t ≤ leastOf f 8 → t ≤ g d → t ≤ leastOf g 8
+  above t soon new =
+      least-above g 8 t (omega (arith, least-limit f 8)) (λ e h. by-cases (ℕ-discrete e d) (λ is. omega (arith, ap g is))
+      (λ other. omega (arith, others e h other, least-below f 8 e h)))
+
+  -- the colour did not have the first
+  stays : leastOf f 8 < f d → leastOf f 8 < g d → leastOf f 8 ≡ leastOf g 8
+  stays old new =
+      by-cases (decLt (leastOf f 8) noLimit)
+      (λ soon. let (e, h, is) = least-found f 8 soon in
+      let other : ¬ (e ≡ d) = λ same. omega (arith, ap f same) in
+      omega (arith, above (leastOf f 8) (omega arith) (omega arith), others e h other, least-below g 8 e h))
+      (λ none. omega (arith, above (leastOf f 8) (omega arith) (omega arith), least-limit g 8))
+
+  found : dueNext (leastOf f 8) (f d) (g d) (leastOf g 8) ≡ leastOf g 8
+  found =
+      split (leb (g d) (leastOf f 8)) (λ b. cond b (g d) (cond (ltb (leastOf f 8) (f d)) (leastOf f 8) (leastOf g 8)) ≡ leastOf g 8)
+      (λ e. omega (arith, above (g d) (leb-true (g d) (leastOf f 8) e) (omega arith), least-below g 8 d few))
+      (λ e. split (ltb (leastOf f 8) (f d)) (λ b. cond b (leastOf f 8) (leastOf g 8) ≡ leastOf g 8)
+      (λ l. stays (ltb-true (leastOf f 8) (f d) l) (leb-false (g d) (leastOf f 8) e)) (λ l. refl))
+
+  pub due-next : (before new all : ℕ) → before ≡ leastOf f 8 → new ≡ g d → all ≡ leastOf g 8 → dueNext before (f d) new all ≡ leastOf g 8
+  due-next before new all marked new-is all-is = rw (marked, new-is, all-is) found
 
 unfoldable pub sumOf : (ℕ → ℕ) → ℕ → ℕ
 sumOf f zero = 0
@@ -116,6 +141,7 @@ pub record Turned (k : Colouring) (f : ℕ → List ℕ) (d j t : ℕ) (words : 
   pub in-time : t ≤ k .due (changed (change .edit) words) d
   pub due-is : change .due ≡ leastOf (k .due (changed (change .edit) words)) 8
   pub kept-is : change .kept ≡ eqb (change .due) noLimit
+  pub marked : dueMarked (change .registers) ≡ change .due
 
 -- an event that brings a colour nearer to being kept, not after its last moment
 pub record Nearer (k : Colouring) (Fine : ℕ → Type 0) (n : ℕ) (f : ℕ → List ℕ) (d : ℕ) (words : List ℕ) (now : ℕ) : Type 0 where
@@ -154,9 +180,10 @@ pub record ByColour (c : Constraint) (decide : Registers → List ℕ → ℕ �
   pub whole : (f : ℕ → List ℕ) (d : ℕ) (words : List ℕ) → k .Keeps f d words → length words ≡ size
   pub start-keeps : (d : ℕ) → d ≤ lastColour → k .Keeps (λ i. []) d (startWords c)
   pub start-due : (d : ℕ) → d ≤ lastColour → k .due (startWords c) d ≡ noLimit
-  -- an event in time leaves no continuation, or the colour goes on
+  -- an event in time leaves no continuation, or the colour goes on, the mark telling the due time
   pub turns : (f : ℕ → List ℕ) (registers : Registers) (words : List ℕ) (d j t : ℕ) → d ≤ lastColour → j < length ks
       → ((i : ℕ) → i < length ks → Each (λ s. s ≤ t) (f i)) → Each (λ s. s < t) (f j) → t ≤ lastTime → k .Keeps f d words → t ≤ k .due words d
+      → dueMarked registers ≡ leastOf (k .due words) 8
       → ByOutcome (Lost (length ks) Says t (with-one f j t)) (Turned k f d j t words) (decide registers words (stream (at ks j) d) t)
   -- the clock past the last moment leaves none; without a last moment it is met, and with one it is not
   pub late : (f : ℕ → List ℕ) (words : List ℕ) (d t : ℕ) → k .Keeps f d words → k .due words d < t → t ≤ lastTime → Lost (length ks) Says t f
@@ -184,6 +211,10 @@ module _ (c : Constraint) (decide : Registers → List ℕ → ℕ → ℕ → C
   abbrev dueOf : List ℕ → ℕ
   dueOf words = leastOf (r .k .due words) 8
 
+  -- and the mark tells the due time
+  abbrev Marked : List Step → Registers → List ℕ → Type 0
+  Marked steps registers words = Live steps words × (dueMarked registers ≡ dueOf words)
+
   abbrev due : Registers → List ℕ → ℕ
   due registers words = dueOf words
 
@@ -195,11 +226,11 @@ module _ (c : Constraint) (decide : Registers → List ℕ → ℕ → ℕ → C
 
   -- ---- Start
 
-  start : Starts (λ registers. Live []) due kept (startWords c)
+  start : Starts (Marked []) due kept (startWords c)
   unfolding times
   start =
       record {
-        live = record { each = λ d h. r .keeps-same (λ i. []) (column [] d) (λ i l. refl) d (startWords c) (r .start-keeps d h) };
+        live = (record { each = λ d h. r .keeps-same (λ i. []) (column [] d) (λ i l. refl) d (startWords c) (r .start-keeps d h) }, none);
         due-is = none;
         kept-is = sym (eq-eqb (dueOf (startWords c)) noLimit (sym none));
       }
@@ -266,12 +297,12 @@ module _ (c : Constraint) (decide : Registers → List ℕ → ℕ → ℕ → C
 
   abbrev Does : List Step → Registers → List ℕ → ℕ → ℕ → Type 0
   Does steps registers words s t =
-      ByOutcome (¬ Open c (steps ++ (event s t ∷ []))) (GoesOn (λ m. Live (steps ++ (event s t ∷ []))) due kept words t) (decide registers words s t)
+      ByOutcome (¬ Open c (steps ++ (event s t ∷ []))) (GoesOn (Marked (steps ++ (event s t ∷ []))) due kept words t) (decide registers words s t)
 
-  event-does : (steps : List Step) (registers : Registers) (words : List ℕ) (t : ℕ) → Past steps → Live steps words
+  event-does : (steps : List Step) (registers : Registers) (words : List ℕ) (t : ℕ) → Past steps → Marked steps registers words
       → (j d : ℕ) → j < n → d ≤ lastColour
       → Accepts steps (event (streamAt j d) t) → t ≤ dueOf words → Does steps registers words (streamAt j d) t
-  event-does steps registers words t past live j d of-row few a soon =
+  event-does steps registers words t past (live, marked) j d of-row few a soon =
       let change = decide registers words (streamAt j d) t in
       outcome-map (change .breaks)
       (λ lost. shut t (steps ++ (event (streamAt j d) t ∷ [])) (clock-event (streamAt j d) t steps) d few
@@ -281,16 +312,19 @@ module _ (c : Constraint) (decide : Registers → List ℕ → ℕ → ℕ → C
       let long : length next ≡ length words =
       r .whole (with-one (column steps d) j t) d next (turned .keeps) ∙ sym (whole steps words live) in
       record {
-        live = live-after steps d j t few of-row words next live long (turned .keeps) (turned .others);
+        live = (
+          live-after steps d j t few of-row words next live long (turned .keeps) (turned .others),
+          turned .marked ∙ turned .due-is,
+        );
         due-is = turned .due-is;
         kept-is = turned .kept-is ∙ ap (λ (x : ℕ). eqb x noLimit) (turned .due-is);
         in-time = subst (λ (x : ℕ). t ≤ x) (sym (turned .due-is))
             (soon-after steps d j t few of-row words next soon (omega (arith, a .time-small)) (turned .in-time) (turned .others));
       })
       (r .turns (column steps d) registers words d j t few of-row (λ i h l g. omega (arith, past .past (streamAt i d) l g, a .in-order .0))
-      (a .in-order .1) (a .time-small) (live .each d few) (omega (arith, least-below (r .k .due words) 8 d (omega arith))))
+      (a .in-order .1) (a .time-small) (live .each d few) (omega (arith, least-below (r .k .due words) 8 d (omega arith))) marked)
 
-  does : (steps : List Step) (registers : Registers) (words : List ℕ) (s t : ℕ) → Past steps → Live steps words → OfStream c s
+  does : (steps : List Step) (registers : Registers) (words : List ℕ) (s t : ℕ) → Past steps → Marked steps registers words → OfStream c s
       → Accepts steps (event s t)
       → t ≤ dueOf words → Does steps registers words s t
   does steps registers words s t past live =
@@ -400,18 +434,19 @@ module _ (c : Constraint) (decide : Registers → List ℕ → ℕ → ℕ → C
   pub exactByColour : Exact c decide
   exactByColour =
       record {
-        Live = λ steps registers words. Live steps words;
+        Live = Marked;
         due = due;
         kept = kept;
         start = start;
         does = does _ _ _ _ _;
-        same = same _ _ _;
-        late = λ past live. late _ _ _ live;
-        is-open = λ {steps} {registers} {times = words} past o live soon.
+        same = λ equal (live, marked). (same _ _ _ equal live, marked);
+        late = λ past (live, marked). late _ _ _ live;
+        is-open = λ {steps} {registers} {times = words} past o (live, marked) soon.
             goes-on (suc (sumOf (r .k .lacks words) 8)) steps words (omega arith) o (past .past)
             (r .fine (clock steps) (past .small)) live soon;
-        waits = λ {steps} {registers} {times = words} past live. rw (r .none-waits)
+        waits = λ {steps} {registers} {times = words} past (live, marked). rw (r .none-waits)
             (r .waits-none steps, omega (arith, whole steps words live, r .few));
-        is-kept = λ {steps} {registers} {times = words} past live soon k. met steps words live (omega (arith, eqb-true (dueOf words) noLimit k));
-        not-kept = λ past live k. unkept-missed _ _ live k;
+        is-kept = λ {steps} {registers} {times = words} past (live, marked) soon k.
+            met steps words live (omega (arith, eqb-true (dueOf words) noLimit k));
+        not-kept = λ past (live, marked) k. unkept-missed _ _ live k;
       }

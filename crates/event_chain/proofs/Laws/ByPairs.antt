@@ -1,24 +1,25 @@
 -- Rows of two coloured kinds with two words for each colour: such a row is exact if the two words of a colour tell what an event of it does, and if a
 -- colour that is not kept can be brought nearer by one event.
-use Rattle.event_chain.proofs.Laws.ByColour.{ByColour, Colouring, Lost, Nearer, Turned, exactByColour, with-one}
-use Rattle.event_chain.proofs.Laws.Words.{highOf, lowOf, other-high, other-low, stored, stored-high, stored-low, stored-whole}
-use Rattle.event_chain.specs.Coloured.{leastOf}
+use Rattle.event_chain.proofs.Laws.ByColour.{ByColour, Colouring, Lost, Nearer, Turned, due-next, exactByColour, least-limit, with-one}
+use Rattle.event_chain.proofs.Laws.Words.{highOf, lowOf, marking-last, other-high, other-low, stored, stored-high, stored-low, stored-whole}
+use Rattle.event_chain.proofs.Laws.Words.{stream-coloured}
+use Rattle.event_chain.specs.{Coloured.leastOf, Marked.colouredKind, Marked.dueMarked, Marked.dueNext, Marked.marking}
 use Rattle.event_chain.specs.declared.reaction.Pair.{Pair}
 use Rattle.constraint.proofs.Library.{List, [], _%_, _*_, _++_, _+_, _<_, _↔_, _∙_, _∷_, _≡_, _≤_, ap, ap₂, arith, cond, eq-eqb, eqb, false}
-use Rattle.constraint.proofs.Library.{getD-replicate, length, ne-eqb, refl, replicate, subst, subst₂, suc, sym, take, zero, ℕ}
+use Rattle.constraint.proofs.Library.{getD-replicate, length, ltb, ne-eqb, refl, replicate, subst, subst₂, suc, sym, take, zero, ℕ}
 use Rattle.constraint.proofs.Lists.{Each, each-cons, each-none, split}
-use Rattle.constraint.proofs.Streams.{stream-kind, streamsIn}
+use Rattle.constraint.proofs.Streams.{streamsIn}
 use Rattle.constraint.specs.Accepted.{EachField, FieldInRange, InRange, KindClassFits, KindsFit, KindsSuit, LowerFirst, Ordered, kindsIn}
 use Rattle.constraint.specs.Steps.{Step, at, times}
 use Rattle.constraint.specs.Types.{Field, byte, coloured, fieldsOf, firstOf, lower, time, typeOf, upper}
-use Rattle.constraint.specs.{Limits.firstColoured, Limits.lastColour, Limits.lastTime, Limits.noLimit, Meets.Meets, Streams.kindOf, Streams.stream}
+use Rattle.constraint.specs.{Limits.firstColoured, Limits.lastColour, Limits.lastTime, Limits.noLimit, Meets.Meets, Streams.stream}
 use Rattle.constraint.specs.{Waiting.waiting, Constraint.Constraint}
 use Rattle.row_type.proofs.Exact.{ByOutcome, Exact, Sound}
 use Rattle.row_type.proofs.FieldNumbers.{tag-is}
-use Rattle.row_type.proofs.FitsRow.{Steady, keeping-none, steady-breaking, steady-by, steady-store}
+use Rattle.row_type.proofs.FitsRow.{Steady, keeping-last, steady-breaking, steady-by, steady-store}
 use Rattle.row_type.proofs.SeveralKinds.{kinds-apart}
 use Rattle.row_type.specs.Parameters.{constantsOf, startWords, waitsIn, wordCounts}
-use Rattle.row_type.specs.{Parts.breaking, Parts.continuesWith, Words.noneSaved, declared.Change.Change, declared.Registers.Registers}
+use Rattle.row_type.specs.{Parts.breaking, Words.lastSaved, declared.Change.Change, declared.Registers.Registers}
 use Rattle.ring.specs.declared.Edit.the-variants.{Store}
 
 -- ---- a colour's words
@@ -72,19 +73,24 @@ pub record ByPairs (Says : List ℕ → List ℕ → Type 0) (owed : ℕ → ℕ
 
 -- ---- the machine
 
--- the change that new words of a colour make; the row is kept where nothing is due
-abbrev pub pairChange : (ℕ → ℕ → ℕ → List ℕ → ℕ) → Registers → List ℕ → ℕ → Pair → Change
-pairChange due registers words d pair =
+-- the due time after new words of a colour, by the last moments of the words and that of all colours
+abbrev pub pairDue : (ℕ → ℕ → ℕ) → (ℕ → ℕ → ℕ → List ℕ → ℕ) → Registers → List ℕ → ℕ → ℕ → ℕ → ℕ
+pairDue owed due registers words d low high =
+    dueNext (dueMarked registers) (owed (lowOf words d) (highOf words d)) (owed low high) (due d low high words)
+
+-- the change that new words of a colour make
+abbrev pub pairChange : (ℕ → ℕ → ℕ) → (ℕ → ℕ → ℕ → List ℕ → ℕ) → Registers → List ℕ → ℕ → Pair → Change
+pairChange owed due registers words d pair =
     cond (pair .breaks) breaking
-    (continuesWith (Store (2 * d) (pair .low) (pair .high)) registers (due d (pair .low) (pair .high) words)
-    (eqb (due d (pair .low) (pair .high) words) noLimit))
+    (marking (Store (2 * d) (pair .low) (pair .high)) registers (pairDue owed due registers words d (pair .low) (pair .high)))
 
 -- an event of one of the row's streams
-abbrev pub decidePair : (ℕ → ℕ → ℕ → List ℕ → ℕ) → (ℕ → ℕ → ℕ → Pair) → (ℕ → ℕ → ℕ → Pair) → ℕ → Registers → List ℕ → ℕ → ℕ → Change
-decidePair due onStimulus onResponse stimulus registers words s t =
-    pairChange due registers words (s % 8)
-    (cond (eqb (kindOf s) stimulus) (onStimulus (lowOf words (s % 8)) (highOf words (s % 8)) t) (onResponse (lowOf words (s % 8))
-    (highOf words (s % 8)) t))
+abbrev pub decidePair : (ℕ → ℕ → ℕ) → (ℕ → ℕ → ℕ → List ℕ → ℕ) → (ℕ → ℕ → ℕ → Pair) → (ℕ → ℕ → ℕ → Pair) → ℕ → Registers → List ℕ → ℕ → ℕ → Change
+decidePair owed due onStimulus onResponse stimulus registers words s t =
+    cond (ltb (length words) 16) breaking
+    (pairChange owed due registers words (s % 8)
+    (cond (eqb (colouredKind s) stimulus) (onStimulus (lowOf words (s % 8)) (highOf words (s % 8)) t) (onResponse (lowOf words (s % 8))
+    (highOf words (s % 8)) t)))
 
 -- its due time is the first last moment of the new words
 abbrev pub FirstOwed : (ℕ → ℕ → ℕ) → (ℕ → ℕ → ℕ → List ℕ → ℕ) → Type 0
@@ -92,10 +98,13 @@ FirstOwed owed due =
     (words : List ℕ) → length words ≡ 16 → (d low high : ℕ) → d < 8
     → due d low high words ≡ leastOf (λ e. owed (lowOf (stored words d low high) e) (highOf (stored words d low high) e)) 8
 
--- whatever the words of the event's colour become, they stand where they stood, and no mark changes
-pub steady-pair : (due : ℕ → ℕ → ℕ → List ℕ → ℕ) (m : Registers) (words : List ℕ) (d : ℕ) (pair : Pair)
-    → Steady noneSaved m words (pairChange due m words d pair)
-steady-pair due m words d pair = steady-by (pair .breaks) (steady-breaking keeping-none) (steady-store (2 * d) (pair .low) (pair .high) (λ e. e))
+-- whatever the words of the event's colour become, they stand where they stood, and only the mark changes
+pub steady-pair : (owed : ℕ → ℕ → ℕ) (due : ℕ → ℕ → ℕ → List ℕ → ℕ) (m : Registers) (words : List ℕ) (d : ℕ) (pair : Pair)
+    → Steady lastSaved m words (cond (ltb (length words) 16) breaking (pairChange owed due m words d pair))
+steady-pair owed due m words d pair =
+    steady-by (ltb (length words) 16) (steady-breaking keeping-last)
+    (steady-by (pair .breaks) (steady-breaking keeping-last)
+    (steady-store (2 * d) (pair .low) (pair .high) (marking-last (pairDue owed due m words d (pair .low) (pair .high)))))
 
 -- ---- a constraint of two coloured kinds and an interval
 
@@ -138,7 +147,7 @@ module _ (c : Constraint) (sound : Sound c) (stimulus response minimum maximum :
     module _ (Says : List ℕ → List ℕ → Type 0) (owed : ℕ → ℕ → ℕ) (due : ℕ → ℕ → ℕ → List ℕ → ℕ) (onStimulus onResponse : ℕ → ℕ → ℕ → Pair)
         (r : ByPairs Says owed onStimulus onResponse) (due-is : FirstOwed owed due) where
       abbrev decide : Registers → List ℕ → ℕ → ℕ → Change
-      decide = decidePair due onStimulus onResponse stimulus
+      decide = decidePair owed due onStimulus onResponse stimulus
 
       abbrev SaysOf : (ℕ → List ℕ) → Type 0
       SaysOf f = Says (f 0) (f 1)
@@ -152,31 +161,38 @@ module _ (c : Constraint) (sound : Sound c) (stimulus response minimum maximum :
             Alike = λ e a b. (lowOf b e ≡ lowOf a e) × (highOf b e ≡ highOf a e);
           }
 
-      decides-stimulus : (registers : Registers) (words : List ℕ) (d t : ℕ) → d ≤ lastColour
-          → decide registers words (stream stimulus d) t ≡ pairChange due registers words d (onStimulus (lowOf words d) (highOf words d) t)
-      decides-stimulus registers words d t few =
-          rw (colour-of stimulus d few, stream-kind stimulus d (suit .0) few, eq-eqb stimulus stimulus refl)
+      decides-stimulus : (registers : Registers) (words : List ℕ) (d t : ℕ) → d ≤ lastColour → length words ≡ 16
+          → decide registers words (stream stimulus d) t ≡ pairChange owed due registers words d (onStimulus (lowOf words d) (highOf words d) t)
+      decides-stimulus registers words d t few whole =
+          rw (whole, colour-of stimulus d few, stream-coloured stimulus d (suit .0) few, eq-eqb stimulus stimulus refl)
 
-      decides-response : (registers : Registers) (words : List ℕ) (d t : ℕ) → d ≤ lastColour
-          → decide registers words (stream response d) t ≡ pairChange due registers words d (onResponse (lowOf words d) (highOf words d) t)
-      decides-response registers words d t few =
-          rw (colour-of response d few, stream-kind response d (suit .1 .0) few, ne-eqb response stimulus kinds-differ)
+      decides-response : (registers : Registers) (words : List ℕ) (d t : ℕ) → d ≤ lastColour → length words ≡ 16
+          → decide registers words (stream response d) t ≡ pairChange owed due registers words d (onResponse (lowOf words d) (highOf words d) t)
+      decides-response registers words d t few whole =
+          rw (whole, colour-of response d few, stream-coloured response d (suit .1 .0) few, ne-eqb response stimulus kinds-differ)
 
       -- the new words of a colour
       pair-turns : (f : ℕ → List ℕ) (registers : Registers) (words : List ℕ) (d j t : ℕ) (pair : Pair) → d ≤ lastColour → length words ≡ 16
+          → dueMarked registers ≡ leastOf (colouring .due words) 8
           → ByPair (LostPair Says t (with-one f j t 0) (with-one f j t 1))
           (λ l h. r .Colour (with-one f j t 0) (with-one f j t 1) l h × (t ≤ owed l h)) pair
-          → ByOutcome (Lost 2 SaysOf t (with-one f j t)) (Turned colouring f d j t words) (pairChange due registers words d pair)
-      pair-turns f registers words d j t pair few whole =
+          → ByOutcome (Lost 2 SaysOf t (with-one f j t)) (Turned colouring f d j t words) (pairChange owed due registers words d pair)
+      pair-turns f registers words d j t pair few whole marked =
           let low = pair .low in let high = pair .high in
-          let now = due d low high words in
+          let now = pairDue owed due registers words d low high in
+          let next = colouring .due (stored words d low high) in
           let low-is = sym (stored-low words whole d low high (omega arith)) in
           let high-is = sym (stored-high words whole d low high (omega arith)) in
+          let first : now ≡ leastOf next 8 =
+          due-next (colouring .due words) next d (omega arith)
+          (λ e h o. ap₂ owed (other-low words whole d low high (omega arith) e o) (other-high words whole d low high (omega arith) e o))
+          (dueMarked registers) (owed low high) (due d low high words) marked (ap₂ owed low-is high-is)
+          (due-is words whole d low high (omega arith)) in
           split (pair .breaks)
           (λ x. cond x (LostPair Says t (with-one f j t 0) (with-one f j t 1))
           (r .Colour (with-one f j t 0) (with-one f j t 1) low high × (t ≤ owed low high))
           → ByOutcome (Lost 2 SaysOf t (with-one f j t)) (Turned colouring f d j t words)
-          (cond x breaking (continuesWith (Store (2 * d) low high) registers now (eqb now noLimit))))
+          (cond x breaking (marking (Store (2 * d) low high) registers now)))
           (λ e lost g late. lost (g 0) (g 1) (late 0 (omega arith)) (late 1 (omega arith)))
           (λ e goes. record {
             keeps = (
@@ -185,23 +201,24 @@ module _ (c : Constraint) (sound : Sound c) (stimulus response minimum maximum :
             );
             others = λ x l o. (other-low words whole d low high (omega arith) x o, other-high words whole d low high (omega arith) x o);
             in-time = subst₂ (λ (a b : ℕ). t ≤ owed a b) low-is high-is (goes .1);
-            due-is = due-is words whole d low high (omega arith);
+            due-is = first;
             kept-is = refl;
+            marked = omega (arith, first, least-limit next 8);
           })
 
       turns : (f : ℕ → List ℕ) (registers : Registers) (words : List ℕ) (d j t : ℕ) → d ≤ lastColour → j < 2
           → ((i : ℕ) → i < 2 → Each (λ s. s ≤ t) (f i)) → Each (λ s. s < t) (f j) → t ≤ lastTime → colouring .Keeps f d words
-          → t ≤ colouring .due words d
+          → t ≤ colouring .due words d → dueMarked registers ≡ leastOf (colouring .due words) 8
           → ByOutcome (Lost 2 SaysOf t (with-one f j t)) (Turned colouring f d j t words) (decide registers words (stream (at ks j) d) t)
-      turns f registers words d zero t few h past rises small keeps soon =
-          rw (decides-stimulus registers words d t few)
-          (pair-turns f registers words d 0 t (onStimulus (lowOf words d) (highOf words d) t) few (keeps .0)
+      turns f registers words d zero t few h past rises small keeps soon marked =
+          rw (decides-stimulus registers words d t few (keeps .0))
+          (pair-turns f registers words d 0 t (onStimulus (lowOf words d) (highOf words d) t) few (keeps .0) marked
           (r .stimulus-does (f 0) (f 1) t (past 0 (omega arith)) (past 1 (omega arith)) small (lowOf words d) (highOf words d) (keeps .1)))
-      turns f registers words d (suc zero) t few h past rises small keeps soon =
-          rw (decides-response registers words d t few)
-          (pair-turns f registers words d 1 t (onResponse (lowOf words d) (highOf words d) t) few (keeps .0)
+      turns f registers words d (suc zero) t few h past rises small keeps soon marked =
+          rw (decides-response registers words d t few (keeps .0))
+          (pair-turns f registers words d 1 t (onResponse (lowOf words d) (highOf words d) t) few (keeps .0) marked
           (r .response-does (f 0) (f 1) t (past 0 (omega arith)) rises small (lowOf words d) (highOf words d) soon (keeps .1)))
-      turns f registers words d (suc (suc j)) t few h past rises small keeps soon = absurd (omega arith)
+      turns f registers words d (suc (suc j)) t few h past rises small keeps soon marked = absurd (omega arith)
 
       nearer : (f : ℕ → List ℕ) (words : List ℕ) (d now : ℕ) → d ≤ lastColour → ((i : ℕ) → i < 2 → Each (λ s. s ≤ now) (f i)) → Unit {0}
           → colouring .Keeps f d words → now ≤ colouring .due words d → colouring .due words d < noLimit

@@ -1,24 +1,28 @@
 -- Rows of coloured kinds with a word for each kind and colour: such a row is exact if the words of one colour tell what an event of it does, and if a
 -- colour that is not kept can be brought nearer by one event at the clock. The places of the words are looked at here alone.
-use Rattle.event_chain.proofs.Laws.ByColour.{ByColour, Colouring, Lost, Nearer, Turned, coloursOf, exactByColour, least-same, with-one}
-use Rattle.event_chain.specs.Coloured.{decideWords, dueWords, eventWords, fourKinds, kindCount, noted, oneNew, placeAmong, placeIn, wordsAt}
-use Rattle.event_chain.specs.Coloured.{wordsBut}
-use Rattle.constraint.proofs.Library.{Bool, List, [], _%_, _*_, _++_, _+_, _<_, _↔_, _∙_, _∷_, _≡_, _≤_, ap, ap₂, arith, by-cases, cond, decLt}
-use Rattle.constraint.proofs.Library.{eq-eqb, ext-getD, false, getD, getD-replicate, getD-set-other, getD-set-same, getD-take, length}
+use Rattle.event_chain.proofs.Laws.ByColour.{ByColour, Colouring, Lost, Nearer, Turned, coloursOf, due-next, exactByColour, least-limit}
+use Rattle.event_chain.proofs.Laws.ByColour.{least-same, with-one}
+use Rattle.event_chain.proofs.Laws.Words.{marking-last, stream-coloured}
+use Rattle.event_chain.specs.Coloured.{decideWords, dueWords, fourKinds, kindCount, leastOf, noted, oneNew, placeAmong, placeIn}
+use Rattle.event_chain.specs.Coloured.{unchanged, wordsAt, wordsBut}
+use Rattle.event_chain.specs.Marked.{colouredKind, dueMarked, dueNext}
+use Rattle.constraint.proofs.Library.{Bool, List, [], _%_, _*_, _++_, _+_, _<_, _↔_, _∙_, _∷_, _≡_, _≤_, _||_, ap, ap₂, arith, by-cases, cond}
+use Rattle.constraint.proofs.Library.{decLt, eq-eqb, eqb, eqb-true, ext-getD, false, getD, getD-replicate, getD-set-other, getD-set-same, getD-take}
+use Rattle.constraint.proofs.Library.{length, ltb}
 use Rattle.constraint.proofs.Library.{length-set, ne-eqb, refl, replicate, set, set-out, subst, suc, sym, take, take-take, zero, ℕ, ℕ-discrete}
 use Rattle.constraint.proofs.Lists.{Each, at-left, each-cons, each-none, split}
-use Rattle.constraint.proofs.Streams.{colours, stream-kind, streams, streamsIn}
+use Rattle.constraint.proofs.Streams.{colours, streams, streamsIn}
 use Rattle.constraint.specs.Accepted.{EachField, KindClassFits, KindsFit, KindsSuit, kinds, kindsIn}
 use Rattle.constraint.specs.Steps.{Step, at, times}
 use Rattle.constraint.specs.Types.{Field, byte, coloured, count, fieldsOf, kindFields, plain, time, tolerance, typeOf}
 use Rattle.constraint.specs.{Limits.firstColoured, Limits.lastColour, Limits.lastTime, Limits.noLimit, Meets.Meets}
-use Rattle.constraint.specs.{Streams.kindOf, Streams.stream, Waiting.waiting, Constraint.Constraint}
+use Rattle.constraint.specs.{Streams.stream, Waiting.waiting, Constraint.Constraint}
 use Rattle.row_type.proofs.Exact.{ByOutcome, Exact, Sound}
 use Rattle.row_type.proofs.FieldNumbers.{kinds-are, tag-is}
-use Rattle.row_type.proofs.FitsRow.{Steady, keeping-none, steady-breaking, steady-by, steady-store}
+use Rattle.row_type.proofs.FitsRow.{Steady, keeping-last, steady-breaking, steady-by, steady-drop, steady-store}
 use Rattle.row_type.proofs.SeveralKinds.{kinds-apart}
 use Rattle.row_type.specs.Parameters.{constantsOf, noFields, noKind, parametersOf, startWords, waitsIn, withFields, wordCounts}
-use Rattle.row_type.specs.{Parts.breaking, Words.noneSaved}
+use Rattle.row_type.specs.{Parts.breaking, Words.lastSaved}
 use Rattle.row_type.specs.{declared.Change.Change, declared.Parameters.Parameters, declared.Registers.Registers}
 use Rattle.ring.specs.{Ring.changed}
 
@@ -61,6 +65,11 @@ pub record ByWords (n : ℕ) (Says : (ℕ → List ℕ) → Type 0) (owed : List
 
 -- ---- one word is new
 
+set-same : (list : List ℕ) (i : ℕ) → set list i (at list i) ≡ list
+set-same [] i = refl
+set-same (x ∷ list) zero = refl
+set-same (x ∷ list) (suc i) = ap (λ (l : List ℕ). x ∷ l) (set-same list i)
+
 abbrev stored : List ℕ → ℕ → ℕ → List ℕ
 stored words p x = changed (oneNew p x words) words
 
@@ -84,7 +93,7 @@ module _ (words : List ℕ) (p x : ℕ) where
           (λ l. ap (λ (xs : List ℕ). getD xs (p + 1) 0) (set-out (set words p x) (p + 1) (getD words (p + 1) 0) (omega (arith, length-set words p x)))
           ∙ getD-set-other words p (p + 1) x 0 (λ e. omega arith))
 
-words-at : (words : List ℕ) (d i : ℕ) → i < 5 → at (wordsAt words d) i ≡ getD words (5 * d + i) 0
+pub words-at : (words : List ℕ) (d i : ℕ) → i < 5 → at (wordsAt words d) i ≡ getD words (5 * d + i) 0
 words-at words d zero h = refl
 words-at words d (suc zero) h = refl
 words-at words d (suc (suc zero)) h = refl
@@ -156,7 +165,10 @@ pub record ColouredRow (c : Constraint) (ks : List ℕ) (Says : (ℕ → List �
   pub meets : (steps : List Step) → Meets c steps ↔ ((d : ℕ) → d ≤ lastColour → Says (λ i. times (stream (at ks i) d) steps))
   pub start-is : startWords c ≡ replicate 40 0
   pub decides : (registers : Registers) (words : List ℕ) (d j t : ℕ) → d ≤ lastColour → j < length ks
-      → decide registers words (stream (at ks j) d) t ≡ eventWords owed breaks word registers words d j t
+      → length words ≡ 40
+      → decide registers words (stream (at ks j) d) t ≡ cond (breaks (wordsAt words d) j t) breaking
+      (cond (eqb (word (wordsAt words d) j t) (at (wordsAt words d) j)) (unchanged registers)
+      (noted owed registers words d j (word (wordsAt words d) j t)))
 
 module _ (ks : List ℕ) (Says : (ℕ → List ℕ) → Type 0) (decide : Registers → List ℕ → ℕ → ℕ → Change) (owed : List ℕ → ℕ)
     (breaks : List ℕ → ℕ → ℕ → Bool) (word : List ℕ → ℕ → ℕ → ℕ)
@@ -170,29 +182,71 @@ module _ (ks : List ℕ) (Says : (ℕ → List ℕ) → Type 0) (decide : Regist
         Alike = λ e a b. wordsAt b e ≡ wordsAt a e;
       }
 
+  -- a word is new, or it is what it was
+  module _ (f : ℕ → List ℕ) (registers : Registers) (words : List ℕ) (d j t : ℕ) (few : d ≤ lastColour) (place : j < 5) (whole : length words ≡ 40)
+      (marked : dueMarked registers ≡ leastOf (colouring .due words) 8) (x : ℕ) (keeps : r .Colour (with-one f j t) (set (wordsAt words d) j x))
+      (in-time : t ≤ owed (set (wordsAt words d) j x)) where
+    abbrev w : List ℕ
+    w = wordsAt words d
+
+    abbrev next : List ℕ
+    next = stored words (5 * d + j) x
+
+    own : wordsAt next d ≡ set w j x
+    own = own-words words whole d j x few place
+
+    all-is : dueWords owed words d j x 8 ≡ leastOf (colouring .due next) 8
+    unfolding dueWords
+    all-is =
+        least-same (λ e. owed (wordsBut words d j x e)) (λ e. owed (wordsAt next e)) 8 (λ e l. ap owed (but-words words whole d j x few place e))
+
+    first : dueNext (dueMarked registers) (owed w) (owed (set w j x)) (dueWords owed words d j x 8) ≡ leastOf (colouring .due next) 8
+    first =
+        due-next (colouring .due words) (colouring .due next) d (omega arith) (λ e l other. ap owed (other-words words whole d j x few place e other))
+        (dueMarked registers) (owed (set w j x)) (dueWords owed words d j x 8) marked (ap owed (sym own)) all-is
+
+    word-turns : Turned colouring f d j t words (noted owed registers words d j x)
+    word-turns =
+        record {
+          keeps = (stored-long words (5 * d + j) x ∙ whole, subst (r .Colour (with-one f j t)) (sym own) keeps);
+          others = λ i l other. other-words words whole d j x few place i other;
+          in-time = subst (λ (v : List ℕ). t ≤ owed v) (sym own) in-time;
+          due-is = first;
+          kept-is = refl;
+          marked = omega (arith, first, least-limit (colouring .due next) 8);
+        }
+
+    word-stays : x ≡ at w j → Turned colouring f d j t words (unchanged registers)
+    word-stays is =
+        let same : set w j x ≡ w = ap (set w j) is ∙ set-same w j in
+        record {
+          keeps = (whole, subst (r .Colour (with-one f j t)) same keeps);
+          others = λ i l other. refl;
+          in-time = subst (λ (v : List ℕ). t ≤ owed v) same in-time;
+          due-is = marked;
+          kept-is = refl;
+          marked = refl;
+        }
+
   turns : (f : ℕ → List ℕ) (registers : Registers) (words : List ℕ) (d j t : ℕ) → d ≤ lastColour → j < length ks
       → ((i : ℕ) → i < length ks → Each (λ s. s ≤ t) (f i)) → Each (λ s. s < t) (f j) → t ≤ lastTime → colouring .Keeps f d words
-      → t ≤ colouring .due words d
+      → t ≤ colouring .due words d → dueMarked registers ≡ leastOf (colouring .due words) 8
       → ByOutcome (Lost (length ks) Says t (with-one f j t)) (Turned colouring f d j t words) (decide registers words (stream (at ks j) d) t)
-  unfolding dueWords
-  turns f registers words d j t few h past rises small (whole, colour) soon =
+  turns f registers words d j t few h past rises small (whole, colour) soon marked =
       let w = wordsAt words d in
       let x = word w j t in
       let place : j < 5 = omega (arith, r .few) in
-      let own = own-words words whole d j x few place in
-      rw (row .decides registers words d j t few h)
+      rw (row .decides registers words d j t few h whole)
       (split (breaks w j t)
       (λ b. cond b (Lost (length ks) Says t (with-one f j t)) (r .Colour (with-one f j t) (set w j x) × (t ≤ owed (set w j x)))
-      → ByOutcome (Lost (length ks) Says t (with-one f j t)) (Turned colouring f d j t words) (cond b breaking (noted owed registers words d j x)))
+      → ByOutcome (Lost (length ks) Says t (with-one f j t)) (Turned colouring f d j t words)
+      (cond b breaking (cond (eqb x (at w j)) (unchanged registers) (noted owed registers words d j x))))
       (λ e lost. lost)
-      (λ e goes. record {
-        keeps = (stored-long words (5 * d + j) x ∙ whole, subst (r .Colour (with-one f j t)) (sym own) (goes .0));
-        others = λ i l other. other-words words whole d j x few place i other;
-        in-time = subst (λ (v : List ℕ). t ≤ owed v) (sym own) (goes .1);
-        due-is = least-same (λ e. owed (wordsBut words d j x e)) (λ e. owed (wordsAt (stored words (5 * d + j) x) e)) 8
-            (λ e l. ap owed (but-words words whole d j x few place e));
-        kept-is = refl;
-      })
+      (λ e goes. split (eqb x (at w j))
+      (λ b. ByOutcome (Lost (length ks) Says t (with-one f j t)) (Turned colouring f d j t words)
+      (cond b (unchanged registers) (noted owed registers words d j x)))
+      (λ same. word-stays f registers words d j t few place whole marked x (goes .0) (goes .1) (eqb-true x (at w j) same))
+      (λ other. word-turns f registers words d j t few place whole marked x (goes .0) (goes .1)))
       (r .turns f w j t refl h past rises small colour soon))
 
   nearer : (f : ℕ → List ℕ) (words : List ℕ) (d now : ℕ) → d ≤ lastColour → ((i : ℕ) → i < length ks → Each (λ s. s ≤ now) (f i)) → now ≤ lastTime
@@ -300,9 +354,9 @@ module _ (c : Constraint) (sound : Sound c) (ks : List ℕ) (n x : ℕ) (fields 
   colour-of : (k d : ℕ) → d ≤ lastColour → stream k d % 8 ≡ d
   colour-of k d few = omega arith
 
-  place-of : (j d : ℕ) → length ks ≤ 5 → d ≤ lastColour → j < length ks → placeAmong (parametersOf c) (kindOf (stream (at ks j) d)) ≡ j
+  place-of : (j d : ℕ) → length ks ≤ 5 → d ≤ lastColour → j < length ks → placeAmong (parametersOf c) (colouredKind (stream (at ks j) d)) ≡ j
   place-of j d few small there =
-      ap (placeAmong (parametersOf c)) (stream-kind (at ks j) d (suit-same j there) small ∙ sym (ap (λ (l : List ℕ). at l j) kinds-same))
+      ap (placeAmong (parametersOf c)) (stream-coloured (at ks j) d (suit-same j there) small ∙ sym (ap (λ (l : List ℕ). at l j) kinds-same))
       ∙ place-among c (sound .kinds-fit) (omega (arith, ap length kinds-same)) j (omega (arith, ap length kinds-same))
 
   pub coloured-row : (Says : (ℕ → List ℕ) → Type 0) (owed : ℕ → ℕ → List ℕ → ℕ) (breaks : ℕ → List ℕ → ℕ → ℕ → Bool)
@@ -320,20 +374,22 @@ module _ (c : Constraint) (sound : Sound c) (ks : List ℕ) (n x : ℕ) (fields 
         waits-none = waits-none;
         meets = meets;
         start-is = ap₂ (λ (m : ℕ) (l : List ℕ). take m (take 64 (l ++ replicate 64 0))) (ap (at wordCounts) (tag-is c) ∙ long) none;
-        decides = λ registers words d j t small there.
+        decides = λ registers words d j t small there whole.
             let same : kindCount (parametersOf c) ≡ n = omega (arith, span-same, less) in
-            rw (same, upper-same, colour-of (at ks j) d small, place-of j d few small there) refl;
+            rw (whole, same, upper-same, colour-of (at ks j) d small, place-of j d few small there) refl;
       }
 
 -- ---- in a row
 
--- whatever the new word is, it stands where one stood, and no mark changes
+-- whatever the new word is, it stands where one stood, and only the mark changes
 pub steady-words : (owed : ℕ → ℕ → List ℕ → ℕ) (breaks : ℕ → List ℕ → ℕ → ℕ → Bool) (word : ℕ → List ℕ → ℕ → ℕ → ℕ) (parameters : Parameters)
-    (m : Registers) (words : List ℕ) (s t : ℕ) → Steady noneSaved m words (decideWords owed breaks word parameters m words s t)
+    (m : Registers) (words : List ℕ) (s t : ℕ) → Steady lastSaved m words (decideWords owed breaks word parameters m words s t)
 unfolding decideWords
 steady-words owed breaks word parameters m words s t =
     let n = kindCount parameters in
     let w = wordsAt words (s % 8) in
-    let j = placeAmong parameters (kindOf s) in
+    let j = placeAmong parameters (colouredKind s) in
     let p = 5 * (s % 8) + j in
-    steady-by (breaks n w j t) (steady-breaking keeping-none) (steady-store p (word n w j t) (getD words (p + 1) 0) (λ e. e))
+    steady-by (ltb (length words) 40 || breaks n w j t) (steady-breaking keeping-last)
+    (steady-by (eqb (word n w j t) (at w j)) (steady-drop 0 (λ e. e))
+    (steady-store p (word n w j t) (getD words (p + 1) 0) (marking-last _)))

@@ -22,7 +22,7 @@ use Rattle.constraint.specs.Types.{Field, byte, count}
 use Rattle.constraint.specs.{Constraint.InputSynchronization, Limits.lastTime, Limits.noLimit, Meets.Meets, Meets.MeetsInputSynchronization}
 use Rattle.constraint.specs.{Meets.latestOf, Streams.stream, Waiting.waiting}
 use Rattle.row_type.proofs.Exact.{Exact, Sound}
-use Rattle.row_type.proofs.FitsRow.{FitsRow, fits-steady, keeping-none}
+use Rattle.row_type.proofs.FitsRow.{FitsRow, fits-steady, keeping-last}
 use Rattle.row_type.specs.{Parameters.parametersOf, Parts.plus}
 
 module _ (n tolerance : ℕ) where
@@ -404,4 +404,4 @@ exactInputSynchronization stimuli response x sound =
 -- ---- In a row
 
 pub fitsInputSynchronization : FitsRow machineInputSynchronization
-fitsInputSynchronization = fits-steady keeping-none (steady-words owedInput breaksInput wordInput)
+fitsInputSynchronization = fits-steady keeping-last (steady-words owedInput breaksInput wordInput)

@@ -18,7 +18,7 @@ use Rattle.constraint.specs.Steps.{at}
 use Rattle.constraint.specs.{Constraint.OutputSynchronization, Limits.lastTime, Limits.noLimit, Meets.Meets, Meets.MeetsOutputSynchronization}
 use Rattle.constraint.specs.{Waiting.waiting}
 use Rattle.row_type.proofs.Exact.{Exact, Sound}
-use Rattle.row_type.proofs.FitsRow.{FitsRow, fits-steady, keeping-none}
+use Rattle.row_type.proofs.FitsRow.{FitsRow, fits-steady, keeping-last}
 use Rattle.row_type.specs.{Parameters.parametersOf, Parts.plus}
 
 latest-above : (x t : ℕ) → (0 < x → t < x) → t ≤ noLimit → t ≤ latest x
@@ -326,4 +326,4 @@ exactOutputSynchronization stimulus responses x sound =
 -- ---- In a row
 
 pub fitsOutputSynchronization : FitsRow machineOutputSynchronization
-fitsOutputSynchronization = fits-steady keeping-none (steady-words owedOutput breaksOutput wordOutput)
+fitsOutputSynchronization = fits-steady keeping-last (steady-words owedOutput breaksOutput wordOutput)

@@ -2,14 +2,14 @@
 use Rattle.event_chain.proofs.Laws.ByPairs.{ByPairs, NearerPair, exactByPairs, maximum-small, minimum-first, steady-pair}
 use Rattle.event_chain.proofs.Laws.Colour.{LiveColour, answered, answers, colour-kept, colour-late, colour-unkept, quiet, response-does}
 use Rattle.event_chain.proofs.Laws.Colour.{stimulus-does, waits}
-use Rattle.event_chain.proofs.Laws.Words.{due-stored, latest-some}
-use Rattle.event_chain.specs.Reaction.{afterResponse, afterStimulus, decideReaction, dueBut, latest, machineReaction}
-use Rattle.constraint.proofs.Library.{List, _%_, _*_, _+_, _<_, _≤_, arith, cond, eqb, getD, ne-eqb, refl, ℕ}
-use Rattle.constraint.specs.{Constraint.Reaction, Limits.lastTime, Limits.noLimit, Meets.Meets, Meets.MeetsReaction, Streams.kindOf}
+use Rattle.event_chain.proofs.Laws.Words.{due-stored, highOf, latest-some, lowOf}
+use Rattle.event_chain.specs.Reaction.{afterResponse, afterStimulus, decideReaction, dueBut, latest, machineReaction, pairAfter}
+use Rattle.constraint.proofs.Library.{List, _%_, _+_, _<_, _≤_, arith, cond, eqb, ne-eqb, refl, ℕ}
+use Rattle.constraint.specs.{Constraint.Reaction, Limits.lastTime, Limits.noLimit, Meets.Meets, Meets.MeetsReaction}
 use Rattle.constraint.specs.{Waiting.waiting}
 use Rattle.row_type.proofs.Exact.{Exact, Sound}
-use Rattle.row_type.proofs.FitsRow.{FitsRow, Steady, fits-steady, keeping-none}
-use Rattle.row_type.specs.{Parameters.parametersOf, Words.noneSaved, declared.Parameters.Parameters, declared.Registers.Registers}
+use Rattle.row_type.proofs.FitsRow.{FitsRow, Steady, fits-steady, keeping-last}
+use Rattle.row_type.specs.{Parameters.parametersOf, Words.lastSaved, declared.Parameters.Parameters, declared.Registers.Registers}
 
 -- the last moment of a colour, by its words
 abbrev owed : ℕ → ℕ → ℕ
@@ -73,13 +73,11 @@ exactReaction stimulus response minimum maximum sound =
 -- ---- In a row
 
 steady-reaction : (parameters : Parameters) (m : Registers) (words : List ℕ) (s t : ℕ)
-    → Steady noneSaved m words (decideReaction parameters m words s t)
+    → Steady lastSaved m words (decideReaction parameters m words s t)
 unfolding decideReaction
 steady-reaction parameters m words s t =
-    let low = getD words (2 * (s % 8)) 0 in
-    let high = getD words (2 * (s % 8) + 1) 0 in
-    steady-pair (λ d low high words. dueBut 8 d high words) m words (s % 8)
-    (cond (eqb (kindOf s) (parameters .first)) (afterStimulus (parameters .lower) (parameters .upper) low high t) (afterResponse low high t))
+    steady-pair owed (λ d low high words. dueBut 8 d high words) m words (s % 8)
+    (pairAfter parameters s (lowOf words (s % 8)) (highOf words (s % 8)) t)
 
 pub fitsReaction : FitsRow machineReaction
-fitsReaction = fits-steady keeping-none steady-reaction
+fitsReaction = fits-steady keeping-last steady-reaction

@@ -1,43 +1,46 @@
--- The words of the event's colour are those of the definition, and so is what the event makes of them.
+-- A row of fewer words breaks. Else the words of the event's colour are those of the definition, and so is what the event makes of them.
 use Rattle.event_chain.proofs.age.apply.Statement.{statement}
-use Rattle.event_chain.specs.{Age.afterResponseAge, Age.afterStimulusAge, Age.aged, Age.decideAge, declared.reaction.Pair.Pair}
-use Rattle.constraint.proofs.Library.{_%_, _*_, _+_, _∙_, _≡_, ap, cond, eq-eqb, eqb, getD, ne-eqb, needs, refl}
-use Rattle.constraint.specs.Streams.{kindOf}
-use Rattle.row_type.specs.Words.{changedWords, noneSaved, numberWords, rowWords}
+use Rattle.event_chain.proofs.Laws.Words.{first-read, long-enough, second-read}
+use Rattle.event_chain.specs.{Age.aged, Age.decideAge, Age.owed, Age.pairAfterAge, declared.reaction.Pair.Pair}
+use Rattle.constraint.proofs.Library.{_%_, _*_, _+_, _∙_, _≡_, _≤_, ap, ap₂, arith, getD, lt-ltb, needs, refl, sym, ℕ}
+use Rattle.row_type.specs.{Words.changedWords, Words.lastSaved, Words.numberWords, Words.rowWords, declared.Change.Change}
+use Rattle.ring.proofs.Laws.{ring-length}
 use Rattle.ring.specs.Ring.{ring}
 use Rattle.event_chain.proofs.age.apply.Tie as tie
 
 returns : tie.Need-returns
-unfolding rowWords numberWords decideAge
+unfolding rowWords numberWords changedWords decideAge
 returns c parameters times state past e =
-    let a = c .before .before in let i = a .before .before in let k = i .before .before in let h = k .before in let l = h .before .before in
-    let s = l .before .before .before .before .args in
-    let words = ring times (state .head) (state .len) in
-    let low = getD words (2 * (s .stream % 8)) 0 in
-    let high = getD words (2 * (s .stream % 8) + 1) 0 in
-    let pair : a .after-stimulus .result ≡ cond (eqb (kindOf (s .stream)) (parameters .first)) (afterStimulusAge (parameters .lower) high (s .t))
-    (afterResponseAge (parameters .lower) (parameters .upper) low high (s .t)) =
-    a .after-stimulus .ensures ∙ rw (h .word2 .ensures, e, ← k .kind-of .ensures, eq-eqb _ _ (rw e at (i .if1 .taken))) refl in
-    c .store .ensures parameters times state past e
-    ∙ ap (λ (p : Pair). changedWords noneSaved parameters times state past (aged (state .registers) words (s .stream % 8) p) (s .t) (s .number)) pair
+    rw (
+      c .break-at .ensures parameters times state past e,
+      ring-length times (state .head) (state .len),
+      lt-ltb _ _ (rw e at (c .before .before .if1 .taken)),
+    ) refl
 
 returns-2 : tie.Need-returns-2
 unfolding rowWords numberWords decideAge
 returns-2 c parameters times state past e =
-    let a = c .before .before in let i = a .before .before .before in let k = i .before .before in let h = k .before in let l = h .before .before in
-    let s = l .before .before .before .before .args in
+    let p = c .before .before in let h = p .before .before in let l = h .before .before in let o = l .before .before in
+    let i = o .before .before in let s = i .before .before .args in
     let words = ring times (state .head) (state .len) in
-    let low = getD words (2 * (s .stream % 8)) 0 in
-    let high = getD words (2 * (s .stream % 8) + 1) 0 in
-    let pair : a .after-response .result ≡ cond (eqb (kindOf (s .stream)) (parameters .first)) (afterStimulusAge (parameters .lower) high (s .t))
-    (afterResponseAge (parameters .lower) (parameters .upper) low high (s .t)) =
-    a .after-response .ensures ∙ rw (h .word2 .ensures, l .word .ensures, e, ← k .kind-of .ensures, ne-eqb _ _ (rw e at (i .if1 .left))) refl in
-    c .store2 .ensures parameters times state past e
-    ∙ ap (λ (p : Pair). changedWords noneSaved parameters times state past (aged (state .registers) words (s .stream % 8) p) (s .t) (s .number)) pair
+    let place = 2 * (s .stream % 8) in
+    let many : 16 ≤ state .len = rw e at (i .if1 .left) in
+    let low : l .time-at .result ≡ getD words place 0 =
+    rw (o .place-of .ensures, e) at (l .time-at .ensures) ∙ first-read times (state .head) (state .len) place (omega arith) in
+    let high : h .second-at .result ≡ getD words (place + 1) 0 =
+    rw (o .place-of .ensures, e) at (h .second-at .ensures) ∙ second-read times (state .head) (state .len) place (omega arith) in
+    let pair : p .pair-after .result ≡ pairAfterAge parameters (s .stream) (getD words place 0) (getD words (place + 1) 0) (s .t) =
+    rw e at (p .pair-after .ensures) ∙ ap₂ (λ (l h : ℕ). pairAfterAge parameters (s .stream) l h (s .t)) low high in
+    c .store .ensures parameters times state past e
+    ∙ ap (λ (x : ℕ). changedWords lastSaved parameters times state past
+    (aged (state .registers) words (s .stream % 8) x (p .pair-after .result)) (s .t) (s .number)) (ap₂ owed low high)
+    ∙ ap (λ (x : Pair). changedWords lastSaved parameters times state past
+    (aged (state .registers) words (s .stream % 8) (owed (getD words place 0) (getD words (place + 1) 0)) x) (s .t) (s .number)) pair
+    ∙ ap (λ (x : Change). changedWords lastSaved parameters times state past x (s .t) (s .number))
+    (sym (long-enough 16 words _ (rw (ring-length times (state .head) (state .len)) many)))
 
 pub apply-spec : {M : Type 1} → statement M
 apply-spec =
-    tie.close (tie.spec (λ c. search needs) (λ c. search needs) (λ c. search needs) (λ c. search needs) (λ c. search needs) (λ c. search needs)
-    (λ c κs. search needs) (λ c. search needs) (λ c. search needs) (λ c. search needs) (λ c κs. search needs) (λ c κs. search needs)
-    (λ c. search needs) (λ c. search needs) (λ c. search needs) (λ c. search needs) (λ c κs. search needs) (λ c κs. search needs) returns
-    (λ c. search needs) (λ c. search needs) (λ c. search needs) (λ c. search needs) (λ c κs. search needs) (λ c κs. search needs) returns-2)
+    tie.close (tie.spec (λ c. search needs) (λ c. search needs) (λ c κs. search needs) returns (λ c. search needs) (λ c. search needs)
+    (λ c. search needs) (λ c κs. search needs) (λ c. search needs) (λ c. search needs) (λ c κs. search needs) (λ c. search needs)
+    (λ c κs. search needs) (λ c. search needs) (λ c κs. search needs) (λ c κs. search needs) returns-2)

@@ -1,6 +1,6 @@
 -- A pair that breaks the row, or one that is stored with the due time that it leaves.
 use Rattle.event_chain.proofs.reaction.store.Statement.{statement}
-use Rattle.constraint.proofs.Library.{[], ap, getD, needs, refl}
+use Rattle.constraint.proofs.Library.{needs, refl}
 use Rattle.row_type.specs.Words.{changedWords, numberWords, rowWords}
 use Rattle.event_chain.proofs.reaction.store.Tie as tie
 
@@ -11,13 +11,16 @@ returns c parameters times state past e = rw (c .break-at .ensures parameters ti
 returns-2 : tie.Need-returns-2
 unfolding rowWords numberWords changedWords
 returns-2 c parameters times state past e =
-    let o = c .before in let s = o .before .before in let d = s .before .before in let i = d .before .before .before .before in
-    let stored = s .put-two .ensures parameters times state past e in
-    let done = c .settle .ensures parameters _ _ (ap (λ m. getD m 1 []) stored) in
-    rw (done, o .one-if .ensures, rw e at (d .due-but .ensures), stored, i .if1 .left) refl
+    let a = c .before .before in let m = a .before .before .before .before in
+    rw (
+      c .put-marked .ensures parameters times state past e,
+      rw e at (a .due-after .ensures),
+      rw e at (m .due-marked .ensures),
+      m .before .before .if1 .left,
+    ) refl
 
 pub store-spec : {M : Type 1} → statement M
 store-spec =
-    tie.close (tie.spec (λ c κs. search needs) returns (λ c. search needs) (λ c. search needs) (λ c. search needs) (λ c. search needs) (λ c. search
-    needs) (λ c κs. search needs) (λ c. search needs) (λ c κs. search needs) (λ c. search needs) (λ c κs. search needs) (λ c κs. search needs)
-    returns-2)
+    tie.close (tie.spec (λ c κs. search needs) returns (λ c. search needs) (λ c. search needs) (λ c κs. search needs) (λ c. search needs)
+    (λ c. search needs) (λ c. search needs) (λ c. search needs) (λ c. search needs) (λ c κs. search needs) (λ c. search needs)
+    (λ c κs. search needs) returns-2)

@@ -1,42 +1,29 @@
--- The lists of a lent monitor where they lie: a store in one is a store in one part of the record. Words whose blocks are all known are a monitor's.
-use Rattle.fresh.proofs.Names.{RowUndo, Lent, List, Row, RowsLie, Shaped, Words, [], _%_, _++_, _/_, _<_, _∙_, _∷_, _≡_, _≤_, ap, ap₂, arith}
-use Rattle.fresh.proofs.Names.{drop, drop-cons, drop-length, entries-read, getD, half-written, halves, last-written, lastBlocks, length}
-use Rattle.fresh.proofs.Names.{noRowUndo, noRow, numberBlock, numbers-read, packed, padded, refl, rowBlocks, set, subst, suc, sym, withLists}
-use Rattle.fresh.proofs.Names.{wordsOfLent}
-use Rattle.fresh.proofs.Names.{ℕ}
-use Rattle.fresh.proofs.{Packing.packed-length, Padding.padded-length}
+-- The sets of rows by kind where they lie: a store of one is a store in one part of the record. Words whose blocks are all known are a monitor's.
+use Rattle.fresh.proofs.Names.{RowUndo, Lent, List, Row, RowsLie, Shaped, Words, [], _++_, _<_, _∙_, _∷_, _≡_, _≤_, ap, ap₂, arith, drop}
+use Rattle.fresh.proofs.Names.{drop-cons}
+use Rattle.fresh.proofs.Names.{drop-length, getD, last-written, lastBlocks, length, noRowUndo, noRow, numberBlock, numbers-read, padded, refl}
+use Rattle.fresh.proofs.Names.{rowBlocks, set, subst, suc, sym, withLists, wordsOfLent, ℕ}
+use Rattle.fresh.proofs.{Padding.padded-length}
 use Rattle.row.specs.Stored as Stored
 
 -- ---- stores
 
 module _ (h : Lent) (s : Shaped h) where
-  pub end-written : (kind v : ℕ)
+  pub set-written : (kind v : ℕ)
       → set (wordsOfLent h) 32 (set (getD (wordsOfLent h) 32 []) 1 (set (getD (getD (wordsOfLent h) 32 []) 1 []) kind v))
-      ≡ wordsOfLent (withLists h (set (h .ends) kind v) (h .entries))
+      ≡ wordsOfLent (withLists h (set (h .lists) kind v))
   unfolding wordsOfLent
-  end-written kind v =
+  set-written kind v =
       ap (λ (b : List (List ℕ)). set (wordsOfLent h) 32 (set b 1 (set (getD b 1 []) kind v))) (numbers-read h s)
       ∙ last-written h s 0 (set (numberBlock h) 1 (set (getD (numberBlock h) 1 []) kind v))
 
-  pub entry-written : (i v : ℕ) → i < 128
-      → set (wordsOfLent h) 33 (set (getD (wordsOfLent h) 33 []) (i / 64) (set (getD (getD (wordsOfLent h) 33 []) (i / 64) []) (i % 64) v))
-      ≡ wordsOfLent (withLists h (h .ends) (set (h .entries) i v))
-  unfolding wordsOfLent
-  entry-written i v small =
-      ap (λ (b : List (List ℕ)). set (wordsOfLent h) 33 (set b (i / 64) (set (getD b (i / 64) []) (i % 64) v))) (entries-read h s)
-      ∙ last-written h s 1 (set (halves (h .entries)) (i / 64) (set (getD (halves (h .entries)) (i / 64) []) (i % 64) v))
-      ∙ ap (λ (b : List (List ℕ)). rowBlocks (h .monitor .rows) (h .monitor .before)
-      ++ (numberBlock h ∷ b ∷ halves (drop 48 (h .monitor .next)) ∷ []))
-      (half-written (h .entries) i v small)
-
-  pub shaped-lists : (ends entries : List ℕ) → Shaped (withLists h (padded 64 ends) (packed entries))
-  shaped-lists ends entries =
+  pub shaped-lists : (lists : List ℕ) → Shaped (withLists h (padded 64 lists))
+  shaped-lists lists =
       record {
         rows-there = s .rows-there;
         kept-there = s .kept-there;
         next-there = s .next-there;
-        ends-there = padded-length ends 64;
-        entries-there = packed-length entries;
+        lists-there = padded-length lists 64;
         rest-zero = s .rest-zero;
       }
 

@@ -1,10 +1,10 @@
 -- A list that is padded with zeros: a store just behind it makes it one longer, and where it has no room for one more nothing changes.
-use Rattle.fresh.proofs.Names.{List, List·getD-append, [], _++_, _+_, _<_, _∙_, _∷_, _≡_, _≤_, add-one, ap, append-assoc, append-snoc, arith}
-use Rattle.fresh.proofs.Names.{getD, getD-take, length, length-append, length-replicate, length-set, length-take-le, ltb, ltb-false, ltb-true}
+use Rattle.fresh.proofs.Names.{List, [], _++_, _+_, _<_, _∙_, _∷_, _≡_, _≤_, add-one, ap, append-assoc, append-snoc, arith}
+use Rattle.fresh.proofs.Names.{length, length-append, length-replicate, length-set, length-take-le, ltb, ltb-false, ltb-true}
 use Rattle.fresh.proofs.Names.{padded, refl, replicate, replicate-append-replicate, set, set-at, split, suc, sym, take, take-all}
 use Rattle.fresh.proofs.Names.{take-append-le, take-length, take-set-le, take-set-lt, zero, ℕ}
 
-pub set-past : (i v : ℕ) (l : List ℕ) → length l ≤ i → set l i v ≡ l
+set-past : (i v : ℕ) (l : List ℕ) → length l ≤ i → set l i v ≡ l
 set-past i v l past = sym (take-all (length l) (set l i v) (omega (arith, length-set l i v))) ∙ take-set-le (length l) l i v past ∙ take-length l
 
 module _ (list : List ℕ) where
@@ -14,10 +14,6 @@ module _ (list : List ℕ) where
   pub padded-length : (places : ℕ) → length (padded places list) ≡ places
   unfolding padded
   padded-length places = length-take-le places (list ++ replicate places 0) (omega (arith, behind-length places))
-
-  pub padded-at : (places i : ℕ) → i < length list → i < places → getD (padded places list) i 0 ≡ getD list i 0
-  unfolding padded
-  padded-at places i there within = getD-take places (list ++ replicate places 0) i 0 within ∙ List·getD-append list (replicate places 0) 0 i there
 
   -- ---- one more
 

@@ -1,10 +1,9 @@
 -- A lent monitor made fresh over a table: every word of it, and the number that answers to the table's bytes.
-use Prim.Native.Nat.{ℕ, zero, suc, _+_, _-_, _*_, _%_, _<_, _≤_}
+use Prim.Native.Nat.{ℕ, zero, suc, _+_, _*_, _<_, _≤_}
 use mathlib.Core.Path.{_≡_}
 use mathlib.Core.Bool.{Bool, cond}
 use mathlib.Core.List.{List, [], _∷_, _++_}
-use lib.ListN.{length, getD, set, take, drop, replicate}
-use lib.Dec.{ltb}
+use lib.ListN.{length, getD, take, replicate}
 use Rattle.constraint.specs.Limits.{rowLimit}
 use Rattle.constraint.specs.Accepted.{Accepted}
 use Rattle.constraint.specs.Table.{ReadsRows, ReadsTableUpTo, table-of, table-refused}
@@ -14,55 +13,34 @@ use Rattle.table.specs.Scan.{Counted}
 use Rattle.row.specs.Stored as Stored
 use Rattle.monitor.specs.Contract.{after}
 use Rattle.monitor.specs.declared.Monitor.{Monitor}
-use Rattle.in_place.specs.Layout.{Lent, Words, wordsOfLent, Shaped, rowAt, keptAt}
-use Rattle.in_place.specs.Contract.{numbers, isOf, Indexes}
+use Rattle.in_place.specs.Layout.{Lent, Words, wordsOfLent, Shaped, allRows, rowAt, keptAt}
+use Rattle.in_place.specs.Contract.{isOf, Indexes}
 use Rattle.fresh.specs.declared.Validated.{Validated}
 
--- ---- the list of rows for each kind
+-- ---- the set of rows for each kind
 
--- those of the first rows that each of the first kinds concerns, kind after kind
-unfoldable pub listedTo : Monitor → ℕ → ℕ → List ℕ
-listedTo m rows zero = []
-listedTo m rows (suc kind) = listedTo m rows kind ++ numbers (isOf m kind) rows
+-- the set of those of n numbers from one on that pass a test; that one is 0 in it
+unfoldable pub setFrom : (ℕ → Bool) → ℕ → ℕ → ℕ
+setFrom test from zero = 0
+setFrom test from (suc n) = 2 * setFrom test (suc from) n + cond (test from) 1 0
 
--- where those of each of the first kinds end
-unfoldable pub endsTo : Monitor → ℕ → ℕ → List ℕ
-endsTo m rows zero = []
-endsTo m rows (suc kind) = endsTo m rows kind ++ (length (listedTo m rows (suc kind)) ∷ [])
+-- for each of the first kinds the set of those of the first rows that it concerns
+unfoldable pub setsTo : Monitor → ℕ → ℕ → List ℕ
+setsTo m rows zero = []
+setsTo m rows (suc kind) = setsTo m rows kind ++ (setFrom (isOf m kind) 0 rows ∷ [])
 
 -- a list in a number of places, with zeros after it
 unfoldable pub padded : ℕ → List ℕ → List ℕ
 padded places list = take places (list ++ replicate places 0)
 
--- two lists of entries in the same words: below 32, and 32 times
-abbrev pub twoIn : List ℕ → List ℕ → List ℕ
-twoIn [] above = []
-twoIn (x ∷ below) [] = []
-twoIn (x ∷ below) (y ∷ above) = (x % 32 + 32 * y) ∷ twoIn below above
-
--- a list of entries in 128 words: those behind the first 128 stand above them
-unfoldable pub packed : List ℕ → List ℕ
-packed list = twoIn (padded 128 list) (padded 128 (drop 128 list))
-
--- the words with an entry stored at a place
-unfoldable pub entered : List ℕ → ℕ → ℕ → List ℕ
-entered words place i =
-    cond (ltb place 128) (set words place i) (set words (place - 128) (getD words (place - 128) 0 % 32 + 32 * i))
-
 -- ---- the fresh monitor over a table's rows
 
-abbrev pub withLists : Lent → List ℕ → List ℕ → Lent
-withLists h ends entries = record { monitor = h .monitor; soonest = h .soonest; hint = h .hint; ends = ends; entries = entries }
+abbrev pub withLists : Lent → List ℕ → Lent
+withLists h lists = record { monitor = h .monitor; soonest = h .soonest; full = h .full; lists = lists }
 
 abbrev pub freshLent : List Constraint → Lent
 freshLent rows =
-    record {
-      monitor = after rows [];
-      soonest = 0;
-      hint = 0;
-      ends = endsTo (after rows []) (length rows) 64;
-      entries = packed (listedTo (after rows []) (length rows) 64);
-    }
+    record { monitor = after rows []; soonest = 0; full = allRows; lists = setsTo (after rows []) (length rows) 64 }
 
 -- §11.5: the number that answers and the words then: 0, and each is the fresh monitor's; or 256 times the place and the number of the refusal, and
 -- each as it was
@@ -92,10 +70,6 @@ pub record Validates (newest : ℕ) (bytes : List ℕ) (judged : Validated) : Ty
   pub accepted : judged .number ≡ 0 → Counted (at bytes 0) (ReadsTableUpTo newest bytes) (judged .rows)
   pub refused : ¬ (judged .number ≡ 0) → RefusedAs newest bytes (judged .number)
 
--- the words of a block that is cleared
-abbrev pub noWords : List (List ℕ)
-noWords = replicate 2 (replicate 64 0)
-
 -- the first blocks are those of a monitor's rows
 abbrev pub RowsLie : Monitor → ℕ → Words → Type 0
 RowsLie m n words = (i : ℕ) → i < n → getD words i [] ≡ Stored.wordsOfRow (rowAt m i) (keptAt m i)
@@ -119,26 +93,15 @@ abbrev pub StoresRows : List ℕ → Words → Words → Type 0
 StoresRows bytes entry exit =
     (rows : List Constraint) → RowsBehind bytes rows → length entry ≡ 35 → RowsPut entry (after rows []) 32 exit
 
--- the lists so far, and the place behind the entries
-abbrev pub ListsLie : Lent → List ℕ → List ℕ → ℕ → Words → Type 0
-ListsLie h ends entries place words = (place ≡ length entries) × (words ≡ wordsOfLent (withLists h (padded 64 ends) (packed entries)))
+-- the sets so far
+abbrev pub ListsLie : Lent → List ℕ → Words → Type 0
+ListsLie h lists words = words ≡ wordsOfLent (withLists h (padded 64 lists))
 
--- every word but those of the lists, over the n rows of the table
+-- every word but those of the sets, over the n rows of the table
 abbrev pub StoresAll : List ℕ → ℕ → Words → Type 0
 StoresAll bytes n exit =
-    (rows : List Constraint) → RowsBehind bytes rows → length rows ≤ rowLimit → n ≡ length rows → ListsLie (freshLent rows) [] [] 0 exit
+    (rows : List Constraint) → RowsBehind bytes rows → length rows ≤ rowLimit → n ≡ length rows → ListsLie (freshLent rows) [] exit
 
--- one entry, or none
-abbrev pub oneIf : Bool → ℕ → List ℕ
-oneIf so i = cond so (i ∷ []) []
-
--- more entries behind those before, from a place to a place
-abbrev pub Enters : ℕ → Words → (Lent → List ℕ) → ℕ → Words → Type 0
-Enters first entry more place exit =
-    (h : Lent) (ends entries : List ℕ) → Shaped h → ListsLie h ends entries first entry → ListsLie h ends (entries ++ more h) place exit
-
--- the lists over n rows, where there were none
+-- the sets over n rows, where there were none
 abbrev pub Enlists : ℕ → Words → Words → Type 0
-Enlists n entry exit =
-    (h : Lent) → Shaped h → ListsLie h [] [] 0 entry
-    → exit ≡ wordsOfLent (withLists h (endsTo (h .monitor) n 64) (packed (listedTo (h .monitor) n 64)))
+Enlists n entry exit = (h : Lent) → Shaped h → ListsLie h [] entry → exit ≡ wordsOfLent (withLists h (setsTo (h .monitor) n 64))

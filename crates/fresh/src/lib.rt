@@ -1,6 +1,7 @@
 // Makes a fresh monitor in the words that the host lends. It first validates the table's bytes. If they are accepted it clears all words, and reads
 // and stores the rows one by one.
-use in_place::ENTRIES;
+use in_place::ALL_ROWS;
+use in_place::FULL;
 use in_place::NUMBERS;
 use in_place::OPEN;
 use in_place::ROWS;
@@ -10,14 +11,14 @@ use row::stored;
 use row_type::row_words::parameters_at;
 use table::ReadAnswer;
 use table::scan;
-ghost use Prim.Native.Nat.{_+_, _<_, _≤_};
+ghost use Prim.Native.Nat.{_<_, _≤_};
 ghost use mathlib.Core.Path.{_≡_};
+ghost use mathlib.Core.Bool.{cond};
 ghost use lib.ListN.{length, set, replicate};
-ghost use Rattle.in_place.specs.Layout.{Lent, wordsOfLent, Shaped};
-ghost use Rattle.in_place.specs.Steps.{Updates};
-ghost use Rattle.in_place.specs.Contract.{numbers, isOf};
-ghost use Rattle.fresh.specs.Fresh.{withLists, entered, oneIf, BeginsUpTo, Validates, noWords, HoldsRows, StoresRows, StoresAll, Enters};
-ghost use Rattle.fresh.specs.Fresh.{Enlists};
+ghost use Rattle.in_place.specs.Layout.{noWords};
+ghost use Rattle.in_place.specs.Steps.{Updates, Computes};
+ghost use Rattle.in_place.specs.Contract.{isOf};
+ghost use Rattle.fresh.specs.Fresh.{withLists, setFrom, BeginsUpTo, Validates, HoldsRows, StoresRows, StoresAll, Enlists};
 
 // The result of validating a table's bytes: the answer, 0 or 256 times the place plus the number of the refusal; and the number of rows.
 pub struct Validated {
@@ -71,7 +72,7 @@ fn put_rows(m: &mut Words, table: &[u8])
     }
 }
 
-// Stores every word of a monitor over the n rows of a table, except the lists, which stay 0.
+// Stores every word of a monitor over the n rows of a table, except the sets of rows by kind, which stay 0.
 fn begin(m: &mut Words, table: &[u8], n: usize)
     requires { ⌜ HoldsRows (now table) ⌝ }
     ensures { λ _. ⌜ StoresAll (now (table .entry)) n (now (m .exit)) ⌝ }
@@ -79,77 +80,53 @@ fn begin(m: &mut Words, table: &[u8], n: usize)
     clear(m);
     m[NUMBERS][0][OPEN] = 1;
     m[NUMBERS][0][ROWS] = n as u64;
+    m[NUMBERS][0][FULL] = ALL_ROWS;
     put_rows(m, table);
 }
 
-// Stores an entry.
-fn put_entry(m: &mut Words, place: usize, i: usize)
+// Returns 1 if a kind concerns row i, else 0.
+fn digit_of(m: &Words, i: usize, kind: usize) -> u64
     requires { ⌜ i < 32 ⌝ }
-    ensures { λ _. ⌜ Updates (now (m .entry)) (λ h. withLists h (h .ends) (entered (h .entries) place i)) (now (m .exit)) ⌝ }
+    ensures { λ r. ⌜ ((r ≤ 1) × Computes (now (m .entry)) (λ h. cond (isOf (h .monitor) kind i) 1 0) r) ⌝ }
 {
-    if place < 128 {
-        m[ENTRIES][place / 64][place % 64] = i as u64;
-        return;
-    }
-    let below = place - 128;
-    if below < 128 {
-        let word = m[ENTRIES][below / 64][below % 64];
-        m[ENTRIES][below / 64][below % 64] = word % 32 + 32 * i as u64;
+    if concerns(parameters_at(&m[i][1]), kind as u64) {
+        1
+    } else {
+        0
     }
 }
 
-// Stores the end of a kind's rows.
-fn put_end(m: &mut Words, kind: usize, place: usize)
+// Returns the set of those of the first n rows that a kind concerns.
+fn set_of(m: &Words, kind: usize, n: usize) -> u64
+    requires { ⌜ n ≤ 32 ⌝ }
+    ensures { λ r. ⌜ Computes (now (m .entry)) (λ h. setFrom (isOf (h .monitor) kind) 0 n) r ⌝ }
+{
+    let mut rows = 0;
+    let mut i = n;
+    while 0 < i {
+        i -= 1;
+        rows = 2 * rows + digit_of(m, i, kind);
+    }
+    rows
+}
+
+// Stores the set of a kind.
+fn put_set(m: &mut Words, kind: usize, rows: u64)
     requires { ⌜ kind < 64 ⌝ }
-    ensures { λ _. ⌜ Updates (now (m .entry)) (λ h. withLists h (set (h .ends) kind place) (h .entries)) (now (m .exit)) ⌝ }
+    ensures { λ _. ⌜ Updates (now (m .entry)) (λ h. withLists h (set (h .lists) kind rows)) (now (m .exit)) ⌝ }
 {
-    m[NUMBERS][1][kind] = place as u64;
+    m[NUMBERS][1][kind] = rows;
 }
 
-// Returns whether a kind concerns row i.
-fn is_of(m: &Words, i: usize, kind: usize) -> bool
-    requires { ⌜ i < 32 ⌝ }
-    ensures { λ r. ⌜ ((h : Lent) → now (m .entry) ≡ wordsOfLent h → Shaped h → r ≡ isOf (h .monitor) kind i) ⌝ }
-{
-    concerns(parameters_at(&m[i][1]), kind as u64)
-}
-
-// Enters row i at a place if a kind concerns it. Returns the next free place.
-fn enter(m: &mut Words, kind: usize, i: usize, place: usize) -> usize
-    requires { ⌜ (i < 32) × (place ≤ 4096) ⌝ }
-    ensures { λ r. ⌜ ((r ≤ place + 1) × Enters place (now (m .entry)) (λ h. oneIf (isOf (h .monitor) kind i) i) r (now (m .exit))) ⌝ }
-{
-    if is_of(m, i, kind) {
-        put_entry(m, place, i);
-        return place + 1;
-    }
-    place
-}
-
-// Enters those of the first n rows that a kind concerns, from a place on. Returns the next free place.
-fn enlist_kind(m: &mut Words, kind: usize, n: usize, first: usize) -> usize
-    requires { ⌜ (n ≤ 32) × (first ≤ 2048) ⌝ }
-    ensures { λ r. ⌜ ((r ≤ first + n) × Enters first (now (m .entry)) (λ h. numbers (isOf (h .monitor) kind) n) r (now (m .exit))) ⌝ }
-{
-    let mut place = first;
-    let mut i = 0;
-    while i < n {
-        place = enter(m, kind, i, place);
-        i += 1;
-    }
-    place
-}
-
-// Builds the lists over n rows, kind by kind.
+// Stores the set of each kind over n rows.
 fn enlist(m: &mut Words, n: usize)
     requires { ⌜ n ≤ 32 ⌝ }
     ensures { λ _. ⌜ Enlists n (now (m .entry)) (now (m .exit)) ⌝ }
 {
-    let mut place = 0;
     let mut kind = 0;
     while kind < 64 {
-        place = enlist_kind(m, kind, n, place);
-        put_end(m, kind, place);
+        let rows = set_of(m, kind, n);
+        put_set(m, kind, rows);
         kind += 1;
     }
 }

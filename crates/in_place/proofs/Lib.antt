@@ -3,6 +3,7 @@ mod Names
 pub mod Blocks
 pub mod Parts
 pub mod Lists
+pub mod RowSets
 pub mod RefusalOrder
 pub mod RowByRow
 pub mod Concerned

@@ -1,18 +1,17 @@
 -- The words beside the rows, read and written: each stands at a place of the last three blocks, and a store there is a store in one part of the
 -- record.
-use Rattle.in_place.proofs.Names.{RowUndo, Bool, Lent, List, Monitor, StepInput, RestZero, Row, Shaped, Words, [], _%_, _++_, _+_, _-_, _/_}
-use Rattle.in_place.proofs.Names.{_<_}
-use Rattle.in_place.proofs.Names.{_||_, _∙_, _∷_, _≡_, ap, ap₂, arith, rowsUndone, deadlinesChecked, by-cases, cond, recordedOn, recordedTo}
-use Rattle.in_place.proofs.Names.{crowded, crowdedAt}
-use Rattle.in_place.proofs.Names.{drop, drop-set-add, drop-set-lt, clockAppliedAt, clockApplied, endedState, endsBy, eventAt, false, getD}
-use Rattle.in_place.proofs.Names.{getD-append-add}
-use Rattle.in_place.proofs.Names.{getD-drop, getD-set-other, getD-set-same, getD-take, halves, heldRows, keptAt, length, length-set, ltb}
-use Rattle.in_place.proofs.Names.{ltb-false, ltb-true, min, noRowUndo, noRow, numberArray, numberBlock, rowsExpired, plus, refl}
-use Rattle.in_place.proofs.Names.{rest-zero-ended}
-use Rattle.in_place.proofs.Names.{rest-zero-event, rest-zero-without, rowAt, rowBlocks, rowCount, rowNamed, set, soonestAll, split, startOf}
-use Rattle.in_place.proofs.Names.{streamCount, subst, subst₂, suc, suc-add, sym, take, take-set-le, take-set-lt, tickAt, true, dispatched}
-use Rattle.in_place.proofs.Names.{withNext}
-use Rattle.in_place.proofs.Names.{withHint, withRow, withSoonest, wordsOfLent, zero, zero-add, ℕ, ℕ-discrete}
+use Rattle.in_place.proofs.Names.{RowUndo, Lent, List, Monitor, StepInput, RestZero, Row, Shaped, Words, [], _%_, _++_, _+_, _/_, _<_, _∙_}
+use Rattle.in_place.proofs.Names.{_∷_}
+use Rattle.in_place.proofs.Names.{_≡_, ap, ap₂, arith, rowsUndone, deadlinesChecked, by-cases, cond, recordedOn, recordedTo, drop}
+use Rattle.in_place.proofs.Names.{drop-set-add}
+use Rattle.in_place.proofs.Names.{drop-set-lt, clockAppliedAt, clockApplied, endedState, endsBy, eventAt, getD, getD-append-add, getD-drop}
+use Rattle.in_place.proofs.Names.{getD-set-other, getD-set-same, getD-take, halves, heldRows, keptAt, length, length-set, ltb, ltb-false}
+use Rattle.in_place.proofs.Names.{ltb-true, noRowUndo, noRow, noWords, numberArray, numberBlock, rowsExpired, plus, refl, rest-zero-ended}
+use Rattle.in_place.proofs.Names.{rest-zero-event, rest-zero-without, rowAt, rowBlocks, set, setOf, soonestAll, split, streamCount, subst₂}
+use Rattle.in_place.proofs.Names.{suc}
+use Rattle.in_place.proofs.Names.{suc-add, subst, sym, take, take-set-le, take-set-lt, tickAt, dispatched, dispatchedTo, withFull, withNext}
+use Rattle.in_place.proofs.Names.{withRow}
+use Rattle.in_place.proofs.Names.{withSoonest, wordsOfLent, zero, zero-add, ℕ, ℕ-discrete}
 use Rattle.in_place.proofs.Blocks.{last-read, last-written}
 
 -- ---- two halves
@@ -53,12 +52,12 @@ written-behind (x ∷ front) rest zero i v e = absurd (omega (arith, e))
 written-behind (x ∷ front) rest (suc n) i v e =
     ap (λ (k : ℕ). set (x ∷ (front ++ rest)) k v) (suc-add n i) ∙ ap {B = List ℕ} (λ l. x ∷ l) (written-behind front rest n i v (omega (arith, e)))
 
-module _ (m : Monitor) (soonest hint : ℕ) (plain : List ℕ) where
-  pub behind-numbers : (i : ℕ) → getD (numberArray m soonest hint plain) (16 + i) 0 ≡ getD plain i 0
-  behind-numbers i = getD-append-add (numberArray m soonest hint []) plain i 0
+module _ (m : Monitor) (soonest full : ℕ) (plain : List ℕ) where
+  pub behind-numbers : (i : ℕ) → getD (numberArray m soonest full plain) (16 + i) 0 ≡ getD plain i 0
+  behind-numbers i = getD-append-add (numberArray m soonest full []) plain i 0
 
-  pub numbers-behind : (i v : ℕ) → set (numberArray m soonest hint plain) (16 + i) v ≡ numberArray m soonest hint (set plain i v)
-  numbers-behind i v = written-behind (numberArray m soonest hint []) plain 16 i v refl
+  pub numbers-behind : (i v : ℕ) → set (numberArray m soonest full plain) (16 + i) v ≡ numberArray m soonest full (set plain i v)
+  numbers-behind i v = written-behind (numberArray m soonest full []) plain 16 i v refl
 
 -- ---- what stands in the last blocks
 
@@ -66,16 +65,21 @@ module _ (h : Lent) (s : Shaped h) where
   pub numbers-read : getD (wordsOfLent h) 32 [] ≡ numberBlock h
   numbers-read = last-read h s 0
 
-  pub entries-read : getD (wordsOfLent h) 33 [] ≡ halves (h .entries)
-  entries-read = last-read h s 1
+  pub spare-read : getD (wordsOfLent h) 33 [] ≡ noWords
+  spare-read = last-read h s 1
 
   pub coloured-read : getD (wordsOfLent h) 34 [] ≡ halves (drop 48 (h .monitor .next))
   coloured-read = last-read h s 2
 
   -- a number of words that are the monitor's
   pub number-at : (m : Words) → m ≡ wordsOfLent h → (k : ℕ)
-      → getD (getD (getD m 32 []) 0 []) k 0 ≡ getD (numberArray (h .monitor) (h .soonest) (h .hint) (take 48 (h .monitor .next))) k 0
+      → getD (getD (getD m 32 []) 0 []) k 0 ≡ getD (numberArray (h .monitor) (h .soonest) (h .full) (take 48 (h .monitor .next))) k 0
   number-at m is k = ap (λ (w : Words). getD (getD (getD w 32 []) 0 []) k 0) is ∙ ap (λ (b : List (List ℕ)). getD (getD b 0 []) k 0) numbers-read
+
+  -- the rows of a kind
+  pub set-at : (m : Words) → m ≡ wordsOfLent h → (kind : ℕ) → getD (getD (getD m 32 []) 1 []) kind 0 ≡ setOf h kind
+  set-at m is kind =
+      ap (λ (w : Words). getD (getD (getD w 32 []) 1 []) kind 0) is ∙ ap (λ (b : List (List ℕ)). getD (getD b 1 []) kind 0) numbers-read
 
   -- a store of the soonest time
   pub soonest-written : (time : ℕ)
@@ -86,20 +90,20 @@ module _ (h : Lent) (s : Shaped h) where
       ap (λ (b : List (List ℕ)). set (wordsOfLent h) 32 (set b 0 (set (getD b 0 []) 4 time))) numbers-read
       ∙ last-written h s 0 (set (numberBlock h) 0 (set (getD (numberBlock h) 0 []) 4 time))
 
-  -- and of the number of events that may come
-  pub room-written : (hint : ℕ)
-      → set (wordsOfLent h) 32 (set (getD (wordsOfLent h) 32 []) 0 (set (getD (getD (wordsOfLent h) 32 []) 0 []) 11 hint)) ≡ wordsOfLent
-      (withHint h hint)
+  -- and of the rows that may be nearly full
+  pub full-written : (full : ℕ)
+      → set (wordsOfLent h) 32 (set (getD (wordsOfLent h) 32 []) 0 (set (getD (getD (wordsOfLent h) 32 []) 0 []) 11 full)) ≡ wordsOfLent
+      (withFull h full)
   unfolding wordsOfLent
-  room-written hint =
-      ap (λ (b : List (List ℕ)). set (wordsOfLent h) 32 (set b 0 (set (getD b 0 []) 11 hint))) numbers-read
-      ∙ last-written h s 0 (set (numberBlock h) 0 (set (getD (numberBlock h) 0 []) 11 hint))
+  full-written full =
+      ap (λ (b : List (List ℕ)). set (wordsOfLent h) 32 (set b 0 (set (getD b 0 []) 11 full))) numbers-read
+      ∙ last-written h s 0 (set (numberBlock h) 0 (set (getD (numberBlock h) 0 []) 11 full))
 
   -- the first free time of a stream
   pub plain-free : (i : ℕ) → i < 48 → getD (getD (getD (wordsOfLent h) 32 []) 0 []) (16 + i) 0 ≡ getD (h .monitor .next) i 0
   plain-free i l =
       ap (λ (b : List (List ℕ)). getD (getD b 0 []) (16 + i) 0) numbers-read
-      ∙ behind-numbers (h .monitor) (h .soonest) (h .hint) (take 48 (h .monitor .next)) i ∙ getD-take 48 (h .monitor .next) i 0 l
+      ∙ behind-numbers (h .monitor) (h .soonest) (h .full) (take 48 (h .monitor .next)) i ∙ getD-take 48 (h .monitor .next) i 0 l
 
   pub coloured-free : (i : ℕ) → i < 128 → getD (getD (getD (wordsOfLent h) 34 []) (i / 64) []) (i % 64) 0 ≡ getD (h .monitor .next) (48 + i) 0
   coloured-free i l =
@@ -114,9 +118,9 @@ module _ (h : Lent) (s : Shaped h) where
   plain-written i v l =
       ap (λ (b : List (List ℕ)). set (wordsOfLent h) 32 (set b 0 (set (getD b 0 []) (16 + i) v))) numbers-read
       ∙ last-written h s 0 (set (numberBlock h) 0 (set (getD (numberBlock h) 0 []) (16 + i) v))
-      ∙ ap₂ (λ (x c : List ℕ). rowBlocks (h .monitor .rows) (h .monitor .before) ++ ((x ∷ h .ends ∷ []) ∷ halves (h .entries) ∷ halves c ∷ []))
-      (numbers-behind (h .monitor) (h .soonest) (h .hint) (take 48 (h .monitor .next)) i v
-      ∙ ap (numberArray (h .monitor) (h .soonest) (h .hint)) (sym (take-set-lt 48 (h .monitor .next) i v l)))
+      ∙ ap₂ (λ (x c : List ℕ). rowBlocks (h .monitor .rows) (h .monitor .before) ++ ((x ∷ h .lists ∷ []) ∷ noWords ∷ halves c ∷ []))
+      (numbers-behind (h .monitor) (h .soonest) (h .full) (take 48 (h .monitor .next)) i v
+      ∙ ap (numberArray (h .monitor) (h .soonest) (h .full)) (sym (take-set-lt 48 (h .monitor .next) i v l)))
       (sym (drop-set-lt 48 (h .monitor .next) i v l))
 
   pub coloured-written : (i v : ℕ) → i < 128
@@ -128,34 +132,16 @@ module _ (h : Lent) (s : Shaped h) where
       ∙ last-written h s 2 (set (halves (drop 48 (h .monitor .next))) (i / 64)
       (set (getD (halves (drop 48 (h .monitor .next))) (i / 64) []) (i % 64) v))
       ∙ ap₂ (λ (x : List ℕ) (c : List (List ℕ)). rowBlocks (h .monitor .rows) (h .monitor .before)
-      ++ ((numberArray (h .monitor) (h .soonest) (h .hint) x ∷ h .ends ∷ []) ∷ halves (h .entries) ∷ c ∷ []))
+      ++ ((numberArray (h .monitor) (h .soonest) (h .full) x ∷ h .lists ∷ []) ∷ noWords ∷ c ∷ []))
       (sym (take-set-le 48 (h .monitor .next) (48 + i) v (omega arith)))
       (half-written (drop 48 (h .monitor .next)) i v l ∙ ap halves (sym (drop-set-add 48 (h .monitor .next) i v)))
 
   -- a store of the block of numbers, all else being as it was
   pub block-written : (x : Lent) → rowBlocks (x .monitor .rows) (x .monitor .before) ≡ rowBlocks (h .monitor .rows) (h .monitor .before)
-      → x .entries ≡ h .entries → x .monitor .next ≡ h .monitor .next → set (wordsOfLent h) 32 (numberBlock x) ≡ wordsOfLent x
+      → x .monitor .next ≡ h .monitor .next → set (wordsOfLent h) 32 (numberBlock x) ≡ wordsOfLent x
   unfolding wordsOfLent
-  block-written x rows entries next =
-      last-written h s 0 (numberBlock x)
-      ∙ sym (λ k. rows k ++ (numberBlock x ∷ halves (entries k) ∷ halves (drop 48 (next k)) ∷ []))
-
--- ---- the question for 64
-
-or-true : (b : Bool) → (b || true) ≡ true
-or-true true = refl
-or-true false = refl
-
--- one of the rows is crowded where the row of an entry is
-pub crowded-there : (h : Lent) (first j s t : ℕ) → crowdedAt h (rowNamed h (first + j)) s t ≡ true → (n : ℕ) → j < n → crowded h first n s t ≡ true
-crowded-there h first j s t there zero small = absurd (omega (arith, small))
-crowded-there h first j s t there (suc n) small =
-    split (ltb j n) (λ _. (crowded h first n s t || crowdedAt h (rowNamed h (first + n)) s t) ≡ true)
-    (λ e. ap (λ (b : Bool). b || crowdedAt h (rowNamed h (first + n)) s t) (crowded-there h first j s t there n (ltb-true j n e)))
-    (λ e.
-    let last : n ≡ j = omega (arith, ltb-false j n e, small) in
-    ap (λ (b : Bool). crowded h first n s t || b) (ap (λ (k : ℕ). crowdedAt h (rowNamed h (first + k)) s t) last ∙ there)
-    ∙ or-true (crowded h first n s t))
+  block-written x rows next =
+      last-written h s 0 (numberBlock x) ∙ sym (λ k. rows k ++ (numberBlock x ∷ noWords ∷ halves (drop 48 (next k)) ∷ []))
 
 -- ---- the clock before an event
 
@@ -174,26 +160,25 @@ begun-alone h s t =
 
 -- it depends on the rows and on the lengths of the lists
 pub shaped-same : (h x : Lent) → x .monitor .rows ≡ h .monitor .rows → x .monitor .before ≡ h .monitor .before
-    → length (x .monitor .next) ≡ streamCount → length (x .ends) ≡ 64 → length (x .entries) ≡ 128 → Shaped h → Shaped x
-shaped-same h x rows kept next ends entries s =
+    → length (x .monitor .next) ≡ streamCount → length (x .lists) ≡ 64 → Shaped h → Shaped x
+shaped-same h x rows kept next lists s =
     record {
       rows-there = ap (λ (l : List Row). length l) rows ∙ s .rows-there;
       kept-there = ap (λ (l : List RowUndo). length l) kept ∙ s .kept-there;
       next-there = next;
-      ends-there = ends;
-      entries-there = entries;
+      lists-there = lists;
       rest-zero = λ i l. subst₂ (λ (a : List Row) (b : List RowUndo). RestZero (getD a i noRow) (getD b i noRowUndo)) (sym rows) (sym kept)
           (s .rest-zero i l);
     }
 
 pub shaped-next : (h : Lent) (i v : ℕ) → Shaped h → Shaped (withNext h (set (h .monitor .next) i v))
-shaped-next h i v s = shaped-same h _ refl refl (length-set (h .monitor .next) i v ∙ s .next-there) (s .ends-there) (s .entries-there) s
+shaped-next h i v s = shaped-same h _ refl refl (length-set (h .monitor .next) i v ∙ s .next-there) (s .lists-there) s
 
 pub shaped-soonest : (h : Lent) (time : ℕ) → Shaped h → Shaped (withSoonest h time)
-shaped-soonest h time s = shaped-same h _ refl refl (s .next-there) (s .ends-there) (s .entries-there) s
+shaped-soonest h time s = shaped-same h _ refl refl (s .next-there) (s .lists-there) s
 
-pub shaped-room : (h : Lent) (hint : ℕ) → Shaped h → Shaped (withHint h hint)
-shaped-room h hint s = shaped-same h _ refl refl (s .next-there) (s .ends-there) (s .entries-there) s
+pub shaped-full : (h : Lent) (full : ℕ) → Shaped h → Shaped (withFull h full)
+shaped-full h full s = shaped-same h _ refl refl (s .next-there) (s .lists-there) s
 
 -- with a row put at a place in which what its type never stores is 0
 pub shaped-row : (h : Lent) (i : ℕ) (r : Row) (b : RowUndo) → (i < 32 → RestZero r b) → Shaped h → Shaped (withRow h i r b)
@@ -202,8 +187,7 @@ shaped-row h i r b zero-there s =
       rows-there = length-set (h .monitor .rows) i r ∙ s .rows-there;
       kept-there = length-set (h .monitor .before) i b ∙ s .kept-there;
       next-there = s .next-there;
-      ends-there = s .ends-there;
-      entries-there = s .entries-there;
+      lists-there = s .lists-there;
       rest-zero = λ j l. by-cases (ℕ-discrete j i)
           (λ same. subst (λ (k : ℕ). RestZero (rowAt (withRow h i r b .monitor) k) (keptAt (withRow h i r b .monitor) k)) (sym same)
           (subst₂ RestZero (sym (getD-set-same (h .monitor .rows) i r noRow (omega (arith, s .rows-there, same, l))))
@@ -212,11 +196,11 @@ shaped-row h i r b zero-there s =
           (sym (getD-set-other (h .monitor .before) i j b noRowUndo far)) (s .rest-zero j l));
     }
 
-pub shaped-visited : (h : Lent) (first n : ℕ) (o : StepInput) (number : ℕ) → Shaped h → Shaped (dispatched h first n o number)
-shaped-visited h first zero o number s = s
-shaped-visited h first (suc n) o number s =
-    let so-far = shaped-visited h first n o number s in
-    shaped-soonest _ _ (shaped-row (dispatched h first n o number) _ _ _ (λ l. rest-zero-event _ _ o number (so-far .rest-zero _ l)) so-far)
+pub shaped-visited : (h : Lent) (rows : List ℕ) (o : StepInput) (number : ℕ) → Shaped h → Shaped (dispatched h rows o number)
+shaped-visited h [] o number s = s
+shaped-visited h (i ∷ rows) o number s =
+    shaped-visited (dispatchedTo h i o number) rows o number
+    (shaped-full _ _ (shaped-soonest _ _ (shaped-row h i _ _ (λ l. rest-zero-event _ _ o number (s .rest-zero _ l)) s)))
 
 pub shaped-ended : (h : Lent) (n : ℕ) (o : StepInput) (number : ℕ) → Shaped h → Shaped (clockApplied h n o number)
 shaped-ended h zero o number s = s
@@ -230,17 +214,12 @@ shaped-backed h (suc n) number s =
     let so-far = shaped-backed h n number s in
     shaped-row (rowsUndone h n number) _ _ _ (λ l. rest-zero-without _ _ number (so-far .rest-zero n l)) so-far
 
--- the entries stay
-pub visited-named : (h : Lent) (first n : ℕ) (o : StepInput) (number place : ℕ) → rowNamed (dispatched h first n o number) place ≡ rowNamed h place
-visited-named h first zero o number place = refl
-visited-named h first (suc n) o number place = visited-named h first n o number place
-
 pub shaped-counted : (h : Lent) (stream time : ℕ) → Shaped h → Shaped (recordedOn h stream time)
 shaped-counted h stream time s =
-    shaped-same h _ refl refl (length-set (h .monitor .next) stream (plus time 1) ∙ s .next-there) (s .ends-there) (s .entries-there) s
+    shaped-same h _ refl refl (length-set (h .monitor .next) stream (plus time 1) ∙ s .next-there) (s .lists-there) s
 
 pub shaped-to : (h : Lent) (time closed : ℕ) → Shaped h → Shaped (recordedTo h time closed)
-shaped-to h time closed s = shaped-same h _ refl refl (s .next-there) (s .ends-there) (s .entries-there) s
+shaped-to h time closed s = shaped-same h _ refl refl (s .next-there) (s .lists-there) s
 
 -- ---- the rows to which the clock goes
 
@@ -248,17 +227,9 @@ pub ended-count : (h : Lent) (n : ℕ) (o : StepInput) (number : ℕ) → clockA
 ended-count h zero o number = refl
 ended-count h (suc n) o number = ended-count h n o number
 
-ended-ends : (h : Lent) (n : ℕ) (o : StepInput) (number : ℕ) → clockApplied h n o number .ends ≡ h .ends
-ended-ends h zero o number = refl
-ended-ends h (suc n) o number = ended-ends h n o number
-
--- where the rows of a kind begin, and how many there are, depends only on the ends
-pub same-rows : (x h : Lent) → x .ends ≡ h .ends → (kind : ℕ) → (startOf x kind ≡ startOf h kind) × (rowCount x kind ≡ rowCount h kind)
-same-rows x h e zero = (refl, ap (λ (l : List ℕ). min (getD l 0 0) 160 - 0) e)
-same-rows x h e (suc kind) = (
-  ap (λ (l : List ℕ). min (getD l kind 0) 160) e,
-  ap (λ (l : List ℕ). min (getD l (suc kind) 0) 160 - min (getD l kind 0) 160) e,
-)
+ended-lists : (h : Lent) (n : ℕ) (o : StepInput) (number : ℕ) → clockApplied h n o number .lists ≡ h .lists
+ended-lists h zero o number = refl
+ended-lists h (suc n) o number = ended-lists h n o number
 
 module _ (h : Lent) (o : StepInput) where
   -- what holds of each outcome holds of what begins
@@ -275,8 +246,8 @@ module _ (h : Lent) (o : StepInput) where
   begun-count = by-outcome (λ (x : Lent). x .monitor .count ≡ h .monitor .count)
       (ended-count h (heldRows (h .monitor)) o (h .monitor .count)) refl refl
 
-  pub begun-ends : deadlinesChecked h o .ends ≡ h .ends
-  begun-ends = by-outcome (λ (x : Lent). x .ends ≡ h .ends) (ended-ends h (heldRows (h .monitor)) o (h .monitor .count)) refl refl
+  pub begun-lists : deadlinesChecked h o .lists ≡ h .lists
+  begun-lists = by-outcome (λ (x : Lent). x .lists ≡ h .lists) (ended-lists h (heldRows (h .monitor)) o (h .monitor .count)) refl refl
 
   pub shaped-begun : Shaped h → Shaped (deadlinesChecked h o)
   shaped-begun s =

@@ -1,20 +1,19 @@
 -- The numbers of a call that is taken are stored before its rows take the step: the words say the same of the rows then, and with the rows after
 -- the step they are the monitor after the call.
-use Rattle.in_place.proofs.Names.{RowUndo, Call, Indexes, Lent, List, Monitor, StepInput, HintSound, Row, Undo, _∙_, _≡_, _≤_, ap₂, arith}
+use Rattle.in_place.proofs.Names.{RowUndo, Call, Indexes, Lent, List, Monitor, StepInput, Row, Undo, _≡_, _≤_, ap₂, arith}
 use Rattle.in_place.proofs.Names.{getD}
 use Rattle.in_place.proofs.Names.{heldRows, length, map-all, mapFirst, nextStep, refl, steppedBy, steppedFrom, streamCount, withMonitor}
-use Rattle.in_place.proofs.Names.{withHint}
 use Rattle.in_place.proofs.Names.{withRows, zip-all, zipFirst, ℕ}
-use Rattle.in_place.proofs.{Concerned.moved, Concerned.saves, RowLists.same-rows, Parts.shaped-same}
+use Rattle.in_place.proofs.{Concerned.moved, Concerned.saves, Parts.shaped-same}
 
 -- ---- the numbers stored
 
--- other numbers beside the rows, and less room, change nothing of what the words say
-module _ (h : Lent) (ix : Indexes h) (hint : ℕ) (few : HintSound (withHint h hint)) (next : List ℕ) (wide : length next ≡ streamCount)
+-- other numbers beside the rows change nothing of what the words say
+module _ (h : Lent) (ix : Indexes h) (next : List ℕ) (wide : length next ≡ streamCount)
     (clock count closed : ℕ) (undo : Undo) (marked : closed ≤ 1) (then-marked : undo .closed ≤ 1) where
   abbrev pub renumbered : Lent
   renumbered =
-      withMonitor (withHint h hint) (record {
+      withMonitor h (record {
         rows = h .monitor .rows;
         next = next;
         clock = clock;
@@ -28,18 +27,13 @@ module _ (h : Lent) (ix : Indexes h) (hint : ℕ) (few : HintSound (withHint h h
   pub renumbered-indexes : Indexes renumbered
   renumbered-indexes =
       record {
-        shaped = shaped-same h renumbered refl refl wide (ix .shaped .ends-there) (ix .shaped .entries-there) (ix .shaped);
+        shaped = shaped-same h renumbered refl refl wide (ix .shaped .lists-there) (ix .shaped);
         sound = record { rows-few = ix .sound .rows-few; closed-mark = marked; closed-then = then-marked };
-        listed = λ kind small. same-rows h renumbered refl refl kind ∙ ix .listed kind small;
+        listed = ix .listed;
+        no-others = ix .no-others;
         no-ticks = ix .no-ticks;
         no-sooner = ix .no-sooner;
-        roomy = record {
-          room-mark = few .room-mark;
-          now-few = few .now-few;
-          then-few = few .then-few;
-          now-room = few .now-room;
-          then-room = few .then-room;
-        };
+        roomy = record { now-few = ix .roomy .now-few; then-few = ix .roomy .then-few; has-room = ix .roomy .has-room };
       }
 
 -- the numbers before a call that is taken, with the first free time of a place, as they may be put back

@@ -1,11 +1,11 @@
 -- One row after the other of a list of rows takes a step. Where the others would be left as they are by it, that is the step of all rows.
-use Rattle.in_place.proofs.Names.{RowUndo, Bool, Lent, List, Monitor, Row, [], _++_, _+_, _<_, _||_, _∙_, _∷_, _≡_, _≤_, add-one, anyFirst, ap}
-use Rattle.in_place.proofs.Names.{append-nil, ap₂, arith, both, cond, dueAt, false, getD, getD-set-other, getD-set-same, keptAt}
-use Rattle.in_place.proofs.Names.{le-of-suc-le-suc}
-use Rattle.in_place.proofs.Names.{length, length-set, ltb, ltb-false, ltb-true, map-behind, mapFirst, min, noRowUndo, noRow, not-suc-le-zero}
-use Rattle.in_place.proofs.Names.{numbers, or-false, refl, room-fits, room-less, hintAfterRow, rowAt, set, set-getD, split, subst, suc, sym}
-use Rattle.in_place.proofs.Names.{taken, true}
-use Rattle.in_place.proofs.Names.{withRow, withRows, withSoonest, zero, zip-behind, zip-next, zip-none, zipFirst, ℕ}
+use Rattle.in_place.proofs.Names.{RowUndo, Bool, Lent, List, Monitor, Row, [], _++_, _<_, _||_, _∙_, _∷_, _≡_, _≤_, add-one, anyFirst, ap}
+use Rattle.in_place.proofs.Names.{append-nil, ap₂, arith, both, cond, dueCounted, false, fullMarked, getD, getD-set-other, getD-set-same}
+use Rattle.in_place.proofs.Names.{isIn, keptAt, le-of-suc-le-suc, length, ltb, ltb-false, ltb-true, map-behind, mapFirst, noRowUndo, noRow}
+use Rattle.in_place.proofs.Names.{not-suc-le-zero, numbers, or-false, refl, rowAt, set, set-getD, split, subst, suc, sym, true, withRow}
+use Rattle.in_place.proofs.Names.{withRows}
+use Rattle.in_place.proofs.Names.{zero, zip-behind, zip-next, zip-none, zipFirst, ℕ}
+use Rattle.in_place.proofs.RowSets.{few-out, was-out}
 
 -- ---- the first rows
 
@@ -87,21 +87,13 @@ zip-twice save t g same (suc n) (r ∷ rows) (b ∷ kept) =
 
 -- ---- rows one after the other
 
--- the soonest time is not after row i's due time
-abbrev with-due : Lent → ℕ → Lent
-with-due h i = withSoonest h (min (h .soonest) (dueAt (h .monitor) i))
-
 -- what stands beside the rows, and does not change with them
-pub record WithLists (hint : ℕ) (ends entries : List ℕ) (x : Lent) : Type 0 where
-  pub room-is : x .hint ≡ hint
-  pub ends-are : x .ends ≡ ends
-  pub entries-are : x .entries ≡ entries
-
-abbrev pub Beside : Lent → Lent → Type 0
-Beside h x = WithLists (h .hint) (h .ends) (h .entries) x
+pub record Beside (h x : Lent) : Type 0 where
+  pub full-is : x .full ≡ h .full
+  pub lists-are : x .lists ≡ h .lists
 
 pub same-beside : (h : Lent) → Beside h h
-same-beside h = record { room-is = refl; ends-are = refl; entries-are = refl }
+same-beside h = record { full-is = refl; lists-are = refl }
 
 -- below n + 1 is below n, or n
 below : {P : Type 0} (i n : ℕ) → i < suc n → (i < n → P) → (i ≡ n → P) → P
@@ -124,9 +116,9 @@ module _ (f : Row → Row) (save : Row → RowUndo → RowUndo) where
   pub row-none : (m : Monitor) → m ≡ withRows m (mapFirst 0 f (m .rows)) (zipFirst 0 save (m .rows) (m .before))
   row-none m = sym (ap₂ (withRows m) (none-first f (m .rows)) (zip-none save (m .rows) (m .before)))
 
-  -- row i of a lent monitor, what is kept of it, and its due time counted in
+  -- row i of a lent monitor, what is kept of it, its due time counted in, and the row marked where it is nearly full
   abbrev pub visit : Lent → ℕ → Lent
-  visit h i = with-due (withRow h i (f (rowAt (h .monitor) i)) (save (rowAt (h .monitor) i) (keptAt (h .monitor) i))) i
+  visit h i = fullMarked (dueCounted (withRow h i (f (rowAt (h .monitor) i)) (save (rowAt (h .monitor) i) (keptAt (h .monitor) i))) i) i
 
   abbrev pub visits : Lent → List ℕ → Lent
   visits h [] = h
@@ -136,23 +128,9 @@ module _ (f : Row → Row) (save : Row → RowUndo → RowUndo) where
   visits-last [] h i = refl
   visits-last (j ∷ is) h i = visits-last is (visit h j) i
 
-  pub visits-beside : (is : List ℕ) (h : Lent) → Beside h (visits h is)
-  visits-beside [] h = same-beside h
-  visits-beside (j ∷ is) h = visits-beside is (visit h j)
-
-  -- whether there is room, row after row
-  abbrev pub rooms : Lent → ℕ → List ℕ → ℕ
-  rooms h hint [] = hint
-  rooms h hint (i ∷ is) = rooms (visit h i) (hintAfterRow (rowAt (visit h i .monitor) i) hint) is
-
-  pub rooms-last : (is : List ℕ) (h : Lent) (hint i : ℕ)
-      → rooms h hint (is ++ (i ∷ [])) ≡ hintAfterRow (rowAt (visits h (is ++ (i ∷ [])) .monitor) i) (rooms h hint is)
-  rooms-last [] h hint i = refl
-  rooms-last (j ∷ is) h hint i = rooms-last is (visit h j) (hintAfterRow (rowAt (visit h j .monitor) j) hint) i
-
-  visits-long : (is : List ℕ) (h : Lent) → length (visits h is .monitor .rows) ≡ length (h .monitor .rows)
-  visits-long [] h = refl
-  visits-long (j ∷ is) h = visits-long is (visit h j) ∙ length-set (h .monitor .rows) j (f (rowAt (h .monitor) j))
+  pub visits-lists : (is : List ℕ) (h : Lent) → visits h is .lists ≡ h .lists
+  visits-lists [] h = refl
+  visits-lists (j ∷ is) h = visits-lists is (visit h j)
 
   module _ (test : ℕ → Bool) (h : Lent) (kept-there : length (h .monitor .before) ≡ length (h .monitor .rows)) where
     abbrev rows : List Row
@@ -169,6 +147,8 @@ module _ (f : Row → Row) (save : Row → RowUndo → RowUndo) where
       pub monitor-is : x .monitor ≡ withRows (h .monitor) (mapFirst n f rows) (zipFirst n save rows kept)
       pub not-later : x .soonest ≤ h .soonest
       pub due-below : (i : ℕ) → i < n → x .soonest ≤ f (row i) .now .due
+      pub unmarked : (i : ℕ) → isIn (x .full) i ≡ false → isIn (h .full) i ≡ false
+      pub marked : (i : ℕ) → i < n → test i ≡ true → isIn (x .full) i ≡ false → f (row i) .now .len ≤ 62
 
     -- one more passes it
     goes : (n : ℕ) (x : Lent) → n < length rows → Visited n x → Visited (suc n) (visit x n)
@@ -185,14 +165,19 @@ module _ (f : Row → Row) (save : Row → RowUndo → RowUndo) where
           not-later = omega (arith, less, so-far .not-later);
           due-below = λ i l. below i n l (λ k. omega (arith, less, so-far .due-below i k))
               (λ e. subst (λ (j : ℕ). visit x n .soonest ≤ f (row j) .now .due) (sym e) due);
+          unmarked = λ i out. so-far .unmarked i (was-out (rowAt (visit x n .monitor) n .now .len) (x .full) n i out);
+          marked = λ i l own out. below i n l
+              (λ k. so-far .marked i k own (was-out (rowAt (visit x n .monitor) n .now .len) (x .full) n i out))
+              (λ e. subst (λ (j : ℕ). f (row j) .now .len ≤ 62) (sym e) (subst (λ (r : Row). r .now .len ≤ 62) after
+              (few-out (rowAt (visit x n .monitor) n .now .len) (x .full) n (subst (λ (j : ℕ). isIn (visit x n .full) j ≡ false) e out))));
         }
 
     -- one more does not, and is left as it is
     abbrev Rests : ℕ → Type 0
     Rests i = (f (row i) ≡ row i) × ((save (row i) (keptAt (h .monitor) i) ≡ keptAt (h .monitor) i) × (h .soonest ≤ row i .now .due))
 
-    rests : (n : ℕ) (x : Lent) → n < length rows → Rests n → Visited n x → Visited (suc n) x
-    rests n x there same so-far =
+    rests : (n : ℕ) (x : Lent) → n < length rows → test n ≡ false → Rests n → Visited n x → Visited (suc n) x
+    rests n x there out same so-far =
         record {
           monitor-is = so-far .monitor-is ∙ ap (λ (l : List Row). withRows (h .monitor) l (zipFirst n save rows kept))
               (none-more f n rows noRow (same .0))
@@ -202,6 +187,8 @@ module _ (f : Row → Row) (save : Row → RowUndo → RowUndo) where
           due-below = λ i l. below i n l (so-far .due-below i)
               (λ e. subst (λ (j : ℕ). x .soonest ≤ f (row j) .now .due) (sym e)
               (subst (λ (r : Row). x .soonest ≤ r .now .due) (sym (same .0)) (omega (arith, same .1 .1, so-far .not-later))));
+          unmarked = so-far .unmarked;
+          marked = λ i l own. below i n l (λ k. so-far .marked i k own) (λ e. both (sym own ∙ ap test e ∙ out));
         }
 
     pub visited : (n : ℕ) → n ≤ length rows → ((i : ℕ) → i < n → test i ≡ false → Rests i) → Visited n (visits h (numbers test n))
@@ -210,13 +197,15 @@ module _ (f : Row → Row) (save : Row → RowUndo → RowUndo) where
           monitor-is = row-none (h .monitor);
           not-later = omega arith;
           due-below = λ i l. absurd (omega (arith, l));
+          unmarked = λ i out. out;
+          marked = λ i l. absurd (omega (arith, l));
         }
     visited (suc n) there others =
         let so-far = visited n (omega (arith, there)) (λ i l. others i (omega (arith, l))) in
         split (test n) (λ b. Visited (suc n) (visits h (numbers test n ++ cond b (n ∷ []) [])))
         (λ e. subst (Visited (suc n)) (sym (visits-last (numbers test n) h n)) (goes n (visits h (numbers test n)) (omega (arith, there)) so-far))
         (λ e. subst (λ (l : List ℕ). Visited (suc n) (visits h l)) (sym (append-nil (numbers test n)))
-        (rests n (visits h (numbers test n)) (omega (arith, there)) (others n (omega arith) e) so-far))
+        (rests n (visits h (numbers test n)) (omega (arith, there)) e (others n (omega arith) e) so-far))
 
 -- ---- by other functions that do the same
 
@@ -261,55 +250,10 @@ module _ (f g : Row → Row) (save keep : Row → RowUndo → RowUndo) (test : �
       let kept : save (rowAt (x .monitor) n) (keptAt (x .monitor) n) ≡ keep (rowAt (x .monitor) n) (keptAt (x .monitor) n) =
       ap₂ save (there .0) (there .1) ∙ now .1 ∙ ap₂ keep (sym (there .0)) (sym (there .1)) in
       visits-last f save (numbers test n) h n
-      ∙ ap₂ (λ (r : Row) (b : RowUndo). with-due (withRow x n r b) n) row kept
+      ∙ ap₂ (λ (r : Row) (b : RowUndo). fullMarked (dueCounted (withRow x n r b) n) n) row kept
       ∙ ap (λ (y : Lent). visit g keep y n) so-far
       ∙ sym (visits-last g keep (numbers test n) h n))
       (λ _ e. ap (visits f save h) (append-nil (numbers test n)) ∙ so-far ∙ ap (visits g keep h) (sym (append-nil (numbers test n)))) refl
-
--- ---- the room that the rows leave which pass a test
-
-module _ (f : Row → Row) (save : Row → RowUndo → RowUndo) (test : ℕ → Bool) (h : Lent) (hint : ℕ) (mark : hint ≤ 1) where
-  abbrev roomTo : ℕ → ℕ
-  roomTo n = rooms f save h hint (numbers test n)
-
-  abbrev takenBy : ℕ → ℕ
-  takenBy i = taken (f (rowAt (h .monitor) i) .parameters) (f (rowAt (h .monitor) i) .now)
-
-  -- one more row passes the test
-  next-room : (n : ℕ) → n < length (h .monitor .rows) → rooms f save h hint (numbers test n ++ (n ∷ []))
-      ≡ hintAfterRow (f (rowAt (h .monitor) n)) (roomTo n)
-  next-room n there =
-      let x : Lent = visits f save h (numbers test n) in
-      let wide : length (x .monitor .rows) ≡ length (h .monitor .rows) = visits-long f save (numbers test n) h in
-      let before : rowAt (x .monitor) n ≡ rowAt (h .monitor) n = behind f f save save test h n n (omega arith) .0 in
-      rooms-last f save (numbers test n) h hint n
-      ∙ ap (λ (y : Lent). hintAfterRow (rowAt (y .monitor) n) (roomTo n)) (visits-last f save (numbers test n) h n)
-      ∙ ap (λ (r : Row). hintAfterRow r (roomTo n))
-      (getD-set-same (x .monitor .rows) n (f (rowAt (x .monitor) n)) noRow (omega (arith, there, wide)) ∙ ap f before)
-
-  pub room-left : (n : ℕ) → n ≤ length (h .monitor .rows) → ((i : ℕ) → i < n → test i ≡ true → f (rowAt (h .monitor) i) .now .len ≤ 64)
-      → (roomTo n ≤ hint) × ((i : ℕ) → i < n → test i ≡ true → takenBy i + roomTo n ≤ 64)
-  room-left zero there few = (omega arith, λ i l. absurd (omega (arith, l)))
-  room-left (suc n) there few =
-      let so-far = room-left n (omega (arith, there)) (λ i l. few i (omega (arith, l))) in
-      split (test n)
-      (λ b. test n ≡ b → (rooms f save h hint (numbers test n ++ cond b (n ∷ []) []) ≤ hint)
-      × ((i : ℕ) → i < suc n → test i ≡ true → takenBy i + rooms f save h hint (numbers test n ++ cond b (n ∷ []) []) ≤ 64))
-      (λ _ e.
-      let r : Row = f (rowAt (h .monitor) n) in
-      let less : hintAfterRow r (roomTo n) ≤ roomTo n = room-less r (roomTo n) in
-      subst (λ (k : ℕ). (k ≤ hint) × ((i : ℕ) → i < suc n → test i ≡ true → takenBy i + k ≤ 64)) (sym (next-room n (omega (arith, there)))) (
-        omega (arith, less, so-far .0),
-        λ i l is-own. below i n l (λ k. omega (arith, less, so-far .1 i k is-own))
-            (λ same. subst (λ (j : ℕ). takenBy j + hintAfterRow r (roomTo n) ≤ 64) (sym same)
-            (room-fits r (roomTo n) (omega (arith, so-far .0, mark)) (few n (omega arith) e))),
-      ))
-      (λ _ e.
-      subst (λ (l : List ℕ). (rooms f save h hint l ≤ hint) × ((i : ℕ) → i < suc n → test i ≡ true → takenBy i + rooms f save h hint l ≤ 64))
-      (sym (append-nil (numbers test n))) (
-        so-far .0,
-        λ i l is-own. below i n l (λ k. so-far .1 i k is-own) (λ same. both (sym is-own ∙ ap test same ∙ e)),
-      )) refl
 
 -- ---- one of them has a mark
 

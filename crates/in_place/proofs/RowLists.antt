@@ -1,69 +1,42 @@
 -- A call goes to the rows of its kind, after the clock and the close have done their part. Where the lists are the monitor's that is the step of
 -- all rows: a row that is not listed is not concerned, so that it is changed by that part alone; one that is applies the event, as it has room.
-use Rattle.in_place.proofs.Names.{RowUndo, Bool, Indexes, Lent, List, Monitor, StepInput, HintSound, Row, Parameters, Shaped, SoundNumbers, []}
-use Rattle.in_place.proofs.Names.{_%_, _++_, _+_, _-_}
-use Rattle.in_place.proofs.Names.{_<_, _∙_, _∷_, _≡_, _≤_, ap, ap₂, arith, deadlinesChecked, concerns, cond, crowds, dueAt, clockApplied}
-use Rattle.in_place.proofs.Names.{endedRow, endedSaves, entryIn}
-use Rattle.in_place.proofs.Names.{eventRow, eventSaves, false, getD, heldRows, isOf, keptAt, le-ltb, length, ltb, ltb-false, ltb-true}
-use Rattle.in_place.proofs.Names.{mapFirst}
-use Rattle.in_place.proofs.Names.{min, movesBy, namedRows, noRowUndo, noEvent, noRow, numbers, rowsExpired, refl, hintAfterEvent, hintAfterRow}
-use Rattle.in_place.proofs.Names.{rowAt, rowCount}
-use Rattle.in_place.proofs.Names.{rowNamed, rowsOfKind, parameters-stays, saved-few, saved-state, soonestAll, soonestOf, split, startOf}
-use Rattle.in_place.proofs.Names.{step-few, still}
-use Rattle.in_place.proofs.Names.{subst, suc, sym, taken, slotsTaken, true, dispatchedTo, dispatched, waitingLimit, withHint, withRows}
-use Rattle.in_place.proofs.Names.{withSoonest, zero}
-use Rattle.in_place.proofs.Names.{zip-length, zipFirst, ℕ}
+use Rattle.in_place.proofs.Names.{RowUndo, Bool, FullSound, Indexes, Lent, List, Monitor, StepInput, Row, Parameters, Shaped, SoundNumbers, []}
+use Rattle.in_place.proofs.Names.{_<_, _∙_, _∷_, _≡_, _≤_, ap, arith, deadlinesChecked, concerns, cond, crowds, dueAt, clockApplied}
+use Rattle.in_place.proofs.Names.{dispatched, dispatchedTo, endedRow, endedSaves, eventRow, eventSaves, false, getD, heldRows, isIn, isOf}
+use Rattle.in_place.proofs.Names.{keptAt}
+use Rattle.in_place.proofs.Names.{le-ltb, length, ltb, ltb-false, ltb-true, mapFirst, movesBy, noRowUndo, noEvent, noRow, numbers, rowsExpired}
+use Rattle.in_place.proofs.Names.{refl}
+use Rattle.in_place.proofs.Names.{rowAt, rowsIn, rowsOfKind, parameters-stays, saved-few, setOf, soonestAll, soonestOf, split, step-few, still}
+use Rattle.in_place.proofs.Names.{subst, suc}
+use Rattle.in_place.proofs.Names.{sym, true, withFull, withRows, withSoonest, zero, zip-length, zipFirst, ℕ}
 use Rattle.in_place.proofs.Concerned.{applied-late, applied-moved, ended-late, late, late-first, late-saves, late-saves-first, late-still}
 use Rattle.in_place.proofs.Concerned.{late-unsaved, moved, no-ends, saved-late, saves, unconcerned, unsaved}
-use Rattle.in_place.proofs.RowByRow.{Beside, map-length, map-twice, mapped, room-left, rooms, rooms-last, row-more, row-none, same-beside}
-use Rattle.in_place.proofs.RowByRow.{visits}
-use Rattle.in_place.proofs.RowByRow.{visits-beside, visits-last, visits-same, zip-twice, zipped}
-use Rattle.in_place.proofs.Parts.{shaped-room}
+use Rattle.in_place.proofs.RowByRow.{Beside, map-length, map-twice, mapped, row-more, row-none, same-beside, visits, visits-lists, visits-same}
+use Rattle.in_place.proofs.RowByRow.{zip-twice, zipped}
+use Rattle.in_place.proofs.RowSets.{numbers-below, same-numbers}
 use Rattle.in_place.proofs.RowByRow as Following
 
 -- ---- the rows that are listed
 
-pub same-named : (h x : Lent) → x .entries ≡ h .entries → (first n : ℕ) → namedRows x first n ≡ namedRows h first n
-same-named h x e first zero = refl
-same-named h x e first (suc n) = ap₂ (λ (l entries : List ℕ). l ++ (entryIn entries (first + n) % 32 ∷ [])) (same-named h x e first n) e
-
-same-start : (h x : Lent) → x .ends ≡ h .ends → (kind : ℕ) → startOf x kind ≡ startOf h kind
-same-start h x e zero = refl
-same-start h x e (suc kind) = ap (λ (ends : List ℕ). min (getD ends kind 0) 160) e
-
-pub same-rows : (h x : Lent) → x .ends ≡ h .ends → x .entries ≡ h .entries → (kind : ℕ) → rowsOfKind x kind ≡ rowsOfKind h kind
-same-rows h x ends entries kind =
-    same-named h x entries (startOf x kind) (rowCount x kind)
-    ∙ ap₂ (namedRows h) (same-start h x ends kind)
-    (ap₂ (λ (a b : ℕ). a - b) (ap (λ (l : List ℕ). min (getD l kind 0) 160) ends) (same-start h x ends kind))
-
-pub same-numbers : (p r : ℕ → Bool) (n : ℕ) → ((i : ℕ) → i < n → p i ≡ r i) → numbers p n ≡ numbers r n
-same-numbers p r zero same = refl
-same-numbers p r (suc n) same =
-    ap (λ (l : List ℕ). l ++ cond (p n) (n ∷ []) []) (same-numbers p r n (λ i k. same i (omega (arith, k))))
-    ∙ ap (λ (b : Bool). numbers r n ++ cond b (n ∷ []) []) (same n (omega arith))
+-- the rows of a kind are those that it concerns
+pub rows-listed : (h : Lent) → Indexes h → (kind : ℕ) → kind < 64 → rowsOfKind h kind ≡ numbers (isOf (h .monitor) kind) (heldRows (h .monitor))
+unfolding rowsIn
+rows-listed h ix kind small =
+    let n : ℕ = heldRows (h .monitor) in
+    numbers-below (isIn (setOf h kind)) n 32 (omega arith) (λ i from l. ix .no-others kind i small from l)
+    ∙ same-numbers (isIn (setOf h kind)) (isOf (h .monitor) kind) n (λ i l. ix .listed kind i small l)
 
 -- ---- the parts of a call as visits
 
-list-visits : (o : StepInput) (number : ℕ) (h : Lent) (first n : ℕ)
-    → dispatched h first n o number ≡ visits (eventRow o number) (eventSaves o number) h (namedRows h first n)
-list-visits o number h first zero = refl
-list-visits o number h first (suc n) =
-    ap (λ (x : Lent). dispatchedTo x (rowNamed h (first + n)) o number) (list-visits o number h first n)
-    ∙ sym (visits-last (eventRow o number) (eventSaves o number) (namedRows h first n) h (rowNamed h (first + n)))
-
-list-rooms : (o : StepInput) (number : ℕ) (h : Lent) (first n : ℕ)
-    → hintAfterEvent h first n o number ≡ rooms (eventRow o number) (eventSaves o number) h (h .hint) (namedRows h first n)
-list-rooms o number h first zero = refl
-list-rooms o number h first (suc n) =
-    ap₂ (λ (x : Lent) (hint : ℕ). hintAfterRow (rowAt (x .monitor) (rowNamed h (first + n))) hint) (list-visits o number h first (suc n))
-    (list-rooms o number h first n)
-    ∙ sym (rooms-last (eventRow o number) (eventSaves o number) (namedRows h first n) h (h .hint) (rowNamed h (first + n)))
+list-visits : (o : StepInput) (number : ℕ) (rows : List ℕ) (h : Lent)
+    → dispatched h rows o number ≡ visits (eventRow o number) (eventSaves o number) h rows
+list-visits o number [] h = refl
+list-visits o number (i ∷ rows) h = list-visits o number rows (dispatchedTo h i o number)
 
 ended-beside : (h : Lent) (n : ℕ) (o : StepInput) (number : ℕ) → Beside h (clockApplied h n o number)
 ended-beside h zero o number = same-beside h
 ended-beside h (suc n) o number =
-    let so-far = ended-beside h n o number in record { room-is = so-far .room-is; ends-are = so-far .ends-are; entries-are = so-far .entries-are }
+    let so-far = ended-beside h n o number in record { full-is = so-far .full-is; lists-are = so-far .lists-are }
 
 module _ (h : Lent) (o : StepInput) (number : ℕ) (wide : length (h .monitor .before) ≡ length (h .monitor .rows)) where
   ended-each : (n : ℕ) → n ≤ length (h .monitor .rows) → clockApplied h n o number .monitor
@@ -106,7 +79,8 @@ map-none (suc n) (r ∷ rows) = ap {B = List Row} (λ l. r ∷ l) (map-none n ro
 
 -- ---- a call that is taken, its numbers stored and its rows still to come
 
-module _ (c : Lent) (ix : Indexes c) (o : StepInput) (above : 0 < c .monitor .count) where
+-- whatever rows it says may be nearly full
+module _ (c : Lent) (full : ℕ) (ix : Indexes (withFull c full)) (o : StepInput) (above : 0 < c .monitor .count) where
   abbrev m : Monitor
   m = c .monitor
 
@@ -129,11 +103,10 @@ module _ (c : Lent) (ix : Indexes c) (o : StepInput) (above : 0 < c .monitor .co
   pub record Stepped (x : Lent) : Type 0 where
     pub monitor-is : x .monitor ≡ withRows m (mapFirst n step (m .rows)) (zipFirst n save (m .rows) (m .before))
     pub due-below : (i : ℕ) → i < n → x .soonest ≤ step (rowAt m i) .now .due
-    pub beside : Beside c x
+    pub lists-are : x .lists ≡ c .lists
 
   -- ---- the rows of a list
-  module _ (first count : ℕ) (list-is : namedRows c first count ≡ numbers (isOf m (o .kind)) n)
-      (hint : (i : ℕ) → i < n → crowds o (rowAt m i) ≡ false) where
+  module _ (rows : List ℕ) (list-is : rows ≡ numbers (isOf m (o .kind)) n) (room : (i : ℕ) → i < n → crowds o (rowAt m i) ≡ false) where
     abbrev test : ℕ → Bool
     test = isOf m (o .kind)
 
@@ -144,19 +117,16 @@ module _ (c : Lent) (ix : Indexes c) (o : StepInput) (above : 0 < c .monitor .co
     apply-save = eventSaves o (m .count)
 
     abbrev list-applied : Lent → Lent
-    list-applied x = dispatched x first count o (m .count)
+    list-applied x = dispatched x rows o (m .count)
 
-    abbrev room-after : Lent → ℕ
-    room-after x = hintAfterEvent x first count o (m .count)
-
-    -- so, and a place is free in each row of the list where there is room
+    -- so, no row's mark is taken away, and a row of the list that is not marked is not nearly full
     pub record Applied (x : Lent) : Type 0 where
       pub stepped : Stepped (list-applied x)
-      pub less : room-after x ≤ c .hint
-      pub fits : (i : ℕ) → i < n → test i ≡ true → slotsTaken (rowAt m i .parameters) (step (rowAt m i) .now .len) + room-after x ≤ 64
+      pub unmarked : (i : ℕ) → isIn (list-applied x .full) i ≡ false → isIn (c .full) i ≡ false
+      pub marked : (i : ℕ) → i < n → test i ≡ true → isIn (list-applied x .full) i ≡ false → step (rowAt m i) .now .len ≤ 62
 
-    list-visited : (x : Lent) → Beside c x → list-applied x ≡ visits apply apply-save x (numbers test n)
-    list-visited x b = list-visits o (m .count) x first count ∙ ap (visits apply apply-save x) (same-named c x (b .entries-are) first count ∙ list-is)
+    list-visited : (x : Lent) → list-applied x ≡ visits apply apply-save x (numbers test n)
+    list-visited x = list-visits o (m .count) rows x ∙ ap (visits apply apply-save x) list-is
 
     -- the list of a monitor in which no row is overdue that is not in it
     list-steps : (x : Lent) (g : Row → Row) (t : Row → RowUndo → RowUndo) → Beside c x
@@ -183,17 +153,11 @@ module _ (c : Lent) (ix : Indexes c) (o : StepInput) (above : 0 < c .monitor .co
         subst (λ (r : Row). (step r ≡ r) × ((save r (keptAt (x .monitor) i) ≡ keptAt (x .monitor) i) × (x .soonest ≤ r .now .due))) (sym (at i k))
         (subst (λ (b : RowUndo). (step (g (rowAt m i)) ≡ g (rowAt m i)) × ((save (g (rowAt m i)) b ≡ b) × (x .soonest ≤ g (rowAt m i) .now .due)))
         (sym (too i k)) (others i k out))) in
-        let same-list = list-visited x same ∙ visits-same apply step apply-save save test x n (λ i k is-own.
+        let same-list = list-visited x ∙ visits-same apply step apply-save save test x n (λ i k is-own.
         subst (λ (r : Row). (apply r ≡ step r) × (apply-save r (keptAt (x .monitor) i) ≡ save r (keptAt (x .monitor) i))) (sym (at i k))
         (own i k is-own .0, own i k is-own .1 (keptAt (x .monitor) i))) in
-        let beside-x = visits-beside step save (numbers test n) x in
-        let after : (i : ℕ) → i < n → test i ≡ true → apply (rowAt (x .monitor) i) ≡ step (rowAt m i) = λ i k is-own.
-        ap apply (at i k) ∙ own i k is-own .0 ∙ no-matter (rowAt m i) in
-        let room-is : room-after x ≡ rooms apply apply-save x (x .hint) (numbers test n) =
-        list-rooms o (m .count) x first count
-        ∙ ap (rooms apply apply-save x (x .hint)) (same-named c x (same .entries-are) first count ∙ list-is) in
-        let free = room-left apply apply-save test x (x .hint) (subst (λ (k : ℕ). k ≤ 1) (sym (same .room-is)) (ix .roomy .room-mark)) n there
-        (λ i k is-own. subst (λ (r : Row). r .now .len ≤ 64) (sym (after i k is-own)) (step-few (rowAt m i) o (m .count) (ix .roomy .now-few i k))) in
+        let out-then : (i : ℕ) → isIn (list-applied x .full) i ≡ false → isIn (visits step save x (numbers test n) .full) i ≡ false =
+        λ i out. subst (λ (y : Lent). isIn (y .full) i ≡ false) same-list out in
         record {
           stepped = record {
             monitor-is = ap (λ (y : Lent). y .monitor) same-list ∙ v .monitor-is
@@ -204,26 +168,17 @@ module _ (c : Lent) (ix : Indexes c) (o : StepInput) (above : 0 < c .monitor .co
             due-below = λ i k. subst (λ (y : Lent). y .soonest ≤ step (rowAt m i) .now .due) (sym same-list)
                 (subst (λ (r : Row). visits step save x (numbers test n) .soonest ≤ r .now .due) (ap step (at i k) ∙ no-matter (rowAt m i))
                 (v .due-below i k));
-            beside = subst (Beside c) (sym same-list) (record {
-              room-is = beside-x .room-is ∙ same .room-is;
-              ends-are = beside-x .ends-are ∙ same .ends-are;
-              entries-are = beside-x .entries-are ∙ same .entries-are;
-            });
+            lists-are = ap (λ (y : Lent). y .lists) same-list ∙ visits-lists step save (numbers test n) x ∙ same .lists-are;
           };
-          less = subst (λ (k : ℕ). k ≤ c .hint) (sym room-is)
-              (subst (λ (k : ℕ). rooms apply apply-save x (x .hint) (numbers test n) ≤ k) (same .room-is) (free .0));
-          fits = λ i k is-own. subst (λ (hint : ℕ). slotsTaken (rowAt m i .parameters) (step (rowAt m i) .now .len) + hint ≤ 64) (sym room-is)
-              (subst (λ (parameters : Parameters). slotsTaken parameters (step (rowAt m i) .now .len) + rooms apply apply-save x (x .hint)
-              (numbers test n) ≤ 64)
-              (parameters-stays (rowAt m i) o (m .count))
-              (subst (λ (r : Row). taken (r .parameters) (r .now) + rooms apply apply-save x (x .hint) (numbers test n) ≤ 64) (after i k is-own)
-              (free .1 i k is-own)));
+          unmarked = λ i out. subst (λ (full : ℕ). isIn full i ≡ false) (same .full-is) (v .unmarked i (out-then i out));
+          marked = λ i k is-own out. subst (λ (r : Row). r .now .len ≤ 62) (ap step (at i k) ∙ no-matter (rowAt m i))
+              (v .marked i k is-own (out-then i out));
         }
 
     -- the clock can go to no row, as none is due before a time
     not-late : (s : ℕ) → o .closes ≡ false → ltb s (o .time) ≡ false → ((i : ℕ) → i < n → s ≤ rowAt m i .now .due) → Applied (withSoonest c s)
     not-late s going e least =
-        list-steps (withSoonest c s) (λ r. r) (λ r b. b) (record { room-is = refl; ends-are = refl; entries-are = refl })
+        list-steps (withSoonest c s) (λ r. r) (λ r b. b) (record { full-is = refl; lists-are = refl })
         (sym (ap (λ (rows : List Row). withRows m rows (zipFirst n (λ r b. b) (m .rows) (m .before))) (map-none n (m .rows))
         ∙ ap (withRows m (m .rows)) (zip-nothing n (m .rows) (m .before))))
         (λ r. refl) (λ r b. refl)
@@ -231,7 +186,7 @@ module _ (c : Lent) (ix : Indexes c) (o : StepInput) (above : 0 < c .monitor .co
         let unmoved : movesBy (rowAt m i .parameters) (rowAt m i .now) o ≡ false = unconcerned (rowAt m i) o out
         ∙ no-ends (rowAt m i) o going (in-time i k) in
         (still (rowAt m i) o (m .count) unmoved, (unsaved o (m .count) (rowAt m i) (keptAt m i) unmoved, least i k)))
-        (λ i k is-own. applied-moved o (m .count) (rowAt m i) is-own (λ _. (in-time i k, hint i k)))
+        (λ i k is-own. applied-moved o (m .count) (rowAt m i) is-own (λ _. (in-time i k, room i k)))
       where
         in-time : (i : ℕ) → i < n → ltb (rowAt m i .now .due) (o .time) ≡ false
         in-time i k = le-ltb (rowAt m i .now .due) (o .time) (omega (arith, ltb-false s (o .time) e, least i k))
@@ -241,11 +196,11 @@ module _ (c : Lent) (ix : Indexes c) (o : StepInput) (above : 0 < c .monitor .co
     some-late =
         let b = ended-beside c n o (m .count) in
         list-steps (withSoonest (clockApplied c n o (m .count)) 0) (late o (m .count)) (late-saves o (m .count))
-        (record { room-is = b .room-is; ends-are = b .ends-are; entries-are = b .entries-are })
+        (record { full-is = b .full-is; lists-are = b .lists-are })
         (ended-rows c o (m .count) (kept-whole ∙ sym whole) n (omega (arith, whole))) (late-first o (m .count) above)
         (late-saves-first o (m .count) above)
         (λ i k out. (late-still o (m .count) above (rowAt m i) out, (late-unsaved o (m .count) above (rowAt m i) (keptAt m i) out, omega arith)))
-        (λ i k is-own. applied-late o (m .count) above (rowAt m i) is-own (hint i k))
+        (λ i k is-own. applied-late o (m .count) above (rowAt m i) is-own (room i k))
 
     pub all-stepped : o .closes ≡ false → Applied (deadlinesChecked c o)
     all-stepped going =
@@ -256,8 +211,8 @@ module _ (c : Lent) (ix : Indexes c) (o : StepInput) (above : 0 < c .monitor .co
         (λ _ e. not-late (c .soonest) going e (ix .no-sooner)) refl
 
   -- ---- the words agree with the monitor after the step
-  module _ (x : Lent) (wide : Shaped x) (st : Stepped x) (hint : ℕ) (less : hint ≤ c .hint)
-      (fits : (i : ℕ) → i < n → slotsTaken (rowAt m i .parameters) (step (rowAt m i) .now .len) + hint ≤ waitingLimit) where
+  module _ (x : Lent) (wide : Shaped x) (st : Stepped x)
+      (few : (i : ℕ) → i < n → isIn (x .full) i ≡ false → step (rowAt m i) .now .len ≤ 62) where
     held-is : heldRows (x .monitor) ≡ n
     held-is = ap heldRows (st .monitor-is)
 
@@ -272,55 +227,43 @@ module _ (c : Lent) (ix : Indexes c) (o : StepInput) (above : 0 < c .monitor .co
     parameters-is : (i : ℕ) → i < n → rowAt (x .monitor) i .parameters ≡ rowAt m i .parameters
     parameters-is i k = ap (λ (r : Row). r .parameters) (row-is i k) ∙ parameters-stays (rowAt m i) o (m .count)
 
-    abbrev takes : ℕ → ℕ → ℕ
-    takes i len = slotsTaken (rowAt m i .parameters) len
-
     -- what holds of the first n rows holds of those that there are
     each : (P : ℕ → Type 0) → ((i : ℕ) → i < n → P i) → (i : ℕ) → i < heldRows (x .monitor) → P i
     each P so i l = so i (omega (arith, l, held-is))
 
-    few : HintSound (withHint x hint)
-    few =
+    full-sound : FullSound x
+    full-sound =
         record {
-          room-mark = omega (arith, less, ix .roomy .room-mark);
           now-few = each (λ i. rowAt (x .monitor) i .now .len ≤ 64)
               (λ i k. subst (λ (r : Row). r .now .len ≤ 64) (sym (row-is i k)) (step-few (rowAt m i) o (m .count) (ix .roomy .now-few i k)));
           then-few = each (λ i. keptAt (x .monitor) i .state .len ≤ 64)
               (λ i k. subst (λ (b : RowUndo). b .state .len ≤ 64) (sym (kept-is i k))
               (saved-few (rowAt m i) o (m .count) (keptAt m i) (ix .roomy .now-few i k) (ix .roomy .then-few i k)));
-          now-room = each (λ i. slotsTaken (rowAt (x .monitor) i .parameters) (rowAt (x .monitor) i .now .len) + hint ≤ 64)
-              (λ i k. subst (λ (parameters : Parameters). slotsTaken parameters (rowAt (x .monitor) i .now .len) + hint ≤ 64)
-              (sym (parameters-is i k))
-              (subst (λ (r : Row). takes i (r .now .len) + hint ≤ 64) (sym (row-is i k)) (fits i k)));
-          then-room = each (λ i. slotsTaken (rowAt (x .monitor) i .parameters) (keptAt (x .monitor) i .state .len) + hint ≤ 64)
-              (λ i k. subst (λ (parameters : Parameters). slotsTaken parameters (keptAt (x .monitor) i .state .len) + hint ≤ 64)
-              (sym (parameters-is i k))
-              (subst (λ (b : RowUndo). takes i (b .state .len) + hint ≤ 64) (sym (kept-is i k))
-              (saved-state (λ s. takes i (s .len) + hint ≤ 64) (rowAt m i) o (m .count) (keptAt m i)
-              (smaller-room (takes i (rowAt m i .now .len)) (ix .roomy .now-room i k))
-              (smaller-room (takes i (keptAt m i .state .len)) (ix .roomy .then-room i k)))));
+          has-room = each (λ i. isIn (x .full) i ≡ false → rowAt (x .monitor) i .now .len ≤ 62)
+              (λ i k out. subst (λ (r : Row). r .now .len ≤ 62) (sym (row-is i k)) (few i k out));
         }
-      where
-        smaller-room : (a : ℕ) → a + c .hint ≤ 64 → a + hint ≤ 64
-        smaller-room a l = omega (arith, l, less)
 
     -- each row has its kinds
     same-kinds : (kind i : ℕ) → i < n → isOf m kind i ≡ isOf (x .monitor) kind i
     same-kinds kind i k = ap (λ (r : Parameters). concerns r kind) (sym (parameters-is i k))
 
-    pub step-indexes : Indexes (withHint x hint)
+    same-set : (kind i : ℕ) → isIn (setOf x kind) i ≡ isIn (setOf c kind) i
+    same-set kind i = ap (λ (lists : List ℕ). isIn (getD lists kind 0) i) (st .lists-are)
+
+    pub step-indexes : Indexes x
     step-indexes =
         record {
-          shaped = shaped-room x hint wide;
+          shaped = wide;
           sound = subst SoundNumbers (sym (st .monitor-is)) (record {
             rows-few = ix .sound .rows-few;
             closed-mark = ix .sound .closed-mark;
             closed-then = ix .sound .closed-then;
           });
-          listed = λ kind small. same-rows c (withHint x hint) (st .beside .ends-are) (st .beside .entries-are) kind ∙ ix .listed kind small
-              ∙ same-numbers (isOf m kind) (isOf (x .monitor) kind) n (same-kinds kind) ∙ ap (numbers (isOf (x .monitor) kind)) (sym held-is);
+          listed = λ kind i small. each (λ i. isIn (setOf x kind) i ≡ isOf (x .monitor) kind i)
+              (λ i k. same-set kind i ∙ ix .listed kind i small k ∙ same-kinds kind i k) i;
+          no-others = λ kind i small from l. same-set kind i ∙ ix .no-others kind i small (omega (arith, from, held-is)) l;
           no-ticks = each (λ i. isOf (x .monitor) noEvent i ≡ false) (λ i k. sym (same-kinds noEvent i k) ∙ ix .no-ticks i k);
           no-sooner = each (λ i. x .soonest ≤ dueAt (x .monitor) i)
               (λ i k. subst (λ (r : Row). x .soonest ≤ r .now .due) (sym (row-is i k)) (st .due-below i k));
-          roomy = few;
+          roomy = full-sound;
         }

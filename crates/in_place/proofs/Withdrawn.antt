@@ -1,22 +1,20 @@
 -- A withdrawal puts each row back, and the numbers beside them. The rows keep their rules, so that the lists are theirs; what waits in one now
 -- waited in it before, or nothing is kept of it; and no row is due before time 0.
-use Rattle.in_place.proofs.Names.{RowUndo, Bool, Indexes, Lent, List, Monitor, HintSound, Row, Parameters, SoundNumbers, State, [], _+_, _<_}
-use Rattle.in_place.proofs.Names.{_∙_, _∷_, _≡_, _≤_}
-use Rattle.in_place.proofs.Names.{add-one, ap, arith, backRow, allRowsUndone, rowsUndone, concerns, cond, eqb, false, getD, heldRows, isOf}
-use Rattle.in_place.proofs.Names.{kept-state}
-use Rattle.in_place.proofs.Names.{keptAt, keptWithout, length, length-set, noRowUndo, noEvent, noRow, noState, numbers, placeIn, refl, rowAt}
-use Rattle.in_place.proofs.Names.{rowLimit, rowWithout, rowsWithout, set, subst, suc, sym, taken-rises, slotsTaken, true, restoredMonitor}
-use Rattle.in_place.proofs.Names.{withNext}
-use Rattle.in_place.proofs.Names.{withdrawn, withdrawnLent, without-all, without-next, without-none, without-state, zero, zip-length, zipFirst}
-use Rattle.in_place.proofs.Names.{ℕ}
-use Rattle.in_place.proofs.{RowByRow.Beside, RowByRow.same-beside, RowLists.same-numbers, RowLists.same-rows, Parts.shaped-backed}
+use Rattle.in_place.proofs.Names.{RowUndo, Bool, FullSound, Indexes, Lent, List, Monitor, Row, Parameters, SoundNumbers, State, [], _<_, _∙_}
+use Rattle.in_place.proofs.Names.{_∷_}
+use Rattle.in_place.proofs.Names.{_≡_, _≤_, add-one, ap, arith, backRow, both, rowsUndone, concerns, cond, eqb, false, getD, heldRows, isIn}
+use Rattle.in_place.proofs.Names.{isOf}
+use Rattle.in_place.proofs.Names.{kept-state, keptAt, keptWithout, length, length-set, noRowUndo, noEvent, noRow, noState, placeIn, refl}
+use Rattle.in_place.proofs.Names.{rowAt}
+use Rattle.in_place.proofs.Names.{rowLimit, rowWithout, rowsWithout, set, setOf, subst, suc, sym, true, restoredMonitor, withNext, withdrawn}
+use Rattle.in_place.proofs.Names.{withdrawnLent, without-all, without-next, without-none, without-state, zero, zip-length, zipFirst, ℕ}
+use Rattle.in_place.proofs.{Parts.shaped-backed, RowSets.in-all}
 
 -- ---- the rows put back
 
-back-beside : (h : Lent) (n number : ℕ) → Beside h (rowsUndone h n number)
-back-beside h zero number = same-beside h
-back-beside h (suc n) number =
-    let so-far = back-beside h n number in record { room-is = so-far .room-is; ends-are = so-far .ends-are; entries-are = so-far .entries-are }
+back-lists : (h : Lent) (n number : ℕ) → rowsUndone h n number .lists ≡ h .lists
+back-lists h zero number = refl
+back-lists h (suc n) number = back-lists h n number
 
 module _ (h : Lent) (whole : length (h .monitor .rows) ≡ rowLimit) (wide : length (h .monitor .before) ≡ rowLimit) where
   back-rows : (number n : ℕ) → n ≤ rowLimit → rowsUndone h n number .monitor ≡ rowsWithout (h .monitor) n number
@@ -30,7 +28,7 @@ module _ (h : Lent) (whole : length (h .monitor .rows) ≡ rowLimit) (wide : len
   unfolding withdrawn
   withdrawn-is =
       ap (λ (m : Monitor). restoredMonitor (withNext
-      (record { monitor = m; soonest = h .soonest; hint = h .hint; ends = h .ends; entries = h .entries })
+      (record { monitor = m; soonest = h .soonest; full = h .full; lists = h .lists })
       (set (m .next) (placeIn (m .undo .place)) (m .undo .next)) .monitor))
       (back-rows (h .monitor .count) (heldRows (h .monitor)) (omega arith)
       ∙ without-all (h .monitor .count) (h .monitor) whole wide (heldRows (h .monitor)) refl)
@@ -117,8 +115,8 @@ module _ (h : Lent) (ix : Indexes h) where
   abbrev m₀ : Monitor
   m₀ = h .monitor
 
-  beside : Beside h (allRowsUndone h)
-  beside = back-beside h (heldRows m₀) (m₀ .count)
+  same-lists : x .lists ≡ h .lists
+  same-lists = back-lists h (heldRows m₀) (m₀ .count)
 
   is : x .monitor ≡ withdrawn m₀
   is = withdrawn-is h (ix .shaped .rows-there) (ix .shaped .kept-there)
@@ -127,37 +125,20 @@ module _ (h : Lent) (ix : Indexes h) where
   each : (P : Monitor → ℕ → Type 0) → ((i : ℕ) → i < heldRows m₀ → P (withdrawn m₀) i) → (i : ℕ) → i < heldRows (x .monitor) → P (x .monitor) i
   each P so i l = subst (λ (y : Monitor). P y i) (sym is) (so i (subst (λ (k : ℕ). i < k) (ap heldRows is ∙ same-held m₀) l))
 
-  abbrev taken : ℕ → State → ℕ
-  taken i s = slotsTaken (rowAt m₀ i .parameters) (s .len)
-
-  -- what is taken in a row has room with it, by the rule that it has still
-  fits : (i : ℕ) (s : State) → taken i s + h .hint ≤ 64 → slotsTaken (rowAt (withdrawn m₀) i .parameters) (s .len) + x .hint ≤ 64
-  fits i s l =
-      subst (λ (parameters : Parameters). slotsTaken parameters (s .len) + x .hint ≤ 64) (sym (same-rules m₀ i))
-      (subst (λ (hint : ℕ). taken i s + hint ≤ 64) (sym (beside .room-is)) l)
-
-  roomy-back : HintSound x
+  roomy-back : FullSound x
   roomy-back =
       record {
-        room-mark = subst (λ (hint : ℕ). hint ≤ 1) (sym (beside .room-is)) (ix .roomy .room-mark);
         now-few = each (λ y i. rowAt y i .now .len ≤ 64)
             (λ i l. back-now m₀ (λ s. s .len ≤ 64) i (ix .roomy .now-few i l) (ix .roomy .then-few i l));
         then-few = each (λ y i. keptAt y i .state .len ≤ 64) (λ i l. back-then m₀ (λ s. s .len ≤ 64) i (ix .roomy .then-few i l) (omega arith));
-        now-room = each (λ y i. slotsTaken (rowAt y i .parameters) (rowAt y i .now .len) + x .hint ≤ 64)
-            (λ i l. fits i (rowAt (withdrawn m₀) i .now)
-            (back-now m₀ (λ s. taken i s + h .hint ≤ 64) i (ix .roomy .now-room i l) (ix .roomy .then-room i l)));
-        then-room = each (λ y i. slotsTaken (rowAt y i .parameters) (keptAt y i .state .len) + x .hint ≤ 64)
-            (λ i l. fits i (keptAt (withdrawn m₀) i .state) (back-then m₀ (λ s. taken i s + h .hint ≤ 64) i (ix .roomy .then-room i l)
-            (less (taken i noState) (taken i (keptAt m₀ i .state)) (h .hint)
-            (taken-rises (rowAt m₀ i .parameters .tag) (rowAt m₀ i .parameters .span) 0 (keptAt m₀ i .state .len) (omega arith))
-            (ix .roomy .then-room i l))));
+        has-room = λ i l out. both (sym (in-all i (omega (arith, l))) ∙ out);
       }
-    where
-      less : (a b c : ℕ) → a ≤ b → b + c ≤ 64 → a + c ≤ 64
-      less a b c p q = omega (arith, p, q)
 
   same-kinds : (kind i : ℕ) → isOf m₀ kind i ≡ isOf (withdrawn m₀) kind i
   same-kinds kind i = ap (λ (r : Parameters). concerns r kind) (sym (same-rules m₀ i))
+
+  same-set : (kind i : ℕ) → isIn (setOf x kind) i ≡ isIn (setOf h kind) i
+  same-set kind i = ap (λ (lists : List ℕ). isIn (getD lists kind 0) i) same-lists
 
   pub withdrawn-indexes : Indexes x
   withdrawn-indexes =
@@ -166,14 +147,13 @@ module _ (h : Lent) (ix : Indexes h) where
           rows-there = ap (λ (y : Monitor). length (y .rows)) is ∙ rows-long m₀ ∙ ix .shaped .rows-there;
           kept-there = ap (λ (y : Monitor). length (y .before)) is ∙ kept-long m₀ ∙ ix .shaped .kept-there;
           next-there = ap (λ (y : Monitor). length (y .next)) is ∙ next-long m₀ ∙ ix .shaped .next-there;
-          ends-there = ap length (beside .ends-are) ∙ ix .shaped .ends-there;
-          entries-there = ap length (beside .entries-are) ∙ ix .shaped .entries-there;
+          lists-there = ap length same-lists ∙ ix .shaped .lists-there;
           rest-zero = shaped-backed h (heldRows m₀) (m₀ .count) (ix .shaped) .rest-zero;
         };
         sound = subst SoundNumbers (sym is) (back-sound m₀ (ix .sound));
-        listed = λ kind small. same-rows h x (beside .ends-are) (beside .entries-are) kind ∙ ix .listed kind small
-            ∙ same-numbers (isOf m₀ kind) (isOf (withdrawn m₀) kind) (heldRows m₀) (λ i _. same-kinds kind i)
-            ∙ ap (numbers (isOf (withdrawn m₀) kind)) (sym (same-held m₀)) ∙ ap (λ (y : Monitor). numbers (isOf y kind) (heldRows y)) (sym is);
+        listed = λ kind i small. each (λ y i. isIn (setOf x kind) i ≡ isOf y kind i)
+            (λ i l. same-set kind i ∙ ix .listed kind i small l ∙ same-kinds kind i) i;
+        no-others = λ kind i small from l. same-set kind i ∙ ix .no-others kind i small (omega (arith, from, ap heldRows is ∙ same-held m₀)) l;
         no-ticks = each (λ y i. isOf y noEvent i ≡ false) (λ i l. sym (same-kinds noEvent i) ∙ ix .no-ticks i l);
         no-sooner = λ i _. omega arith;
         roomy = roomy-back;

@@ -1,20 +1,17 @@
 -- What the words of a lent monitor say of the monitor that they are, and what a call and a withdrawal on them promise.
-use Prim.Native.Nat.{ℕ, zero, suc, _+_, _<_, _≤_}
+use Prim.Native.Nat.{ℕ, zero, suc, _<_, _≤_}
 use mathlib.Core.Path.{_≡_}
-use mathlib.Core.Bool.{Bool, false, cond}
-use mathlib.Core.List.{List, [], _∷_, _++_}
+use mathlib.Core.Bool.{Bool, false}
 use Rattle.constraint.specs.Limits.{rowLimit, waitingLimit}
 use Rattle.constraint.specs.Run.{Request}
 use Rattle.constraint.specs.declared.Answer.{Answer}
 use Rattle.constraint.specs.declared.Answer.the-variants.{Taken, Refused}
-use Rattle.row_type.specs.declared.Parameters.{Parameters}
 use Rattle.row.specs.Machine.{concerns, noEvent}
-use Rattle.row.specs.Stored.{slotsUsedBy}
 use Rattle.monitor.specs.Contract.{Steps}
 use Rattle.monitor.specs.declared.Monitor.{Monitor}
 use Rattle.monitor.specs.declared.Stepped.{Stepped}
-use Rattle.in_place.specs.Layout.{Lent, Words, wordsOfLent, Shaped, rowNamed, startOf, heldRows, rowAt, keptAt, dueAt}
-use Rattle.in_place.specs.Steps.{rowCount, numberOf, leaves}
+use Rattle.in_place.specs.Layout.{Lent, Words, wordsOfLent, Shaped, isIn, setOf, heldRows, rowAt, keptAt, dueAt}
+use Rattle.in_place.specs.Steps.{numberOf, leaves}
 
 -- ---- answers
 
@@ -29,37 +26,15 @@ steppedFrom number m = record { answer = answerFrom number; monitor = m }
 
 -- ---- the words agree with the monitor
 
--- the rows that n entries name, from one on
-abbrev pub namedRows : Lent → ℕ → ℕ → List ℕ
-namedRows h first zero = []
-namedRows h first (suc n) = namedRows h first n ++ (rowNamed h (first + n) ∷ [])
-
--- the rows of a kind
-abbrev pub rowsOfKind : Lent → ℕ → List ℕ
-rowsOfKind h kind = namedRows h (startOf h kind) (rowCount h kind)
-
--- the numbers below n that pass a test, in their order
-abbrev pub numbers : (ℕ → Bool) → ℕ → List ℕ
-numbers test zero = []
-numbers test (suc n) = numbers test n ++ cond (test n) (n ∷ []) []
-
 -- the kind concerns row i
 abbrev pub isOf : Monitor → ℕ → ℕ → Bool
 isOf m kind i = concerns (rowAt m i .parameters) kind
 
--- how many places are taken in a row, by its constraint's numbers and how many times it keeps
-abbrev pub slotsTaken : Parameters → ℕ → ℕ
-slotsTaken parameters len = slotsUsedBy (parameters .tag) (parameters .span) len
-
--- in no row wait more than 64, nor did before its last step; and where there is said to be room, each has a free place
-pub record HintSound (h : Lent) : Type 0 where
-  pub room-mark : h .hint ≤ 1
+-- in no row wait more than 64, nor did before its last step; and in a row that is not said to be nearly full at most 62
+pub record FullSound (h : Lent) : Type 0 where
   pub now-few : (i : ℕ) → i < heldRows (h .monitor) → rowAt (h .monitor) i .now .len ≤ waitingLimit
   pub then-few : (i : ℕ) → i < heldRows (h .monitor) → keptAt (h .monitor) i .state .len ≤ waitingLimit
-  pub now-room : (i : ℕ) → i < heldRows (h .monitor)
-      → slotsTaken (rowAt (h .monitor) i .parameters) (rowAt (h .monitor) i .now .len) + h .hint ≤ waitingLimit
-  pub then-room : (i : ℕ) → i < heldRows (h .monitor)
-      → slotsTaken (rowAt (h .monitor) i .parameters) (keptAt (h .monitor) i .state .len) + h .hint ≤ waitingLimit
+  pub has-room : (i : ℕ) → i < heldRows (h .monitor) → isIn (h .full) i ≡ false → rowAt (h .monitor) i .now .len ≤ 62
 
 -- the numbers of a monitor are those of one: at most 32 rows, and 1 for closed
 pub record SoundNumbers (m : Monitor) : Type 0 where
@@ -68,15 +43,16 @@ pub record SoundNumbers (m : Monitor) : Type 0 where
   pub closed-then : m .undo .closed ≤ 1
 
 -- §11.4
--- each part has its size, the entries of a kind name the rows that it concerns, a tick and the close concern none, and no row is due before the
+-- each part has its size, the set of a kind is that of the rows that it concerns, a tick and the close concern none, and no row is due before the
 -- soonest time
 pub record Indexes (h : Lent) : Type 0 where
   pub shaped : Shaped h
   pub sound : SoundNumbers (h .monitor)
-  pub listed : (kind : ℕ) → kind < 64 → rowsOfKind h kind ≡ numbers (isOf (h .monitor) kind) (heldRows (h .monitor))
+  pub listed : (kind i : ℕ) → kind < 64 → i < heldRows (h .monitor) → isIn (setOf h kind) i ≡ isOf (h .monitor) kind i
+  pub no-others : (kind i : ℕ) → kind < 64 → heldRows (h .monitor) ≤ i → i < rowLimit → isIn (setOf h kind) i ≡ false
   pub no-ticks : (i : ℕ) → i < heldRows (h .monitor) → isOf (h .monitor) noEvent i ≡ false
   pub no-sooner : (i : ℕ) → i < heldRows (h .monitor) → h .soonest ≤ dueAt (h .monitor) i
-  pub roomy : HintSound h
+  pub roomy : FullSound h
 
 -- ---- a call or a withdrawal
 

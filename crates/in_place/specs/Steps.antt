@@ -1,18 +1,19 @@
 -- What a call and a withdrawal make of a lent monitor, part by part.
-use Prim.Native.Nat.{ℕ, zero, suc, _+_, _-_, _%_, _≤_, _<_, min}
+use Prim.Native.Nat.{ℕ, zero, suc, _-_, _^_, _≤_, _<_, min}
 use mathlib.Core.Path.{_≡_}
 use mathlib.Core.Bool.{Bool, true, false, cond, _||_}
 use mathlib.Core.List.{List, [], _∷_}
+use lib.Bits.{bitAnd, bitOr}
 use lib.ListN.{getD, set}
-use lib.Dec.{ltb, leb, eqb}
-use Rattle.constraint.specs.Limits.{noLimit, waitingLimit, lastCount}
+use lib.Dec.{ltb, leb}
+use Rattle.constraint.specs.Limits.{noLimit, lastCount}
 use Rattle.constraint.specs.Streams.{stream}
 use Rattle.constraint.specs.declared.Call.{Call}
 use Rattle.constraint.specs.Run.{Request, asks, withdraws}
 use Rattle.row_type.specs.Parts.{plus}
 use Rattle.row.specs.StepParts.{eventOverflows}
 use Rattle.row.specs.Undo.{rowWithout, keptWithout}
-use Rattle.row.specs.Stored.{eventRow, eventSaves, endedRow, endedSaves, larger, slotsUsedIn, hintAfterRow}
+use Rattle.row.specs.Stored.{eventRow, eventSaves, endedRow, endedSaves}
 use Rattle.row.specs.declared.RowUndo.{RowUndo}
 use Rattle.row.specs.declared.StepInput.{StepInput}
 use Rattle.row.specs.declared.Row.{Row}
@@ -21,18 +22,19 @@ use Rattle.questions.specs.Questions.{noUndo, placeIn}
 use Rattle.monitor.specs.Machine.{noRow, refusalFor}
 use Rattle.monitor.specs.Parts.{withRows}
 use Rattle.monitor.specs.declared.Monitor.{Monitor}
-use Rattle.in_place.specs.Layout.{Lent, Words, wordsOfLent, Shaped, numberArray, rowNamed, startOf, endOf, heldRows, rowAt, keptAt, dueAt}
+use Rattle.in_place.specs.Layout.{Lent, Words, wordsOfLent, Shaped, numberArray, rowsIn, allRows, setOf, rowsOfKind, heldRows, rowAt, keptAt}
+use Rattle.in_place.specs.Layout.{dueAt}
 
 -- ---- parts of the record
 
 abbrev pub withMonitor : Lent → Monitor → Lent
-withMonitor h m = record { monitor = m; soonest = h .soonest; hint = h .hint; ends = h .ends; entries = h .entries }
+withMonitor h m = record { monitor = m; soonest = h .soonest; full = h .full; lists = h .lists }
 
 abbrev pub withSoonest : Lent → ℕ → Lent
-withSoonest h time = record { monitor = h .monitor; soonest = time; hint = h .hint; ends = h .ends; entries = h .entries }
+withSoonest h time = record { monitor = h .monitor; soonest = time; full = h .full; lists = h .lists }
 
-abbrev pub withHint : Lent → ℕ → Lent
-withHint h hint = record { monitor = h .monitor; soonest = h .soonest; hint = hint; ends = h .ends; entries = h .entries }
+abbrev pub withFull : Lent → ℕ → Lent
+withFull h full = record { monitor = h .monitor; soonest = h .soonest; full = full; lists = h .lists }
 
 abbrev pub withRow : Lent → ℕ → Row → RowUndo → Lent
 withRow h i r b = withMonitor h (withRows (h .monitor) (set (h .monitor .rows) i r) (set (h .monitor .before) i b))
@@ -55,13 +57,20 @@ abbrev pub eventOn : Lent → ℕ → StepInput → ℕ → Lent
 eventOn h i o number =
     withRow h i (eventRow o number (rowAt (h .monitor) i)) (eventSaves o number (rowAt (h .monitor) i) (keptAt (h .monitor) i))
 
--- the row that an entry names, and the soonest due time
-abbrev pub dispatchedTo : Lent → ℕ → StepInput → ℕ → Lent
-dispatchedTo h i o number = withSoonest (eventOn h i o number) (min (h .soonest) (dueAt (eventOn h i o number .monitor) i))
+-- row i, the soonest due time, and the row among those that are nearly full
+abbrev pub dueCounted : Lent → ℕ → Lent
+dueCounted h i = withSoonest h (min (h .soonest) (dueAt (h .monitor) i))
 
-abbrev pub dispatched : Lent → ℕ → ℕ → StepInput → ℕ → Lent
-dispatched h first zero o number = h
-dispatched h first (suc n) o number = dispatchedTo (dispatched h first n o number) (rowNamed h (first + n)) o number
+abbrev pub fullMarked : Lent → ℕ → Lent
+fullMarked h i = withFull h (cond (ltb 62 (rowAt (h .monitor) i .now .len)) (bitOr (h .full) (2 ^ i)) (h .full))
+
+abbrev pub dispatchedTo : Lent → ℕ → StepInput → ℕ → Lent
+dispatchedTo h i o number = fullMarked (dueCounted (eventOn h i o number) i) i
+
+-- one row of a list after the other
+abbrev pub dispatched : Lent → List ℕ → StepInput → ℕ → Lent
+dispatched h [] o number = h
+dispatched h (i ∷ rows) o number = dispatched (dispatchedTo h i o number) rows o number
 
 -- ---- the clock and the close go to all rows
 
@@ -93,33 +102,17 @@ rowsUndone h (suc n) number = rowUndoneAt (rowsUndone h n number) n number
 abbrev pub crowdedAt : Lent → ℕ → ℕ → ℕ → Bool
 crowdedAt h i stream t = eventOverflows (rowAt (h .monitor) i .parameters) (rowAt (h .monitor) i .now) stream t
 
-abbrev pub crowded : Lent → ℕ → ℕ → ℕ → ℕ → Bool
-crowded h first zero stream t = false
-crowded h first (suc n) stream t = crowded h first n stream t || crowdedAt h (rowNamed h (first + n)) stream t
+abbrev pub crowded : Lent → List ℕ → ℕ → ℕ → Bool
+crowded h [] stream t = false
+crowded h (i ∷ rows) stream t = crowdedAt h i stream t || crowded h rows stream t
 
--- ---- whether there is room in every row
+-- the set of the rows of a kind that may be nearly full: only these are asked
+abbrev pub askedOf : Lent → ℕ → ℕ
+askedOf h kind = bitAnd (setOf h kind) (h .full)
 
--- how many places are taken in the fullest of the first n rows, now or before its last step
-abbrev pub maxSlotsUsed : Monitor → ℕ → ℕ
-maxSlotsUsed m zero = 0
-maxSlotsUsed m (suc n) = larger (maxSlotsUsed m n) (slotsUsedIn (rowAt m n) (keptAt m n))
-
--- 1 where a place is found free in every row, which is looked for at every 32nd step
-abbrev pub freeSlotFound : Lent → ℕ
-freeSlotFound h = cond (eqb (h .monitor .count % 32) 0) (min 1 (waitingLimit - maxSlotsUsed (h .monitor) (heldRows (h .monitor)))) 0
-
--- 1 while a place is free in every row
-abbrev pub hintFor : Lent → ℕ
-hintFor h = cond (ltb 0 (h .hint)) (h .hint) (freeSlotFound h)
-
-abbrev pub withFoundHint : Lent → Lent
-withFoundHint h = withHint h (hintFor h)
-
--- after an event, which has gone to n entries' rows: each was looked at
-abbrev pub hintAfterEvent : Lent → ℕ → ℕ → StepInput → ℕ → ℕ
-hintAfterEvent h first zero o number = h .hint
-hintAfterEvent h first (suc n) o number =
-    hintAfterRow (rowAt (dispatched h first (suc n) o number .monitor) (rowNamed h (first + n))) (hintAfterEvent h first n o number)
+-- they take the event and are looked at again then
+abbrev pub withoutAsked : Lent → ℕ → Lent
+withoutAsked h kind = withFull h (h .full - askedOf h kind)
 
 -- ---- the numbers beside the rows after a step
 
@@ -175,16 +168,13 @@ recordedTo h time closed = withMonitor h (recordedMonitor (h .monitor) 0 (getD (
 -- what a function on the numbers beside the rows promises: those of one that is not closed become another's
 abbrev pub RecordsStep : (Monitor → Monitor) → List (List ℕ) → List (List ℕ) → Type 0
 RecordsStep next entry exit =
-    (m : Monitor) (soonest hint : ℕ) (plain ends : List ℕ) → entry ≡ numberArray m soonest hint plain ∷ ends ∷ [] → m .closed ≡ 0
-    → exit ≡ numberArray (next m) soonest hint plain ∷ ends ∷ []
+    (m : Monitor) (soonest full : ℕ) (plain lists : List ℕ) → entry ≡ numberArray m soonest full plain ∷ lists ∷ [] → m .closed ≡ 0
+    → exit ≡ numberArray (next m) soonest full plain ∷ lists ∷ []
 
 abbrev pub nextNumber : Lent → ℕ
 nextNumber h = plus (h .monitor .count) 1
 
 -- ---- an event of a stream that is answered with no number but 12
-
-abbrev pub rowCount : Lent → ℕ → ℕ
-rowCount h kind = endOf h kind - startOf h kind
 
 abbrev pub soonestAll : Lent → ℕ
 soonestAll h = soonestOf (h .monitor .rows) (heldRows (h .monitor))
@@ -198,26 +188,22 @@ abbrev pub deadlinesChecked : Lent → StepInput → Lent
 deadlinesChecked h o = cond (ltb (h .soonest) (o .time)) (rowsExpired h o) h
 
 abbrev pub crowdedOn : Lent → ℕ → ℕ → ℕ → Bool
-crowdedOn h kind stream time = cond (ltb 0 (h .hint)) false (crowded h (startOf h kind) (rowCount h kind) stream time)
+crowdedOn h kind stream time = crowded h (rowsIn (askedOf h kind)) stream time
 
--- the rows of a kind after an event of it, and whether there is room
-abbrev pub appliedOn : Lent → ℕ → ℕ → StepInput → ℕ → Lent
-appliedOn h first n o number = withHint (dispatched h first n o number) (hintAfterEvent h first n o number)
-
--- those of a kind, by the step that the count says
+-- the rows of a kind after an event of it, by the step that the count says
 abbrev pub kindApplied : ℕ → ℕ → ℕ → Lent → Lent
-kindApplied kind stream t h = appliedOn h (startOf h kind) (rowCount h kind) (eventAt stream t) (h .monitor .count)
+kindApplied kind stream t h = dispatched h (rowsOfKind h kind) (eventAt stream t) (h .monitor .count)
 
 abbrev pub leftOn : Lent → ℕ → ℕ → ℕ → Lent
 leftOn h kind stream time =
-    appliedOn (deadlinesChecked (recordedOn (withFoundHint h) stream time) (eventAt stream time)) (startOf h kind) (rowCount h kind)
-    (eventAt stream time) (nextNumber h)
+    dispatched (deadlinesChecked (recordedOn (withoutAsked h kind) stream time) (eventAt stream time)) (rowsOfKind h kind) (eventAt stream time)
+    (nextNumber h)
 
--- what the question on words promises: where a row is crowded nothing is stored, else the mark for room
+-- what the question on words promises: where a row is crowded nothing is stored, else that these rows are looked at again
 pub record AsksOverflow (entry : Words) (kind stream time : ℕ) (crowds : Bool) (exit : Words) : Type 0 where
   pub untouched : crowds ≡ true → exit ≡ entry
   pub asked : (h : Lent) → entry ≡ wordsOfLent h → Shaped h → crowds ≡ crowdedOn h kind stream time
-  pub marked : (h : Lent) → entry ≡ wordsOfLent h → Shaped h → crowds ≡ false → exit ≡ wordsOfLent (withFoundHint h)
+  pub marked : (h : Lent) → entry ≡ wordsOfLent h → Shaped h → crowds ≡ false → exit ≡ wordsOfLent (withoutAsked h kind)
 
 -- what the function on words promises of it
 pub record OnStream (entry : Words) (kind stream time number : ℕ) (exit : Words) : Type 0 where
@@ -257,13 +243,13 @@ abbrev pub withFree : Lent → Lent
 withFree h = withNext h (set (h .monitor .next) (placeIn (h .monitor .undo .place)) (h .monitor .undo .next))
 
 abbrev pub countersRestored : Lent → Lent
-countersRestored h = withSoonest (withMonitor h (restoredMonitor (h .monitor))) 0
+countersRestored h = withFull (withSoonest (withMonitor h (restoredMonitor (h .monitor))) 0) allRows
 
 -- and of its numbers beside the rows
 abbrev pub RestoresCounters : List (List ℕ) → List (List ℕ) → Type 0
 RestoresCounters entry exit =
-    (m : Monitor) (soonest hint : ℕ) (plain ends : List ℕ) → entry ≡ numberArray m soonest hint plain ∷ ends ∷ []
-    → exit ≡ numberArray (restoredMonitor m) 0 hint plain ∷ ends ∷ []
+    (m : Monitor) (soonest full : ℕ) (plain lists : List ℕ) → entry ≡ numberArray m soonest full plain ∷ lists ∷ []
+    → exit ≡ numberArray (restoredMonitor m) 0 allRows plain ∷ lists ∷ []
 
 abbrev pub withdrawnLent : Lent → Lent
 withdrawnLent h = countersRestored (withFree (allRowsUndone h))

@@ -1,7 +1,7 @@
 // The calls on a lent monitor. Each returns 0 if the call is taken, else the number of its refusal.
 use crate::CLOCK;
 use crate::COUNT;
-use crate::FREE_SLOT_HINT;
+use crate::FULL;
 use crate::NUMBERS;
 use crate::SOONEST;
 use crate::UNDO_ALLOWED;
@@ -13,7 +13,7 @@ use crate::numbers::first_refusal;
 use crate::numbers::free_at;
 use crate::numbers::mark_closed;
 use crate::numbers::put_free;
-use crate::numbers::put_free_slot_hint;
+use crate::numbers::put_full;
 use crate::numbers::put_soonest;
 use crate::numbers::record_event;
 use crate::numbers::record_tick;
@@ -27,9 +27,7 @@ use questions::NO_EVENT;
 use questions::NO_STREAM;
 use questions::place_in;
 use questions::time_refusal;
-use ring::minus;
 use row::StepInput;
-use row_type::parts::smaller;
 ghost use Prim.Native.Nat.{_<_};
 ghost use mathlib.Core.Path.{_≡_};
 ghost use Rattle.constraint.specs.declared.Call.{Call};
@@ -37,11 +35,8 @@ ghost use Rattle.constraint.specs.Run.{asks, withdraws};
 ghost use Rattle.row.specs.Machine.{tickAt};
 ghost use Rattle.in_place.specs.Layout.{Lent, wordsOfLent, Shaped};
 ghost use Rattle.constraint.specs.Streams.{stream};
-ghost use Rattle.in_place.specs.Steps.{Updates, Computes, ColourKnown, freeSlotFound, rowsExpired, deadlinesChecked, AsksOverflow, OnStream};
+ghost use Rattle.in_place.specs.Steps.{Updates, Computes, ColourKnown, rowsExpired, deadlinesChecked, AsksOverflow, OnStream};
 ghost use Rattle.in_place.specs.Steps.{refusalIn, Stores};
-
-// The largest number that may wait in a row, as a word.
-const WAITING_LIMIT: u64 = Monitor::WAITING_LIMIT as u64;
 
 // Applies the clock to every row that is overdue at `time`. The rows see nothing else of the step yet.
 fn expire_rows(m: &mut Words, time: u64)
@@ -73,29 +68,21 @@ fn check_deadlines(m: &mut Words, time: u64)
     }
 }
 
-// Returns 1 if every row has a free place. It looks only at every 32nd step.
-fn free_slot_found(m: &Words) -> u64
-    ensures { λ r. ⌜ ((h : Lent) → now (m .entry) ≡ wordsOfLent h → Shaped h → r ≡ freeSlotFound h) ⌝ }
-{
-    if m[NUMBERS][0][COUNT] % 32 == 0 {
-        return smaller(1, minus(WAITING_LIMIT, rows::max_slots_used(m, held(m))));
-    }
-    0
-}
-
-// Returns whether an event would leave too many waiting in a row of its kind. It asks the rows only if the hint for a free place is not set, and it
-// updates the hint if no row overflows.
+// Returns whether an event would leave too many waiting in a row of its kind. It asks only the rows that may be nearly full. If none overflows they
+// take the event, and are looked at again then.
 fn event_would_overflow(m: &mut Words, kind: usize, stream: usize, time: u64) -> bool
     requires { ⌜ kind < 64 ⌝ }
     ensures { λ r. ⌜ AsksOverflow (now (m .entry)) kind stream time r (now (m .exit)) ⌝ }
 {
-    if 0 < m[NUMBERS][0][FREE_SLOT_HINT] {
+    let full = m[NUMBERS][0][FULL];
+    let asked = m[NUMBERS][1][kind] & full;
+    if asked == 0 {
         return false;
     }
-    if rows::kind_overflows(m, kind, stream as u64, time) {
+    if rows::rows_overflow(m, (asked % rows::SETS) as u32, stream as u64, time) {
         return true;
     }
-    put_free_slot_hint(m, free_slot_found(m));
+    put_full(m, full - asked);
     false
 }
 

@@ -8,7 +8,7 @@ pub mod calls;
 mod numbers;
 mod rows;
 
-// The words of a monitor: a block for each of 32 rows, and three for numbers and lists.
+// The words of a monitor: a block for each of 32 rows, one for the numbers and the rows of each kind, one that is spare, and one for free times.
 pub type Words = [[[u64; 64]; 2]; 35];
 
 // The block of the monitor's own numbers, and the index of each in its first array.
@@ -36,13 +36,14 @@ pub const UNDO_COUNT: usize = 9;
 
 pub const UNDO_CLOSED: usize = 10;
 
-pub const FREE_SLOT_HINT: usize = 11;
+pub const FULL: usize = 11;
 // The first free times of the plain kinds follow them.
 pub const PLAIN: usize = 16;
-// The entries of the lists, and the first free times of the coloured streams.
-pub const ENTRIES: usize = 33;
-
+// The first free times of the coloured streams.
 pub const COLOURED: usize = 34;
+
+// The set of all rows.
+pub const ALL_ROWS: u64 = 4294967295;
 
 // Returns the number of rows, at most 32 for any contents.
 pub fn held(m: &Words) -> usize

@@ -1,8 +1,9 @@
 // The numbers of a lent monitor outside its rows: the questions that they answer, and what a step stores in them.
+use crate::ALL_ROWS;
 use crate::CLOCK;
 use crate::COLOURED;
 use crate::COUNT;
-use crate::FREE_SLOT_HINT;
+use crate::FULL;
 use crate::NUMBERS;
 use crate::OPEN;
 use crate::PLAIN;
@@ -21,7 +22,7 @@ ghost use Prim.Native.Nat.{_<_};
 ghost use mathlib.Core.Path.{_≡_};
 ghost use lib.ListN.{getD, set};
 ghost use Rattle.in_place.specs.Layout.{Lent, wordsOfLent, Shaped};
-ghost use Rattle.in_place.specs.Steps.{Updates, UpdatesOpen, Computes, RecordsStep, RestoresCounters, firstRefusal, withSoonest, withHint};
+ghost use Rattle.in_place.specs.Steps.{Updates, UpdatesOpen, Computes, RecordsStep, RestoresCounters, firstRefusal, withSoonest, withFull};
 ghost use Rattle.in_place.specs.Steps.{withNext, withClosed};
 ghost use Rattle.in_place.specs.Steps.{recordedMonitor, recordedOn, recordedTo};
 
@@ -70,11 +71,11 @@ pub(crate) fn put_soonest(m: &mut Words, time: u64)
     m[NUMBERS][0][SOONEST] = time;
 }
 
-// Stores a new hint for whether every row has a free place.
-pub(crate) fn put_free_slot_hint(m: &mut Words, hint: u64)
-    ensures { λ _. ⌜ Updates (now (m .entry)) (λ h. withHint h hint) (now (m .exit)) ⌝ }
+// Stores a new set of the rows that may be nearly full.
+pub(crate) fn put_full(m: &mut Words, rows: u64)
+    ensures { λ _. ⌜ Updates (now (m .entry)) (λ h. withFull h rows) (now (m .exit)) ⌝ }
 {
-    m[NUMBERS][0][FREE_SLOT_HINT] = hint;
+    m[NUMBERS][0][FULL] = rows;
 }
 
 // Counts one more step, to a time, and saves a stream and its first free time for a withdrawal.
@@ -119,7 +120,8 @@ pub(crate) fn mark_closed(m: &mut Words)
     m[NUMBERS][0][OPEN] = 0;
 }
 
-// Restores the numbers from before the last step. After that no step may be withdrawn, and the next step checks every row's deadline.
+// Restores the numbers from before the last step. After that no step may be withdrawn, the next step checks every row's deadline, and every row may
+// be nearly full.
 pub(crate) fn restore_counters(n: &mut [[u64; 64]; 2])
     ensures { λ _. ⌜ RestoresCounters (now (n .entry)) (now (n .exit)) ⌝ }
 {
@@ -130,6 +132,7 @@ pub(crate) fn restore_counters(n: &mut [[u64; 64]; 2])
     n[0][COUNT] = count;
     n[0][OPEN] = minus(1, closed);
     n[0][SOONEST] = 0;
+    n[0][FULL] = ALL_ROWS;
     n[0][UNDO_ALLOWED] = 0;
     n[0][UNDO_STREAM] = 0;
     n[0][UNDO_NEXT] = 0;

@@ -1,73 +1,51 @@
 // Loops over the rows of a lent monitor: the rows of a kind after an event, and all rows after the clock, the close and a withdrawal.
 use crate::COUNT;
-use crate::ENTRIES;
-use crate::FREE_SLOT_HINT;
+use crate::FULL;
 use crate::NUMBERS;
 use crate::SOONEST;
 use crate::Words;
 use constraint::NO_LIMIT;
 use row::StepInput;
 use row::stored;
-use row::stored::larger;
 use row_type::parts::smaller;
 use row_type::row_words::DUE;
-ghost use Prim.Native.Nat.{_-_, _<_, _≤_};
+use row_type::row_words::LEN;
+ghost use Prim.Native.Nat.{_<_, _≤_, _^_};
 ghost use mathlib.Core.Path.{_≡_};
 ghost use Rattle.row.specs.Machine.{eventAt};
-ghost use Rattle.in_place.specs.Layout.{Lent, wordsOfLent, Shaped, rowNamed, startOf, endOf};
-ghost use Rattle.in_place.specs.Steps.{Updates, appliedOn, kindApplied, clockApplied, soonestOf, crowded, maxSlotsUsed, rowsUndone, rowCount};
+ghost use Rattle.in_place.specs.Layout.{Lent, wordsOfLent, Shaped, rowsIn};
+ghost use Rattle.in_place.specs.Steps.{Updates, fullMarked, dispatched, kindApplied, clockApplied, soonestOf, crowded, rowsUndone};
 
-// Returns the row that an entry names, clamped to a row number.
-fn entry_row(m: &Words, place: usize) -> usize
-    requires { ⌜ place < 160 ⌝ }
-    ensures { λ r. ⌜ ((r < 32) × ((h : Lent) → now (m .entry) ≡ wordsOfLent h → Shaped h → r ≡ rowNamed h place)) ⌝ }
+// A row with at most as many waiting has room for two more words.
+const NEARLY_FULL: u64 = 62;
+
+// A set of rows is a number below it: the remainder of a word is one, whatever the word says.
+pub(crate) const SETS: u64 = 4294967296;
+
+// Marks a row as nearly full if it is. `bit` is the set of this row alone.
+fn mark_full(m: &mut Words, i: usize, bit: u32)
+    requires { ⌜ (i < 32) × (bit ≡ 2 ^ i) ⌝ }
+    ensures { λ _. ⌜ Updates (now (m .entry)) (λ h. fullMarked h i) (now (m .exit)) ⌝ }
 {
-    if place < 64 {
-        return m[ENTRIES][0][place] as usize % 32;
+    if NEARLY_FULL < m[i][1][LEN] {
+        m[NUMBERS][0][FULL] = m[NUMBERS][0][FULL] | bit as u64;
     }
-    if place < 128 {
-        return m[ENTRIES][1][place - 64] as usize % 32;
-    }
-    m[ENTRIES][0][place - 128] as usize / 32 % 32
 }
 
-// Returns the end of a kind's rows among the entries.
-fn end_of(m: &Words, kind: usize) -> usize
-    requires { ⌜ kind < 64 ⌝ }
-    ensures { λ r. ⌜ ((r ≤ 160) × ((h : Lent) → now (m .entry) ≡ wordsOfLent h → Shaped h → r ≡ endOf h kind)) ⌝ }
-{
-    let end = m[NUMBERS][1][kind];
-    if end < 160 { end as usize } else { 160 }
-}
-
-// Returns the start of a kind's rows among the entries.
-fn start_of(m: &Words, kind: usize) -> usize
-    requires { ⌜ kind < 64 ⌝ }
-    ensures { λ r. ⌜ ((r ≤ 160) × ((h : Lent) → now (m .entry) ≡ wordsOfLent h → Shaped h → r ≡ startOf h kind)) ⌝ }
-{
-    if kind == 0 {
-        return 0;
-    }
-    end_of(m, kind - 1)
-}
-
-// Applies an event, which is the step of that number, to the rows that the entries from `first` to `end` name.
-fn dispatch_entries(m: &mut Words, first: usize, end: usize, stream: u64, t: u64, number: u64)
-    requires { ⌜ end ≤ 160 ⌝ }
-    ensures { λ _. ⌜ Updates (now (m .entry)) (λ h. appliedOn h first (end - first) (eventAt stream t) number) (now (m .exit)) ⌝ }
+// Applies an event, which is the step of that number, to a set of rows.
+fn dispatch_rows(m: &mut Words, rows: u32, stream: u64, t: u64, number: u64)
+    ensures { λ _. ⌜ Updates (now (m .entry)) (λ h. dispatched h (rowsIn rows) (eventAt stream t) number) (now (m .exit)) ⌝ }
 {
     let mut soonest = m[NUMBERS][0][SOONEST];
-    let mut hint = m[NUMBERS][0][FREE_SLOT_HINT];
-    let mut place = first;
-    while place < end {
-        let i = entry_row(m, place);
+    let mut left = rows;
+    while 0 < left {
+        let i = u32::trailing_zeros(left) as usize;
         stored::event(&mut m[i], stream, t, number);
         soonest = smaller(soonest, m[i][1][DUE]);
-        hint = stored::hint_after_row(&m[i], hint);
-        place += 1;
+        mark_full(m, i, left - (left & (left - 1)));
+        left = left & (left - 1);
     }
     m[NUMBERS][0][SOONEST] = soonest;
-    m[NUMBERS][0][FREE_SLOT_HINT] = hint;
 }
 
 // Applies an event to the rows of its kind. The step's number is the count.
@@ -75,48 +53,24 @@ pub(crate) fn dispatch_event(m: &mut Words, kind: usize, stream: u64, t: u64)
     requires { ⌜ kind < 64 ⌝ }
     ensures { λ _. ⌜ Updates (now (m .entry)) (kindApplied kind stream t) (now (m .exit)) ⌝ }
 {
-    let first = start_of(m, kind);
-    let end = end_of(m, kind);
+    let rows = (m[NUMBERS][1][kind] % SETS) as u32;
     let number = m[NUMBERS][0][COUNT];
-    dispatch_entries(m, first, end, stream, t, number);
+    dispatch_rows(m, rows, stream, t, number);
 }
 
-// Returns whether an event would leave too many waiting in one of the rows that the entries from `first` to `end` name.
-fn entries_overflow(m: &Words, first: usize, end: usize, stream: u64, t: u64) -> bool
-    requires { ⌜ end ≤ 160 ⌝ }
-    ensures { λ r. ⌜ ((h : Lent) → now (m .entry) ≡ wordsOfLent h → Shaped h → r ≡ crowded h first (end - first) stream t) ⌝ }
+// Returns whether an event would leave too many waiting in one of a set of rows.
+pub(crate) fn rows_overflow(m: &Words, rows: u32, stream: u64, t: u64) -> bool
+    ensures { λ r. ⌜ ((h : Lent) → now (m .entry) ≡ wordsOfLent h → Shaped h → r ≡ crowded h (rowsIn rows) stream t) ⌝ }
 {
-    let mut place = first;
-    while place < end {
-        let i = entry_row(m, place);
+    let mut left = rows;
+    while 0 < left {
+        let i = u32::trailing_zeros(left) as usize;
         if stored::event_overflows(&m[i], stream, t) {
             return true;
         }
-        place += 1;
+        left = left & (left - 1);
     }
     false
-}
-
-// Returns whether an event would leave too many waiting in a row of its kind.
-pub(crate) fn kind_overflows(m: &Words, kind: usize, stream: u64, t: u64) -> bool
-    requires { ⌜ kind < 64 ⌝ }
-    ensures { λ r. ⌜ ((h : Lent) → now (m .entry) ≡ wordsOfLent h → Shaped h → r ≡ crowded h (startOf h kind) (rowCount h kind) stream t) ⌝ }
-{
-    entries_overflow(m, start_of(m, kind), end_of(m, kind), stream, t)
-}
-
-// Returns how many places are taken in the fullest of the first n rows.
-pub(crate) fn max_slots_used(m: &Words, n: usize) -> u64
-    requires { ⌜ n ≤ 32 ⌝ }
-    ensures { λ r. ⌜ ((h : Lent) → now (m .entry) ≡ wordsOfLent h → Shaped h → r ≡ maxSlotsUsed (h .monitor) n) ⌝ }
-{
-    let mut most = 0;
-    let mut i = 0;
-    while i < n {
-        most = larger(most, stored::slots_used(&m[i]));
-        i += 1;
-    }
-    most
 }
 
 // Returns the earliest deadline of the first n rows.

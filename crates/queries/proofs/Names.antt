@@ -13,8 +13,9 @@ pub use Rattle.constraint.specs.{Continuation.Open, Questions.Question, Run.ask
 pub use Rattle.constraint.specs.{Run.withdraws, declared.Answer.Answer, declared.Answer.the-variants.Refused}
 pub use Rattle.constraint.specs.{declared.Answer.the-variants.Taken, declared.Call.Call, Constraint.Constraint}
 pub use Rattle.in_place.proofs.{Blocks.row-lies, Parts.number-at}
-pub use Rattle.in_place.specs.Layout.{Lent, Shaped, Words, endOf, heldRows, keptAt, rowAt, startOf}
-pub use Rattle.in_place.specs.{Contract.HoldsMonitor, Contract.Indexes, Contract.ReadOff, Contract.Takes, Contract.namedRows, Contract.rowsOfKind}
+pub use Rattle.in_place.specs.Layout.{Lent, Shaped, Words, heldRows, keptAt, rowAt, setOf}
+unfoldable pub use Rattle.in_place.specs.Layout.{isIn}
+pub use Rattle.in_place.specs.{Contract.HoldsMonitor, Contract.Indexes, Contract.ReadOff, Contract.Takes}
 pub use Rattle.in_place.specs.{Steps.refusalIn}
 pub use Rattle.row_type.specs.{Parameters.parametersOf, Parameters.waitsIn, declared.Parameters.Parameters, declared.State.State}
 pub use Rattle.monitor.proofs.StepRefinement.{Follows, seen-is, step-answered, step-is}

@@ -1,14 +1,15 @@
 -- In memory of zeros lies a monitor without rows whose word for "open" is 0: so it reads as closed, and takes nothing.
-use Rattle.queries.proofs.Names.{AsksClosed, Call, HoldsMonitor, Indexes, Lent, ReadOff, RestZero, Shaped, Takes, Words, [], _-_, _<_, _≡_, ap}
+use Rattle.queries.proofs.Names.{AsksClosed, Call, HoldsMonitor, Indexes, Lent, ReadOff, RestZero, Shaped, Takes, Words, _<_, _∙_, _≡_, ap}
 use Rattle.queries.proofs.Names.{arith}
-use Rattle.queries.proofs.Names.{asks, endOf, getD-replicate, min, namedRows, noRowUndo, noRow, numberWords, refl, replicate, rowBlocks}
-use Rattle.queries.proofs.Names.{rowLimit, rowWords, rowsOfKind, startOf, subst₂, sym, withdraws, wordsOfLent, zeroMonitor, zeroRow, zeros, ℕ}
+use Rattle.queries.proofs.Names.{asks, false, getD-replicate, isIn, noRowUndo, noRow, numberWords, refl, replicate, rowBlocks, rowLimit}
+use Rattle.queries.proofs.Names.{rowWords}
+use Rattle.queries.proofs.Names.{setOf, subst₂, suc, sym, withdraws, wordsOfLent, zero, zeroMonitor, zeroRow, zeros, ℕ}
 use Rattle.row.specs.Stored as Stored
 
 -- ---- the monitor that lies there
 
 abbrev zeroLent : Lent
-zeroLent = record { monitor = zeroMonitor; soonest = 0; hint = 0; ends = replicate 64 0; entries = replicate 128 0 }
+zeroLent = record { monitor = zeroMonitor; soonest = 0; full = 0; lists = replicate 64 0 }
 
 are : zeros ≡ wordsOfLent zeroLent
 unfolding wordsOfLent rowBlocks Stored.wordsOfRow rowWords numberWords
@@ -20,32 +21,33 @@ shaped =
       rows-there = refl;
       kept-there = refl;
       next-there = refl;
-      ends-there = refl;
-      entries-there = refl;
+      lists-there = refl;
       rest-zero = λ i l. subst₂ RestZero (sym (getD-replicate rowLimit i zeroRow noRow l)) (sym (getD-replicate rowLimit i noRowUndo noRowUndo l))
           (record { now-unused = refl; past-unused = refl; past-open = refl });
     }
 
--- no entry is of a kind
-none-of : (kind : ℕ) → kind < 64 → rowsOfKind zeroLent kind ≡ []
-none-of kind l =
-    let none : endOf zeroLent kind - startOf zeroLent kind ≡ 0 = omega (arith, ap (λ (n : ℕ). min n 160) (getD-replicate 64 kind 0 0 l)) in
-    ap (namedRows zeroLent (startOf zeroLent kind)) none
+-- no row is of a kind
+none-in : (i : ℕ) → isIn 0 i ≡ false
+unfolding isIn
+none-in zero = refl
+none-in (suc i) = none-in i
+
+none-of : (kind i : ℕ) → kind < 64 → isIn (setOf zeroLent kind) i ≡ false
+none-of kind i l = ap (λ (w : ℕ). isIn w i) (getD-replicate 64 kind 0 0 l) ∙ none-in i
 
 indexes : Indexes zeroLent
 indexes =
     record {
       shaped = shaped;
       sound = record { rows-few = omega arith; closed-mark = omega arith; closed-then = omega arith };
-      listed = none-of;
+      listed = λ kind i small l. absurd (omega (arith, l));
+      no-others = λ kind i small from l. none-of kind i small;
       no-ticks = λ i l. absurd (omega (arith, l));
       no-sooner = λ i l. absurd (omega (arith, l));
       roomy = record {
-        room-mark = omega arith;
         now-few = λ i l. absurd (omega (arith, l));
         then-few = λ i l. absurd (omega (arith, l));
-        now-room = λ i l. absurd (omega (arith, l));
-        then-room = λ i l. absurd (omega (arith, l));
+        has-room = λ i l. absurd (omega (arith, l));
       };
     }
 

@@ -1,9 +1,9 @@
 -- The names of the definitions and laws below this crate that its proofs use, passed on from one place.
 pub use Rattle.constraint.proofs.History.{Accepts, Past, Valid, clock-close, clock-event, clock-tick, closed-close, closed-event, closed-tick}
 pub use Rattle.constraint.proofs.History.{own-close, own-other, own-tick, past-of, valid-more}
-pub use Rattle.constraint.proofs.Library.{Bool, List, List·getD-eq-default, [], _&&_, _++_, _+_, _-_, _<_, _||_, _∙_, _∷_, _≡_, _≢_, _≤_, _⊎_, ap}
+pub use Rattle.constraint.proofs.Library.{Bool, List, List·getD-eq-default, [], _&&_, _++_, _+_, _<_, _||_, _∙_, _∷_, _≡_, _≢_, _≤_, _⊎_, ap}
 pub use Rattle.constraint.proofs.Library.{append-nil, arith, cond, drop, eq-eqb, eqb, eqb-false, eqb-true, false, getD, inl, inr, le-ltb, length}
-pub use Rattle.constraint.proofs.Library.{length-append, length-drop, length-set, lt-ltb, ltb, ltb-false, ltb-true, min, ne-eqb, needs, not-false}
+pub use Rattle.constraint.proofs.Library.{length-append, length-drop, length-set, lt-ltb, ltb, ltb-false, ltb-true, ne-eqb, needs, not-false}
 pub use Rattle.constraint.proofs.Library.{length-replicate, length-take-le, not-true, now, refl, replicate, set, subst, suc, sym, take, true, zero, ℕ}
 pub use Rattle.constraint.proofs.Library.{_%_, ⊎-elim}
 pub use Rattle.constraint.proofs.{Continuations.continues-closed, Continuations.meets-same, Continuations.open-at-tick, Lists.both, Lists.split}
@@ -29,8 +29,8 @@ pub use Rattle.row.specs.Machine.{causeBy}
 pub use Rattle.row.specs.Machine.{brokenByEvent, brokenState, closeAt, concerns, crowding, decide, eventAt, itemsOf, machineOf}
 pub use Rattle.row.specs.Machine.{machines, mark, noEvent}
 pub use Rattle.row.specs.Machine.{momentBy, rowFrom, stays, tickAt}
-pub use Rattle.row.specs.Stored.{Changes, RestZero, Unused, endedRow, endedSaves, eventKeeps, eventRow, eventSaves, slotsUsedBy, keptAtPlace}
-pub use Rattle.row.specs.Stored.{savedRegisters, larger, nothing, undoRecordOf, hintAfterRow, stateAt}
+pub use Rattle.row.specs.Stored.{Changes, RestZero, Unused, endedRow, endedSaves, eventKeeps, eventRow, eventSaves, keptAtPlace}
+pub use Rattle.row.specs.Stored.{savedRegisters, nothing, undoRecordOf, stateAt}
 pub use Rattle.row.specs.Undo.{rowUndoOf, noRowUndo, noState, savedAt, savedRow}
 pub use Rattle.row.specs.{declared.RowUndo.RowUndo, declared.StepInput.StepInput, declared.Row.Row, declared.RowStep.RowStep}
 unfoldable pub use Rattle.constraint.specs.{Accepted.KindsSuit, Steps.clockFrom, Steps.closed}

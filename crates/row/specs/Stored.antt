@@ -1,5 +1,5 @@
 -- A row where it lies: the words that it is, with what is kept of it, and what a step, a withdrawal and a fresh start make of them.
-use Prim.Native.Nat.{ℕ, _-_, min}
+use Prim.Native.Nat.{ℕ}
 use mathlib.Core.Path.{_≡_}
 use mathlib.Core.Bool.{cond}
 use mathlib.Core.List.{List}
@@ -99,24 +99,6 @@ stepKeeps o number r b =
     cond (ltb (r .now .due) (o .time)) (endedSaves o number r b)
     (cond (concerns (r .parameters) (o .kind)) (eventKeeps (eventAt (o .stream) (o .time)) number r b)
     (endedSaves o number r b))
-
--- ---- how full it is
-
--- how many of its 64 places are taken in a row, by its type, its span and how many times it keeps: none if no event can let too many wait
-abbrev pub slotsUsedBy : ℕ → ℕ → ℕ → ℕ
-slotsUsedBy tag = machineOf tag .taken
-
--- now, or before its last step: the larger number
-abbrev pub larger : ℕ → ℕ → ℕ
-larger a b = cond (ltb a b) b a
-
-abbrev pub slotsUsedIn : Row → RowUndo → ℕ
-slotsUsedIn r b = larger (slotsUsedBy (r .parameters .tag) (r .parameters .span) (r .now .len)) (slotsUsedBy (r .parameters .tag)
-    (r .parameters .span) (b .state .len))
-
--- the number of free places that is said of all rows, where this row has been looked at: one in which fewer than 63 are kept has one
-abbrev pub hintAfterRow : Row → ℕ → ℕ
-hintAfterRow r room = cond (ltb 62 (r .now .len)) (min room (64 - slotsUsedBy (r .parameters .tag) (r .parameters .span) (r .now .len))) room
 
 -- ---- what a function on a row's words promises, whatever row they are
 

@@ -17,13 +17,11 @@ use patterns::pattern;
 use repeat_burst::arbitrary;
 use repeat_burst::repeat;
 use ring::SIZE;
-use ring::minus;
 use ring::put_back;
 use row_type::Parameters;
 use row_type::Registers;
 use row_type::State;
 use row_type::from_constraint;
-use row_type::parts::smaller;
 use row_type::row_words;
 use row_type::row_words::parameters_at;
 use row_type::row_words::registers_at;
@@ -45,7 +43,7 @@ ghost use Rattle.row.specs.declared.Row.{Row};
 ghost use Rattle.row.specs.Stored.{undoRecordOf, wordsOfRow, eventRow, eventKeeps, endedRow, endedSaves, stepKeeps, Changes};
 ghost use Rattle.row.specs.Machine.{brokenRow, causeBy, momentBy};
 ghost use Rattle.row.specs.Undo.{savedAt};
-ghost use Rattle.row.specs.Stored.{larger, slotsUsedBy, slotsUsedIn, hintAfterRow, Becomes, Withdraws, stateAt, nothing};
+ghost use Rattle.row.specs.Stored.{Becomes, Withdraws, stateAt, nothing};
 
 // A row with fewer waiting has room for two more words.
 const NEARLY_FULL: usize = WAITING_LIMIT - 1;
@@ -402,62 +400,4 @@ pub fn begin(row: &mut [[u64; SIZE]; 2], tag: u8, values: &[u64; 18])
     let parameters = from_constraint::parameters_of(tag, values);
     *row = encode_row(Row::blank(parameters), RowUndo::none());
     from_constraint::put_constants(&mut row[0], tag, values);
-}
-
-// The larger of two numbers.
-pub fn larger(a: u64, b: u64) -> u64
-    ensures { λ r. ⌜ r ≡ larger a b ⌝ }
-{
-    if a < b { b } else { a }
-}
-
-// Returns how many places are taken in a row, by its type, its span and how many times it keeps.
-fn slots_used_by_type(tag: u64, span: u64, len: u64) -> u64
-    ensures { λ r. ⌜ r ≡ slotsUsedBy tag span len ⌝ }
-{
-    match tag {
-        1 => len,
-        2 => len,
-        3 | 5 => repeat::slots_used(span, len),
-        4 => 0,
-        6 => 0,
-        7 => len,
-        8 => 0,
-        9 => 0,
-        10 => repetition::slots_used(span, len),
-        11 => 0,
-        12 => 0,
-        13 => 0,
-        14 => 0,
-        15 => 0,
-        16 => 0,
-        _ => 0,
-    }
-}
-
-// How many places are taken in the row, now or before its last step.
-pub fn slots_used(row: &[[u64; SIZE]; 2]) -> u64
-    ensures { λ r. ⌜ ((w : Row) (b : RowUndo) → now (row .entry) ≡ wordsOfRow w b → r ≡ slotsUsedIn w b) ⌝ }
-{
-    let tag = row[1][row_words::TYPE_TAG];
-    let span = row[1][row_words::SPAN];
-    larger(
-        slots_used_by_type(tag, span, row[1][row_words::LEN]),
-        slots_used_by_type(tag, span, row[1][row_words::UNDO_LEN]),
-    )
-}
-
-// Whether there is room for another event, where this row has been looked at.
-pub fn hint_after_row(row: &[[u64; SIZE]; 2], room: u64) -> u64
-    ensures { λ r. ⌜ ((w : Row) (b : RowUndo) → now (row .entry) ≡ wordsOfRow w b → r ≡ hintAfterRow w room) ⌝ }
-{
-    let len = row[1][row_words::LEN];
-    if 62 < len {
-        if room == 0 {
-            return 0;
-        }
-        let filled = slots_used_by_type(row[1][row_words::TYPE_TAG], row[1][row_words::SPAN], len);
-        return smaller(room, minus(64, filled));
-    }
-    room
 }

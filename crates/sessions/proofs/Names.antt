@@ -17,7 +17,7 @@ pub use Rattle.delkuthi.specs.Reporting.{LeftBy, ReportsSteps, unused, used}
 pub use Rattle.delkuthi.specs.Taking.{RecordingTakenAs}
 pub use Rattle.fresh.specs.Fresh.{Begins, BeginsUpTo, begun, freshLent, refused}
 pub use Rattle.in_place.proofs.{Blocks.row-read, Lists.SameLists, Lists.lists-stay}
-pub use Rattle.in_place.proofs.Parts.{coloured-read, entries-read, numbers-read}
+pub use Rattle.in_place.proofs.Parts.{coloured-read, numbers-read, spare-read}
 pub use Rattle.in_place.specs.Contract.{HoldsMonitor, Indexes, ReadOff, Takes, answerFrom}
 pub use Rattle.in_place.specs.{Layout.Lent, Layout.Shaped, Layout.halves, Layout.keptAt, Layout.rowAt, Layout.wordsOfLent, Steps.leaves}
 pub use Rattle.monitor.proofs.Independent.{answers-alike, other-rows-alike, rows-apart}

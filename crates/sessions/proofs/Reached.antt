@@ -102,7 +102,7 @@ module _ {h : Memory} {rows : List Constraint} {left : Left} (r : Reached h rows
             subst₂ SameButUndo (sym (here .words-are)) (sym (there .words-are))
             (same-words _ _ (here .indexes .shaped) (there .indexes .shaped)
             (ap bare monitor-here ∙ same ∙ ap bare (sym (there .monitor-is)))
-            (here .lists .0 ∙ sym (there .lists .0)) (here .lists .1 ∙ sym (there .lists .1))),
+            (here .lists ∙ sym (there .lists))),
       )
 
   pub monitors : Monitors h rows left

@@ -1,7 +1,7 @@
 -- Each call leaves known words, so a list of them does; and of two monitors that differ in what may be withdrawn alone, the words differ in
 -- those that say it and in the two numbers that are kept beside them.
 use Rattle.sessions.proofs.Names.{Host, Indexes, Lent, List, Memory, Monitor, Request, Row, SameBare, SameButUndo, SameLists, SameNumbers}
-use Rattle.sessions.proofs.Names.{SameRow, Shaped, Stepped, [], _-_, _<_, _∙_, _∷_, _≡_, ap, asked, bare, coloured-read, drop, entries-read}
+use Rattle.sessions.proofs.Names.{SameRow, Shaped, Stepped, [], _-_, _<_, _∙_, _∷_, _≡_, ap, asked, bare, coloured-read, drop, spare-read}
 use Rattle.sessions.proofs.Names.{getD, halves, keptAt, leaves, leavesAll, lists-stay, noRow, numberWords, numbers-read, over, play, refl}
 use Rattle.sessions.proofs.Names.{row-read, rowAt, rowWords, step, subst, subst₂, sym, take, wordsOfLent, ℕ}
 use Rattle.row.specs.Stored as Stored
@@ -18,7 +18,7 @@ pub record Leaves (h : Lent) (requests : List Request) (end : Memory) : Type 0 w
 pub leaves-known : {words end : Memory} {requests : List Request} {numbers : List ℕ} (h : Lent) → words ≡ wordsOfLent h → Indexes h
     → Host words requests numbers end → Leaves h requests end
 unfolding leavesAll play
-leaves-known h are indexes over = record { words-are = are; indexes = indexes; lists = (refl, refl); monitor-is = refl }
+leaves-known h are indexes over = record { words-are = are; indexes = indexes; lists = refl; monitor-is = refl }
 leaves-known h are indexes (asked {requests = requests} r number takes rest) =
     let one = takes .steps h are indexes in
     let later = leaves-known (leaves h r) (takes .stores h are (indexes .shaped) .1) (one .1) rest in
@@ -27,7 +27,7 @@ leaves-known h are indexes (asked {requests = requests} r number takes rest) =
     record {
       words-are = later .words-are;
       indexes = later .indexes;
-      lists = (later .lists .0 ∙ stays .0, later .lists .1 ∙ stays .1);
+      lists = later .lists ∙ stays;
       monitor-is = later .monitor-is ∙ ap (λ (m : Monitor). play step m requests .monitor) same;
     }
 
@@ -45,21 +45,21 @@ module _ (x y : Lent) (shaped : Shaped x) (shaped′ : Shaped y) (same : SameBar
       (subst (λ (r : Row). SameRow (Stored.wordsOfRow (rowAt (x .monitor) i) (keptAt (x .monitor) i)) (Stored.wordsOfRow r (keptAt (y .monitor) i)))
       (ap (λ (rows : List Row). getD rows i noRow) rows-same) (refl, refl, refl))
 
-  numbers-same : x .ends ≡ y .ends → SameNumbers (getD (wordsOfLent x) 32 []) (getD (wordsOfLent y) 32 [])
+  numbers-same : x .lists ≡ y .lists → SameNumbers (getD (wordsOfLent x) 32 []) (getD (wordsOfLent y) 32 [])
   unfolding bare
-  numbers-same ends =
+  numbers-same lists =
       subst₂ SameNumbers (sym (numbers-read x shaped)) (sym (numbers-read y shaped′)) (
         ap (λ (m : Monitor). m .clock ∷ m .count ∷ (1 - m .closed) ∷ m .len ∷ []) same,
         ap (λ (m : Monitor). 0 ∷ 0 ∷ 0 ∷ 0 ∷ take 48 (m .next)) same,
-        ends,
+        lists,
       )
 
-  pub same-words : x .ends ≡ y .ends → x .entries ≡ y .entries → SameButUndo (wordsOfLent x) (wordsOfLent y)
+  pub same-words : x .lists ≡ y .lists → SameButUndo (wordsOfLent x) (wordsOfLent y)
   unfolding bare
-  same-words ends entries =
+  same-words lists =
       record {
         rows = row-same;
-        numbers = numbers-same ends;
-        lists = entries-read x shaped ∙ ap halves entries ∙ sym (entries-read y shaped′);
+        numbers = numbers-same lists;
+        spare = spare-read x shaped ∙ sym (spare-read y shaped′);
         coloured = coloured-read x shaped ∙ ap (λ (m : Monitor). halves (drop 48 (m .next))) same ∙ sym (coloured-read y shaped′);
       }

@@ -31,7 +31,7 @@ SameNumbers a b =
 pub record SameButUndo (a b : Memory) : Type 0 where
   pub rows : (i : ℕ) → i < 32 → SameRow (getD a i []) (getD b i [])
   pub numbers : SameNumbers (getD a 32 []) (getD b 32 [])
-  pub lists : getD a 33 [] ≡ getD b 33 []
+  pub spare : getD a 33 [] ≡ getD b 33 []
   pub coloured : getD a 34 [] ≡ getD b 34 []
 
 -- ---- the promise

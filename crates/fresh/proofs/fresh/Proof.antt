@@ -1,6 +1,6 @@
 -- The bytes are judged before anything is stored; where they are accepted, every word is stored, those of the lists last.
-use Rattle.fresh.proofs.Names.{BeginsUpTo, Constraint, List, Words, [], _∙_, _≡_, after, ap, arith, begun, endsTo, freshLent, listedTo, needs}
-use Rattle.fresh.proofs.Names.{now, packed, refused, scan-start, subst, subst₂, sym, withLists, wordsOfLent, ℕ}
+use Rattle.fresh.proofs.Names.{BeginsUpTo, Constraint, List, Words, [], _∙_, _≡_, after, ap, arith, begun, freshLent, needs}
+use Rattle.fresh.proofs.Names.{now, refused, scan-start, setsTo, subst, subst₂, sym, withLists, wordsOfLent, ℕ}
 use Rattle.fresh.proofs.{Freshness.fresh-indexes, Freshness.fresh-shaped, fresh.Statement.statement}
 use Rattle.fresh.proofs.fresh.Tie as tie
 
@@ -24,7 +24,7 @@ returns c =
     let lies = b .begin .ensures rows (scan-start (now (a .table)) rows (counted .reads)) (counted .room) (counted .counted) in
     let words : c .enlist .last .0 ≡ wordsOfLent (freshLent rows) =
     c .enlist .ensures (freshLent rows) (fresh-shaped rows (counted .room)) lies
-    ∙ ap (λ (n : ℕ). wordsOfLent (withLists (freshLent rows) (endsTo (after rows []) n 64) (packed (listedTo (after rows []) n 64))))
+    ∙ ap (λ (n : ℕ). wordsOfLent (withLists (freshLent rows) (setsTo (after rows []) n 64)))
     (counted .counted) in
     subst₂ (λ (number : ℕ) (exit : Words). BeginsUpTo (a .newest) (now (a .table)) (now (a .m)) number exit) (sym (t .if1 .taken)) (sym words)
     (begun rows (counted .reads) (_, counted .accepted) (fresh-indexes rows (_, counted .accepted)))

@@ -1,8 +1,7 @@
 -- Where the event crowds a row nothing is stored; else the numbers, the rows to which the clock goes, and the rows of its kind, one after the other.
-use Rattle.in_place.proofs.Names.{_∙_, _≡_, ap, appliedOn, deadlinesChecked, recordedOn, crowdedOn, eventAt, false, needs, refl, hintFor}
-use Rattle.in_place.proofs.Names.{withFoundHint, sym, true}
-use Rattle.in_place.proofs.Names.{wordsOfLent}
-use Rattle.in_place.proofs.Parts.{begun-alone, begun-count, begun-ends, same-rows, shaped-begun, shaped-counted, shaped-room}
+use Rattle.in_place.proofs.Names.{_∙_, _≡_, ap, deadlinesChecked, dispatched, recordedOn, crowdedOn, eventAt, false, getD, needs, refl, rowsIn}
+use Rattle.in_place.proofs.Names.{withoutAsked, sym, true, wordsOfLent}
+use Rattle.in_place.proofs.Parts.{begun-alone, begun-count, begun-lists, shaped-begun, shaped-counted, shaped-full}
 use Rattle.in_place.proofs.calls.event_on.Statement.{statement}
 use Rattle.in_place.proofs.calls.event_on.Tie as tie
 
@@ -26,19 +25,18 @@ returns-2 c =
       stores = λ h e s going.
           let none-crowds : crowdedOn h (a .kind) (a .stream) (a .time) ≡ false = sym (w .event-would-overflow .ensures .asked h e s)
           ∙ i .if1 .left in
-          let h₀ = withFoundHint h in
+          let h₀ = withoutAsked h (a .kind) in
           let e₀ = w .event-would-overflow .ensures .marked h e s (i .if1 .left) in
-          let wide₀ = shaped-room h (hintFor h) s in
+          let wide₀ = shaped-full h (h₀ .full) s in
           let h₁ = recordedOn h₀ (a .stream) (a .time) in
           let counted = k .record-event .ensures h₀ e₀ wide₀ going in
           let wide₁ = shaped-counted h₀ (a .stream) (a .time) wide₀ in
           let h₂ = deadlinesChecked h₁ o in
           let began = b .check-deadlines .ensures h₁ counted wide₁ ∙ ap wordsOfLent (begun-alone h₁ (a .stream) (a .time)) in
-          let wide₂ = shaped-begun h₁ o wide₁ in
-          let rows = same-rows h₂ h (begun-ends h₁ o) (a .kind) in (
+          let wide₂ = shaped-begun h₁ o wide₁ in (
             rw none-crowds refl,
-            rw none-crowds
-                (c .dispatch-event .ensures h₂ began wide₂ ∙ (λ j. wordsOfLent (appliedOn h₂ (rows .0 j) (rows .1 j) o (begun-count h₁ o j)))),
+            rw none-crowds (c .dispatch-event .ensures h₂ began wide₂
+                ∙ (λ j. wordsOfLent (dispatched h₂ (rowsIn (getD (begun-lists h₁ o j) (a .kind) 0)) o (begun-count h₁ o j)))),
           );
     }
 

@@ -2,7 +2,7 @@
 use Rattle.in_place.proofs.Names.{List, Words, [], _<_, _∙_, _≡_, ap, ap₂, arith, allRowsUndone, rowsUndone, cond, getD, heldRows, le-ltb}
 use Rattle.in_place.proofs.Names.{lt-ltb, ltb}
 use Rattle.in_place.proofs.Names.{ltb-true, needs, now, placeIn, refl, set, split, streamCount, suc, sym, take, restoredMonitor, withMonitor}
-use Rattle.in_place.proofs.Names.{withNext, withSoonest, wordsOfLent, zero, ℕ}
+use Rattle.in_place.proofs.Names.{allRows, withFull, withNext, withSoonest, wordsOfLent, zero, ℕ}
 use Rattle.in_place.proofs.Parts.{block-written, number-at, numbers-read, shaped-backed, shaped-next}
 use Rattle.in_place.proofs.calls.withdraw.Statement.{statement}
 use Rattle.in_place.proofs.calls.withdraw.Tie as tie
@@ -48,11 +48,11 @@ returns-2 c =
           let stored = p .put-free .ensures x back wide ∙ ap₂ (λ (k v : ℕ). wordsOfLent (withNext x (set (x .monitor .next) k v))) place free in
           let wide-too = shaped-next x (placeIn (x .monitor .undo .place)) (x .monitor .undo .next) wide in
           let block = ap (λ (m : Words). getD m 32 []) stored ∙ numbers-read y wide-too in
-          let numbers = c .restore-counters .ensures (y .monitor) (y .soonest) (y .hint) (take 48 (y .monitor .next)) (y .ends) block in (
+          let numbers = c .restore-counters .ensures (y .monitor) (y .soonest) (y .full) (take 48 (y .monitor .next)) (y .lists) block in (
             rw some refl,
             rw some
                 (ap₂ (λ (m : Words) (v : List (List ℕ)). set m 32 v) stored numbers
-                ∙ block-written y wide-too (withSoonest (withMonitor y (restoredMonitor (y .monitor))) 0) refl refl refl),
+                ∙ block-written y wide-too (withFull (withSoonest (withMonitor y (restoredMonitor (y .monitor))) 0) allRows) refl refl),
           );
     }
 

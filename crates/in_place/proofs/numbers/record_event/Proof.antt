@@ -11,13 +11,13 @@ returns c h e s going =
     let stored = p .put-free .ensures h e s ∙ ap (λ (t : ℕ). wordsOfLent (withNext h (set (h .monitor .next) (a .stream) t))) (v .plus .ensures) in
     let wide = shaped-next h (a .stream) (plus (a .time) 1) s in
     let block = ap (λ m. getD m 32 []) stored ∙ numbers-read h₁ wide in
-    let counted = c .record-step .ensures (h₁ .monitor) (h₁ .soonest) (h₁ .hint) (take 48 (h₁ .monitor .next)) (h₁ .ends) block going in
+    let counted = c .record-step .ensures (h₁ .monitor) (h₁ .soonest) (h₁ .full) (take 48 (h₁ .monitor .next)) (h₁ .lists) block going in
     let free = f .free-at .ensures h e s in
     ap₂ (λ (m : Words) (b : List (List ℕ)). set m 32 b) stored counted
-    ∙ ap (λ (k : ℕ). set (wordsOfLent h₁) 32 (numberArray (recordedMonitor (h₁ .monitor) (a .stream) k (a .time) 0) (h .soonest) (h .hint)
-    (take 48 (h₁ .monitor .next)) ∷ h .ends ∷ [])) free
+    ∙ ap (λ (k : ℕ). set (wordsOfLent h₁) 32 (numberArray (recordedMonitor (h₁ .monitor) (a .stream) k (a .time) 0) (h .soonest) (h .full)
+    (take 48 (h₁ .monitor .next)) ∷ h .lists ∷ [])) free
     ∙ block-written h₁ wide (withMonitor h (recordedMonitor (h₁ .monitor) (a .stream) (getD (h .monitor .next) (a .stream) 0)
-    (a .time) 0)) refl refl refl
+    (a .time) 0)) refl refl
     ∙ ap (λ (k : ℕ). wordsOfLent (withMonitor h (recordedMonitor (h₁ .monitor) (a .stream) (getD (h .monitor .next) (a .stream) 0) (a .time) k)))
     (sym going)
 

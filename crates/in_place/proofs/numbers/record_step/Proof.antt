@@ -8,4 +8,4 @@ record-step-spec =
     tie.close (tie.spec (λ c. search needs) (λ c. search needs) (λ c. search needs) (λ c. search needs) (λ c. search needs) (λ c. search needs)
     (λ c κs. search needs) (λ c. search needs) (λ c. search needs) (λ c. search needs) (λ c. search needs) (λ c. search needs) (λ c. search needs)
     (λ c. search needs) (λ c. search needs) (λ c. search needs) (λ c. search needs) (λ c. search needs) (λ c. search needs) (λ c. search needs)
-    (λ c. search needs) (λ c m soonest hint plain ends e going. rw (c .plus .ensures, e, going) refl))
+    (λ c. search needs) (λ c m soonest full plain lists e going. rw (c .plus .ensures, e, going) refl))

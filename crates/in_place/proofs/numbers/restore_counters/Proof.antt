@@ -9,4 +9,5 @@ restore-counters-spec =
     (λ c. search needs) (λ c. search needs) (λ c. search needs) (λ c. search needs) (λ c κs. search needs) (λ c. search needs) (λ c. search needs)
     (λ c. search needs) (λ c. search needs) (λ c. search needs) (λ c. search needs) (λ c. search needs) (λ c. search needs) (λ c. search needs)
     (λ c. search needs) (λ c. search needs) (λ c. search needs) (λ c. search needs) (λ c. search needs) (λ c. search needs) (λ c. search needs)
-    (λ c m soonest hint plain ends e. rw (c .minus .ensures, e) refl))
+    (λ c. search needs) (λ c. search needs)
+    (λ c m soonest full plain lists e. rw (c .minus .ensures, e) refl))

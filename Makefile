@@ -28,7 +28,7 @@ DOCUMENTS := CHANGELOG.md LICENSE NOTICE docs/CONTRACT.md docs/DATASHEET.md docs
 MANUALS   := $(BUILD)/delkuthi.1 $(BUILD)/delkuthi.3
 EXAMPLES  := $(addprefix host/c/,bench_loop.c causes.c report.c file.c file.h) examples/table.bin examples/recording.bin
 
-.PHONY: all lib program install install-lib install-dev uninstall clean help test test-python test-ports kit run bench count worst portable trace dist sign wheel always
+.PHONY: all lib program install install-lib install-dev uninstall clean help test test-python test-ports kit run bench count worst records portable trace dist sign wheel always
 
 all: lib program
 lib: $(LIBRARY)
@@ -54,6 +54,7 @@ help:
 	@echo "make bench       the speed beside plain Rust"
 	@echo "make worst       the slowest calls, in cycles"
 	@echo "make count       the instructions of a call beside plain Rust; needs valgrind"
+	@echo "make records     the instructions of a record in a report, in stamps and in a join, and of the shortest stretch; needs valgrind"
 	@echo "make clean       removes $(BUILD)/"
 	@echo "The library is proved and built with rt, of the Rattle kit. If DELKUTHI_LIB names the folder of a libdelkuthi.a, that archive is used;"
 	@echo "rt is not needed then, and make test runs all tests but the proofs."
@@ -187,6 +188,11 @@ count:
 worst: lib
 	$(CC) -std=c99 -O2 -Iinclude host/c/worst.c $(BUILD)/libdelkuthi.a -o $(BUILD)/worst
 	$(BUILD)/worst
+
+# The program starts itself again under callgrind.
+records: lib
+	$(CC) -std=c99 -O2 -Iinclude host/c/records.c $(BUILD)/libdelkuthi.a -o $(BUILD)/records
+	$(BUILD)/records
 
 portable:
 	python3 release/portable.py $(BUILD)/portable $(PARTS)

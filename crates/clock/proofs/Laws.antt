@@ -1,6 +1,7 @@
 -- A monitor over no rows has no row to crowd, so its clock, count, first free times and mark of the close alone answer each call; and what reading
 -- gives from a place on, over the steps read before it, is what it gives from the start.
-use Rattle.clock.specs.Clock.{After, AsksCall, Clock, ReadsNext, TakesCall, clockOf}
+use Rattle.clock.specs.Clock.{After, AsksCall, Clock, ReadsNext, TakesCall, Ticks, clockOf, clockWith, more-ticks, no-tick}
+use Rattle.clock.specs.declared.Clock.{Clock as ClockNumbers}
 use Rattle.clock.specs.declared.RecordRead.{RecordRead}
 use Rattle.constraint.proofs.Library.{List, [], _++_, _+_, _<_, _∙_, _∷_, _≡_, _≤_, ap, arith, false, getD, length, lt-ltb, map, refl, replicate, set}
 use Rattle.constraint.proofs.Library.{subst, sym, ℕ}
@@ -165,6 +166,27 @@ module _ (bytes : List ℕ) (place : ℕ) (o : Clock) where
         next-is = λ whole. (answered .next-is ∙ read .next-read, omega (arith, answered .next-is, read .next-read, read .there .0 .1));
         none = λ not-there. absurd (not-there (read .there));
       }
+
+-- ---- ticks
+
+-- a tick changes no first free time
+pub tick-after : (o : ClockNumbers) (next : List ℕ) (t count : ℕ) → count ≡ plus (o .count) 1
+    → clockWith (record { time = t; count = count; closed = o .closed }) next ≡ clockAfter (clockWith o next) (Call.Tick t)
+tick-after o [] t count e = rw e refl
+tick-after o (x ∷ next) t count e = rw e refl
+
+pub ticks-more : {bytes : List ℕ} {place before : ℕ} {o now : Clock} {t number : ℕ} {later : Clock} → Ticks bytes place o before now
+    → CallAt bytes before (Call.Tick t) (before + 10) → TakesCall now (Call.Tick t) number later → number ≡ 0
+    → Ticks bytes place o (before + 10) later
+ticks-more {bytes} {place} {before} {o} {now} {t} {number} {later} ticks read taken e =
+    let numbers : ClockNumbers = record { time = later .time; count = later .count; closed = later .closed } in
+    let r : RecordRead = record { number = number; call = Call.Tick t; next = before + 10; clock = numbers } in
+    more-ticks t r later ticks
+    (read-call bytes before now (Call.Tick t) (before + 10) r later read (record { takes = taken; call-is = refl; next-is = refl })) e refl
+
+pub ticks-on : {bytes : List ℕ} {place to : ℕ} {o later : Clock} → Ticks bytes place o to later → place ≤ to
+ticks-on no-tick = omega arith
+ticks-on (more-ticks t r later ticks next e tick) = omega (arith, ticks-on ticks, next .next-is (next .there e) .0)
 
 -- ---- record by record
 

@@ -66,3 +66,9 @@ pub record ReadsNext (bytes : List ℕ) (place : ℕ) (o : Clock) (r : RecordRea
   pub call-is : RecordAt bytes place → callAt bytes place ≡ r .call
   pub next-is : RecordAt bytes place → (r .next ≡ place + 2 + lengthAt bytes place) × (r .next ≤ length bytes)
   pub none : ¬ RecordAt bytes place → (r .number ≡ 14) × (r .call ≡ Call.Close) × (r .next ≡ 0)
+
+-- ticks from a place on, each of them taken: the place behind them and the clock then
+pub data Ticks (bytes : List ℕ) : ℕ → Clock → ℕ → Clock → Type 0 where
+  no-tick : {place : ℕ} {o : Clock} → Ticks bytes place o place o
+  more-ticks : {place before : ℕ} {o now : Clock} (t : ℕ) (r : RecordRead) (later : Clock) → Ticks bytes place o before now
+      → ReadsNext bytes before now r later → r .number ≡ 0 → r .call ≡ Call.Tick t → Ticks bytes place o (r .next) later

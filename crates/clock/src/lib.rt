@@ -2,7 +2,10 @@
 // by one, and no row is stepped. The first free times stay in an array that the caller lends.
 use constraint::Call;
 use row_type::parts::plus;
-ghost use Rattle.clock.specs.Clock.{Starts, TakesCall, clockWith, AsksCall, ReadsNext};
+ghost use Prim.Native.Nat.{ℕ};
+ghost use mathlib.Core.List.{List};
+ghost use Rattle.constraint.specs.declared.Call.{Call};
+ghost use Rattle.clock.specs.Clock.{Starts, TakesCall, clockWith, AsksCall, ReadsNext, Ticks};
 
 pub struct Clock {
     pub time: u64,
@@ -23,6 +26,12 @@ pub struct RecordRead {
     pub number: u8,
     pub call: Call,
     pub next: usize,
+    pub clock: Clock,
+}
+
+// The place behind some ticks, and the clock then.
+pub struct Ticked {
+    pub place: usize,
     pub clock: Clock,
 }
 
@@ -61,6 +70,26 @@ impl Clock {
         };
         Answered { number: 0, clock }
     }
+
+    // The same for a tick, whatever the first free times are: it changes none of them.
+    fn take_tick(self, time: u64) -> Answered
+        ensures { λ r. ⌜ ((next : List ℕ) → TakesCall (clockWith self next) (Call.Tick time) (r .number) (clockWith (r .clock) next)) ⌝ }
+    {
+        let call = Call::Tick { time };
+        let number = questions::refusal(call, self.closed, self.count, self.time, 0);
+        if 0 < number {
+            return Answered {
+                number,
+                clock: self,
+            };
+        }
+        let clock = Clock {
+            time,
+            count: plus(self.count, 1),
+            closed: self.closed,
+        };
+        Answered { number: 0, clock }
+    }
 }
 
 // The call of a record that ends before a place.
@@ -92,4 +121,31 @@ pub fn read(bytes: &[u8], place: usize, clock: Clock, next: &mut [u64; 176]) -> 
     }
     let call = record.call;
     asked(clock, next, call, record.next)
+}
+
+// Takes ticks from a place on, up to a record that is no tick or is refused.
+pub fn ticks(bytes: &[u8], place: usize, clock: Clock) -> Ticked
+    ensures { λ r. ⌜ ((next : List ℕ) → Ticks (now (bytes .entry)) place (clockWith clock next) (r .place) (clockWith (r .clock) next)) ⌝ }
+{
+    let mut at = place;
+    let mut later = clock;
+    loop {
+        let tick = recording::tick_at(bytes, at);
+        if !tick.there {
+            return Ticked {
+                place: at,
+                clock: later,
+            };
+        }
+        let taken = later.take_tick(tick.time);
+        if 0 < taken.number {
+            return Ticked {
+                place: at,
+                clock: later,
+            };
+        }
+        let after = taken.clock;
+        later = after;
+        at += 10;
+    }
 }

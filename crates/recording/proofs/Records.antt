@@ -1,12 +1,12 @@
 -- A record's call, read from its own stretch, is that of the record in the whole recording; and what that says of its questions.
-use Rattle.constraint.proofs.Library.{Bool, List, [], _++_, _+_, _-_, _∙_, _∷_, _≡_, _≤_, arith, cond, drop, drop-drop, eqb, false, length}
+use Rattle.constraint.proofs.Library.{Bool, List, [], _++_, _+_, _-_, _∙_, _∷_, _≡_, _≤_, ap, arith, cond, drop, drop-drop, eqb, false, length}
 use Rattle.constraint.proofs.Library.{length-drop, length-take-le, refl, subst, sym, take, take-all, true, ℕ}
 use Rattle.constraint.proofs.{History.closed-event, History.closed-tick, Judged.judged-no, Judged.judged-yes}
 use Rattle.constraint.specs.Recording.{RecordAt, callAt, callOf, colourIn, recordQuestions}
 use Rattle.constraint.specs.Steps.{Step, at, closed}
-use Rattle.constraint.specs.{Bytes.numberAt, Questions.Judged, Run.questions, Run.stepFor, Streams.stream, Table.bodyAt, Table.lengthAt}
+use Rattle.constraint.specs.{Bytes.number, Bytes.numberAt, Questions.Judged, Run.questions, Run.stepFor, Streams.stream, Table.bodyAt, Table.lengthAt}
 use Rattle.constraint.specs.{declared.Answer.Answer, declared.Answer.the-variants.Refused, declared.Call.Call, Constraint.Constraint}
-use Rattle.recording.specs.Record.{CallAt, ReadsCall, ReadsRecord, noRecord}
+use Rattle.recording.specs.Record.{CallAt, ReadsCall, ReadsRecord, TickAt, noRecord}
 
 -- A record's own stretch
 
@@ -71,6 +71,25 @@ module _ (bytes : List ℕ) (place : ℕ) where
       ))
 
 -- From a record to the answer to its questions
+
+-- A tick
+
+tick-of : (version : ℕ) (body : List ℕ) → length body ≡ 8 → callOf version body ≡ Call.Tick (numberAt 8 body 0)
+tick-of version body eight = rw eight refl
+
+-- §7.2
+pub tick-whole : (bytes : List ℕ) (place time : ℕ) → TickAt bytes place → time ≡ numberAt 8 bytes (place + 2)
+    → CallAt bytes place (Call.Tick time) (place + 10)
+tick-whole bytes place time (room, eight) time-is =
+    let body = take 8 (drop (place + 2) bytes) in
+    let long : length body ≡ 8 = length-take-le 8 (drop (place + 2) bytes) (omega (arith, length-drop (place + 2) bytes, room)) in
+    let same : bodyAt bytes place ≡ body = ap (λ (n : ℕ). take n (drop (place + 2) bytes)) eight in
+    let timed : numberAt 8 body 0 ≡ numberAt 8 bytes (place + 2) = ap number (take-all 8 body (omega (arith, long))) in
+    record {
+      there = ((omega (arith, room), omega (arith, room, eight)), omega (arith, eight), omega (arith, eight));
+      call-read = ap (callOf (at bytes 0)) same ∙ tick-of (at bytes 0) body long ∙ ap (λ (t : ℕ). Call.Tick t) (timed ∙ sym time-is);
+      next-read = omega (arith, eight);
+    }
 
 -- §7.2, §8.14, §9.4: question 14 is answered "yes", so the answer is that to the step's questions
 pub record-judged : (rows : List Constraint) (steps : List Step) (bytes : List ℕ) (place : ℕ) (call : Call) (next : ℕ) (a : Answer)

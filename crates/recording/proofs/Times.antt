@@ -27,3 +27,11 @@ number-of-eight bytes start there =
     ∙ next bytes _ (start + 6) 2 (start + 7) 1 (omega arith) (omega arith) (omega arith)
     ∙ next bytes _ (start + 7) 1 (start + 8) 0 (omega arith) (omega arith) (omega arith)
     ∙ omega arith
+
+pub number-of-two : (bytes : List ℕ) (start : ℕ) → start + 2 ≤ length bytes
+    → numberAt 2 bytes start ≡ at bytes (start + 1) * 1 + at bytes start * 256
+unfolding numberBehind
+number-of-two bytes start there =
+    next bytes _ start 2 (start + 1) 1 (omega arith) (omega arith) (omega arith)
+    ∙ next bytes _ (start + 1) 1 (start + 2) 0 (omega arith) (omega arith) (omega arith)
+    ∙ omega arith

@@ -1,13 +1,14 @@
 // Reads a recording's bytes: its version, and the record at a place.
 use constraint::Call;
 ghost use mathlib.Core.Path.{_≡_};
+ghost use mathlib.Core.Bool.{true};
 ghost use Prim.Native.Nat.{_+_, _*_, _^_, _≤_, _<_};
 ghost use lib.ListN.{length};
 ghost use Rattle.constraint.specs.Steps.{at};
 ghost use Rattle.constraint.specs.Records.{Decides};
 ghost use Rattle.constraint.specs.Bytes.{numberAt};
 ghost use Rattle.constraint.specs.Recording.{colourIn, callOf, VersionKnown};
-ghost use Rattle.recording.specs.Record.{Sizes, noRecord, ReadsRecord, ReadsCall};
+ghost use Rattle.recording.specs.Record.{Sizes, noRecord, ReadsRecord, ReadsCall, TickAt, ReadsTick};
 
 // What is no colour.
 const NO_COLOUR: u8 = 255;
@@ -17,6 +18,12 @@ pub struct CallRead {
     pub number: u8,
     pub call: Call,
     pub next: usize,
+}
+
+// What is read of a tick: whether one is there, and its time.
+pub struct TickRead {
+    pub there: bool,
+    pub time: u64,
 }
 
 // The version of a recording: its first byte, or 0 where there is none.
@@ -49,6 +56,14 @@ fn digit(bytes: &[u8], place: usize, unit: u64) -> u64
 {
     let byte = bytes[place];
     byte as u64 * unit
+}
+
+// The number in the two bytes from a place on, which are there.
+fn two_there(bytes: &[u8], place: usize) -> u64
+    requires { ⌜ place + 2 ≤ length (now bytes) ⌝ }
+    ensures { λ r. ⌜ r ≡ numberAt 2 (now (bytes .entry)) place ⌝ }
+{
+    digit(bytes, place + 1, 1) + digit(bytes, place, 256)
 }
 
 // The number in the eight bytes from a place on, which are there: added up from the lowest on, which is a single load in machine code.
@@ -94,6 +109,36 @@ fn call_of(version: u8, body: &[u8]) -> Call
     }
     let colour = colour_in(version, big_endian::byte_at(body, 1));
     Call::ColouredEvent { kind, colour, time }
+}
+
+// Whether a whole record of length 8 stands at a place.
+fn is_tick(bytes: &[u8], place: usize) -> bool
+    ensures { λ r. ⌜ (r ≡ true → TickAt (now (bytes .entry)) place) ⌝ }
+{
+    if bytes.len() < 10 {
+        return false;
+    }
+    if bytes.len() - 10 < place {
+        return false;
+    }
+    two_there(bytes, place) == 8
+}
+
+// §7.2
+// The tick at a place, if there is one. A recording is mostly ticks, and this reads one faster than `call_at`.
+pub fn tick_at(bytes: &[u8], place: usize) -> TickRead
+    ensures { λ r. ⌜ ReadsTick (now (bytes .entry)) place r ⌝ }
+{
+    if is_tick(bytes, place) {
+        return TickRead {
+            there: true,
+            time: eight_there(bytes, place + 2),
+        };
+    }
+    TickRead {
+        there: false,
+        time: 0,
+    }
 }
 
 // How many bytes the record has with which a stretch begins, its length field among them; 0 where it is not whole or its length is not 8 to 10.

@@ -1,6 +1,7 @@
 -- The names of the definitions and laws below this crate that its proofs use, passed on from one place.
-pub use Rattle.clock.proofs.Laws.{ReadUpTo, after-clock, after-valid, up-to-end, up-to-more, up-to-refused, up-to-start}
-pub use Rattle.clock.specs.{Clock.After, Clock.Clock, Clock.ReadsNext, Clock.clockWith, declared.RecordRead.RecordRead}
+pub use Rattle.clock.proofs.Laws.{ReadUpTo, after-clock, after-valid, ticks-on, up-to-end, up-to-more, up-to-refused, up-to-start}
+pub use Rattle.clock.specs.{Clock.After, Clock.Clock, Clock.ReadsNext, Clock.Ticks, Clock.clockWith, Clock.more-ticks, Clock.no-tick}
+pub use Rattle.clock.specs.{declared.RecordRead.RecordRead}
 pub use Rattle.constraint.proofs.History.{Accepts, Valid, clock-close, closed-close, past-of, times-close, times-other, times-own, times-tick}
 pub use Rattle.constraint.proofs.History.{valid-more, valid-none}
 pub use Rattle.constraint.proofs.Judged.{failed, judged-all, judged-no, judged-none, judged-once, judged-yes, never, passed}

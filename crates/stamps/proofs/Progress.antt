@@ -1,6 +1,6 @@
 -- What is kept of the stamps goes on from record to record, and at the end it says what the row reads.
 use Rattle.stamps.proofs.Names.{After, LateRow, Call, Clock, Constraint, Judged, List, ReadUpTo, ReadsInOrder, ReadsNext, ReadsStamps}
-use Rattle.stamps.proofs.Names.{RecordAt}
+use Rattle.stamps.proofs.Names.{RecordAt, Ticks, ap, arith, more-ticks, no-tick}
 use Rattle.stamps.proofs.Names.{RecordRead, Stamps, Step, Taken, VersionKnown, [], _++_, _<_, _∷_, _≡_, _≤_, accepts-taken, after-clock}
 use Rattle.stamps.proofs.Names.{after-valid, callAfter, callAt, clock, firstColoured, judged-all, lastTime, length, noStamps, past-of}
 use Rattle.stamps.proofs.Names.{questions, recordQuestions, recording-of, recording-refused, stampsVerdict, stepFor, subst, sym, times}
@@ -56,3 +56,11 @@ module _ (bytes : List ℕ) (a : LateRow) where
           (reads-now a (times (a .event) (before .steps)) (clock (before .steps))
           (past-of (after-valid (before .steps) o (before .read .after)) .small) s (before .keeps plain small)),
     )
+
+-- ticks are no stamps
+pub pass-ticks : (bytes : List ℕ) (a : LateRow) (s : Stamps) {place to : ℕ} {o later : Clock} → Ticks bytes place o to later
+    → PassedTo bytes a o s place → PassedTo bytes a later s to
+pass-ticks bytes a s no-tick before = before
+pass-ticks bytes a s (more-ticks {before = at} {now = now} t r later ticks next e tick) before =
+    subst (λ (x : Stamps). PassedTo bytes a later x (r .next)) (ap (callAfter a s) tick)
+    (pass-more bytes a now s at (pass-ticks bytes a s ticks before) (omega (arith, next .there e .0 .0)) r later next e)

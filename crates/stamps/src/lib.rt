@@ -271,8 +271,10 @@ fn pass(bytes: &[u8], asked: LateRow) -> Passed
         let call = read.call;
         stamps = stamps.after(asked, call);
         let later = read.clock;
-        clock = later;
-        place = read.next;
+        let ticked = clock::ticks(bytes, read.next, later);
+        let latest = ticked.clock;
+        clock = latest;
+        place = ticked.place;
     }
     Passed {
         number: 0,

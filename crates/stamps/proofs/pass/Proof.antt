@@ -1,6 +1,6 @@
 -- The loop reads record after record: what is kept of the stamps is that of the steps read so far.
-use Rattle.stamps.proofs.Names.{_-_, arith, clockWith, failed, free, length, now, passed, version-refused}
-use Rattle.stamps.proofs.Progress.{PassedTo, pass-end, pass-more, pass-refused, pass-start}
+use Rattle.stamps.proofs.Names.{[], _-_, arith, clockWith, failed, free, length, now, passed, ticks-on, version-refused}
+use Rattle.stamps.proofs.Progress.{PassedTo, pass-end, pass-more, pass-refused, pass-start, pass-ticks}
 use Rattle.stamps.proofs.pass.Statement.{statement}
 use Rattle.stamps.proofs.pass.Tie as tie
 
@@ -38,19 +38,21 @@ returns-2 c =
 
 loop-less : tie.Need-loop-less Inv-loop μ-loop
 loop-less c =
-    let at-read = c .before .before .before .before in let found = at-read .read .ensures in
-    let next = found .next-is (found .there (omega (arith, c .before .before .if2 .left))) in
-    omega (arith, next .0, next .1)
+    let ticked = c .before in let left = ticked .before .before .before in let found = left .before .before .read .ensures in
+    let next = found .next-is (found .there (omega (arith, left .if2 .left))) in
+    omega (arith, next .0, next .1, ticks-on (ticked .ticks .ensures []))
 
 loop-again : tie.Need-loop-again Inv-loop μ-loop
 loop-again c =
-    let at-read = c .before .before .before .before in let at-loop = at-read .before .before .before in
+    let ticked = c .before in let stamped = ticked .before .before in let left = stamped .before in
+    let at-read = left .before .before in let at-loop = at-read .before .before .before in
     let args = at-loop .before .before .before .before .before .before .args in
-    rw (c .before .after .ensures)
+    pass-ticks (now (args .bytes)) (args .asked) _ (ticked .ticks .ensures _)
+    (rw (stamped .after .ensures)
     (pass-more (now (args .bytes)) (args .asked) (clockWith (at-loop .loop .clock) (at-loop .loop .next)) (at-loop .loop .stamps)
     (at-loop .loop .place) (at-loop .loop .inv)
     (at-read .before .before .loop-test .taken)
-    (at-read .read .result) _ (at-read .read .ensures) (omega (arith, c .before .before .if2 .left)))
+    (at-read .read .result) _ (at-read .read .ensures) (omega (arith, left .if2 .left))))
 
 returns-3 : tie.Need-returns-3 Inv-loop μ-loop
 returns-3 c =
@@ -64,4 +66,4 @@ returns-3 c =
     }
 
 pub pass-spec : {M : Type 1} → statement M
-pass-spec = tie.close (tie.spec Inv-loop μ-loop free returns free free loop-holds free returns-2 free loop-less loop-again free returns-3)
+pass-spec = tie.close (tie.spec Inv-loop μ-loop free returns free free loop-holds free returns-2 free free loop-less loop-again free returns-3)

@@ -31,12 +31,13 @@ pub fn apply(row: &mut [[u64; SIZE]; 2], stream: u64, t: u64, number: u64)
         return;
     }
     let stride = stride(row[1][row_words::LOWER]);
-    let low = parts::larger(parts::plus(row[1][LOW], stride), near);
-    let high = latest(upper, row[1][HIGH], t);
-    let far = parts::far_enough(row[1][row_words::MINIMUM], last, t);
-    if stride <= upper && far && low <= high {
-        place(row, t, low, high, number);
-        return;
+    if stride <= upper && parts::far_enough(row[1][row_words::MINIMUM], last, t) {
+        let low = parts::larger(parts::plus(row[1][LOW], stride), near);
+        let high = latest(upper, row[1][HIGH], t);
+        if low <= high {
+            place(row, t, low, high, number);
+            return;
+        }
     }
     row_words::break_at(row, t, number);
 }

@@ -5,6 +5,7 @@ use crate::marked::due_marked;
 use crate::marked::put_marked;
 use crate::reaction::COLOURS;
 use crate::reaction::Pair;
+use crate::reaction::WORDS;
 use crate::reaction::breaks;
 use crate::reaction::goes_on;
 use crate::reaction::latest;
@@ -176,7 +177,7 @@ fn store(row: &mut [[u64; SIZE]; 2], colour: usize, low: u64, high: u64, pair: P
 pub fn apply(row: &mut [[u64; SIZE]; 2], stream: u64, t: u64, number: u64)
     ensures { λ _. ⌜ Applies lastSaved decideAge (now (row .entry)) stream t number (now (row .exit)) ⌝ }
 {
-    if row[1][row_words::LEN] < 16 {
+    if row[1][row_words::LEN] < WORDS {
         row_words::break_at(row, t, number);
         return;
     }

@@ -25,6 +25,9 @@ ghost use Rattle.event_chain.specs.InputSynchronization.{together, owedI
 // How many words a colour has.
 const WIDTH: usize = 5;
 
+// How many a row has.
+const WORDS: usize = 40;
+
 // How many kinds there are beside the stimulus or the response, at most four.
 pub(crate) fn kind_count(w: &[u64; SIZE]) -> usize
     ensures { λ r. ⌜ ((r ≤ 4) × (r ≡ kindCount (parametersAt (now (w .entry))))) ⌝ }
@@ -406,7 +409,7 @@ pub(crate) fn apply_output(
 {
     let head = row[1][row_words::HEAD] as usize;
     let len = row[1][row_words::LEN] as usize;
-    if len < 40 {
+    if len < WORDS {
         row_words::break_at(row, t, number);
         return;
     }
@@ -441,7 +444,7 @@ pub(crate) fn apply_input(
 {
     let head = row[1][row_words::HEAD] as usize;
     let len = row[1][row_words::LEN] as usize;
-    if len < 40 {
+    if len < WORDS {
         row_words::break_at(row, t, number);
         return;
     }

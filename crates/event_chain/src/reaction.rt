@@ -21,6 +21,9 @@ ghost use Rattle.event_chain.specs.Reaction.{latest, highBut, dueBut, af
 // How many colours there are.
 pub(crate) const COLOURS: usize = 8;
 
+// How many words a row of two for each colour has.
+pub(crate) const WORDS: u64 = 16;
+
 // What an event makes of the words of its colour: it breaks the row, or the words are new.
 pub struct Pair {
     pub breaks: bool,
@@ -171,7 +174,7 @@ fn store(row: &mut [[u64; SIZE]; 2], colour: usize, old: u64, pair: Pair, t: u64
 pub fn apply(row: &mut [[u64; SIZE]; 2], stream: u64, t: u64, number: u64)
     ensures { λ _. ⌜ Applies lastSaved decideReaction (now (row .entry)) stream t number (now (row .exit)) ⌝ }
 {
-    if row[1][row_words::LEN] < 16 {
+    if row[1][row_words::LEN] < WORDS {
         row_words::break_at(row, t, number);
         return;
     }

@@ -8,8 +8,8 @@ use Rattle.event_chain.specs.Coloured.{unchanged, wordsAt, wordsBut}
 use Rattle.event_chain.specs.Marked.{colouredKind, dueMarked, dueNext}
 use Rattle.constraint.proofs.Library.{Bool, List, [], _%_, _*_, _++_, _+_, _<_, _↔_, _∙_, _∷_, _≡_, _≤_, _||_, ap, ap₂, arith, by-cases, cond}
 use Rattle.constraint.proofs.Library.{decLt, eq-eqb, eqb, eqb-true, ext-getD, false, getD, getD-replicate, getD-set-other, getD-set-same, getD-take}
-use Rattle.constraint.proofs.Library.{length, ltb}
-use Rattle.constraint.proofs.Library.{length-set, ne-eqb, refl, replicate, set, set-out, subst, suc, sym, take, take-take, zero, ℕ, ℕ-discrete}
+use Rattle.constraint.proofs.Library.{length, length-set, ltb, ne-eqb, refl, replicate, set, set-getD, set-out, subst}
+use Rattle.constraint.proofs.Library.{suc, sym, take, take-take, zero, ℕ, ℕ-discrete}
 use Rattle.constraint.proofs.Lists.{Each, at-left, each-cons, each-none, split}
 use Rattle.constraint.proofs.Streams.{colours, streams, streamsIn}
 use Rattle.constraint.specs.Accepted.{EachField, KindClassFits, KindsFit, KindsSuit, kinds, kindsIn}
@@ -64,11 +64,6 @@ pub record ByWords (n : ℕ) (Says : (ℕ → List ℕ) → Type 0) (owed : List
       → Colour f w → now ≤ owed w → owed w < noLimit → NearerWord n Colour owed lacks f w now
 
 -- ---- one word is new
-
-set-same : (list : List ℕ) (i : ℕ) → set list i (at list i) ≡ list
-set-same [] i = refl
-set-same (x ∷ list) zero = refl
-set-same (x ∷ list) (suc i) = ap (λ (l : List ℕ). x ∷ l) (set-same list i)
 
 abbrev stored : List ℕ → ℕ → ℕ → List ℕ
 stored words p x = changed (oneNew p x words) words
@@ -218,7 +213,7 @@ module _ (ks : List ℕ) (Says : (ℕ → List ℕ) → Type 0) (decide : Regist
 
     word-stays : x ≡ at w j → Turned colouring f d j t words (unchanged registers)
     word-stays is =
-        let same : set w j x ≡ w = ap (set w j) is ∙ set-same w j in
+        let same : set w j x ≡ w = ap (set w j) is ∙ set-getD w j 0 in
         record {
           keeps = (whole, subst (r .Colour (with-one f j t)) same keeps);
           others = λ i l other. refl;

@@ -46,7 +46,7 @@ static uint8_t table[DELKUTHI_TABLE_LIMIT];
 static size_t table_length;
 static struct bytes all, first, second;
 static delkuthi_monitor monitor;
-static uint8_t joined[2 * sizeof all.bytes];
+static uint8_t joined[sizeof all.bytes + 1];
 static uint8_t report[DELKUTHI_REPORT_LIMIT];
 
 /* Stops where a call has not answered as it must. */
@@ -90,7 +90,7 @@ static void make_table(const delkuthi_row *rows, size_t count)
     table_length = (size_t)DELKUTHI_LENGTH(answer);
 }
 
-/* Makes the table of 32 rows of eight types that no stretch of events of kinds 0 and 1 by turns breaks. */
+/* Makes the table of 32 rows of six types, of which no stretch of events of kinds 0 and 1 by turns breaks one. */
 static void make_rows(void)
 {
     static const uint8_t kinds[2] = {0, 1};
@@ -120,7 +120,7 @@ static void make_rows(void)
             rows[i] = delkuthi_strong_synchronization(kinds, 2, more);
             break;
         case 6:
-            rows[i] = delkuthi_delay(0, 2, 0, more);
+            rows[i] = delkuthi_delay(2, 0, 0, more);
             break;
         default:
             rows[i] = delkuthi_repeat(2, 1, 0, more);
@@ -139,7 +139,7 @@ __attribute__((noinline)) uint64_t counted(enum call call, uint64_t row)
     case STAMPS:
         return delkuthi_stamps(table, table_length, all.bytes, all.length, row, 1);
     case JOIN:
-        return delkuthi_join(first.bytes, first.length, second.bytes, second.length, joined, sizeof joined);
+        return delkuthi_join(first.bytes, first.length, second.bytes, second.length, joined, first.length + second.length);
     default:
         return delkuthi_shortest_stretch(table, table_length, all.bytes, all.length, row);
     }
@@ -163,6 +163,8 @@ static void play(void)
     make_rows();
     for (i = 0; i < SIZES; i++) {
         make_recordings(0, sizes[i]);
+        /* no row has too many waiting */
+        must(delkuthi_report_on(&monitor, table, table_length, all.bytes, all.length, report, sizeof report) > 6 && memcmp(report, "closed", 6) == 0);
         for (row = 0; row < ROWS; row++)
             must(DELKUTHI_NUMBER(counted(STRETCH, row)) == DELKUTHI_NO_STRETCH);
     }

@@ -83,9 +83,10 @@ impl Clock {
                 clock: self,
             };
         }
+        let count = plus(self.count, 1);
         let clock = Clock {
             time,
-            count: plus(self.count, 1),
+            count,
             closed: self.closed,
         };
         Answered { number: 0, clock }

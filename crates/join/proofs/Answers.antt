@@ -66,6 +66,6 @@ module _ (one two before : List ℕ) (p : Passed) (first-passes : Passes one (re
               (λ t. let (size, room, stored) = walks .fits t first second first-records second-records in
               subst (λ (n : ℕ). AnswersJoin one two before (JoinAnswer.Joined n) end) (sym size)
               (subst (AnswersJoin one two before (JoinAnswer.Joined (length (joinedBytes one two first second))))
-              (sym (stored ∙ stores-front before (joinedBytes one two first second) (omega (arith, size, room))))
+              (sym (stored (omega arith) ∙ stores-front before (joinedBytes one two first second) (omega (arith, size, room))))
               (written first second first-read second-read apart (omega (arith, size, room)))))
               (λ f. absurd (fits (walks .short f first second first-records second-records)))

@@ -36,7 +36,7 @@ call-size version body long =
 records-size : (bytes : List ℕ) {place : ℕ} {steps : List Step} → Records bytes place steps → size steps ≤ length bytes - place
 unfolding stepsBytes
 records-size bytes (none end) = omega arith
-records-size bytes {place} (more {rest = rest} there whole same records) =
+records-size bytes {place} (more {rest = rest} there whole same soon records) =
     let n = lengthAt bytes place in
     let body : length (bodyAt bytes place) ≡ n =
     length-take-le n (drop (place + 2) bytes) (omega (arith, whole .0 .0, whole .0 .1, length-drop (place + 2) bytes)) in
@@ -71,7 +71,7 @@ undropped-size now (s ∷ steps) =
     (λ e. omega (arith, size-more s steps, size-more s (undropped (timeOf s) steps), undropped-size (timeOf s) steps))
 
 pub joined-size : (one two : List ℕ) (first second : List Step) → Records one 1 first → Records two 1 second
-    → length (joinedBytes one two first second) ≤ length one + length two + 1
+    → length (joinedBytes one two first second) ≤ 1 + (length one - 1) + (length two - 1)
 joined-size one two first second records others =
     omega (arith, undropped-size 0 (merged first second), merged-size first second, records-size one records, records-size two others)
 

@@ -1,7 +1,8 @@
 -- The bytes of a record read as its step, wherever they stand; so the bytes of steps each of which could be taken read as these steps.
 use Rattle.join.proofs.Names.{Accepts, Call, CallAt, Judged, List, ReadsInOrder, ReadsRecords, RecordingRead, Room, Step, Taken, Valid, []}
 use Rattle.join.proofs.Names.{_%_, _++_, _+_, _-_, _<_, _∙_, _∷_, _≡_, _≤_, ap, append-assoc, append-nil, append-snoc, arith, at, bodyAt}
-use Rattle.join.proofs.Names.{bytesOf, callAt, callOf, close, coloured-kind, colouredBytes, cond, drop, drop-at, drop-drop, event, eventBytes}
+use Rattle.join.proofs.Names.{bytesOf, callAt, callOf, close, coloured-kind, colouredBytes, cond, drop, drop-at, drop-drop, event}
+use Rattle.join.proofs.Names.{eventBytes}
 use Rattle.join.proofs.Names.{firstColoured, judged-none, judged-yes, kind-small, kindOf, lastTime, length, length-append, length-drop}
 use Rattle.join.proofs.Names.{lengthAt, ltb, ltb-false, ltb-true, ne-eqb, never, no-more, number, number-of-bytes, numberBehind, questions}
 use Rattle.join.proofs.Names.{record-judged, record-taken, recording-of, recordingBytes, refl, split, stepBytes, stepFor, stepsBytes, stream}

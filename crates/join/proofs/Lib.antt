@@ -3,6 +3,7 @@ mod Names
 pub mod Merging
 pub mod Bytes
 pub mod Records
+pub mod Heads
 pub mod Walking
 pub mod Bounds
 pub mod Passing

@@ -1,7 +1,8 @@
 -- Two lists of steps whose times never fall merge into one, a stream's events all come from one of them, and a tick that is left is later than the
 -- clock: so what is
 -- left is a list of steps each of which was accepted after those before it.
-use Rattle.join.proofs.Names.{AcceptsEvent, List, NoneInCommon, Rising, Step, Valid, [], _++_, _<_, _∙_, _∷_, _≡_, _≤_, among, ap, append-nil}
+use Rattle.join.proofs.Names.{AcceptsEvent, List, NoneInCommon, Rising, Step, Valid, [], _++_, _<_, _∙_, _∷_, _≡_, _≤_, among, ap}
+use Rattle.join.proofs.Names.{append-nil}
 use Rattle.join.proofs.Names.{append-snoc, arith, both, clock, clock-event, clock-tick, clockFrom, close, closed, closed-event, closed-tick}
 use Rattle.join.proofs.Names.{cond, eq-eqb, eqb, eqb-true, event, false, firstColoured, joined, kindOf, kindsOf, lastCount, lastTime, leb}
 use Rattle.join.proofs.Names.{leb-false, leb-true, length, length-append, merged, never, or-false, past-of, refl, rising-across, split}

@@ -1,10 +1,12 @@
 -- A record that is taken adds its kind to those marked, and the first one of a kind to avoid is kept.
 use Rattle.join.proofs.Names.{After, Bool, Call, Clock, FirstOf, Found, Judged, List, List·getD-eq-default, Marks, ReadUpTo, ReadsInOrder}
 use Rattle.join.proofs.Names.{ReadsNext, RecordRead, Step, Taken, VersionKnown, [], _++_, _+_, _<_, _||_, _∙_, _∷_, _≡_, _≤_, _⊎_, among, ap}
-use Rattle.join.proofs.Names.{append-nil, arith, at, both, callAt, callKind, close, cond, either-true, eq-eqb, eqb, eqb-false, eqb-true, event}
-use Rattle.join.proofs.Names.{_&&_, ltb, ltb-false}
+use Rattle.join.proofs.Names.{append-nil, arith, at, both, callAt, callKind, close, cond, either-true, eq-eqb, eqb, eqb-false, eqb-true}
+use Rattle.join.proofs.Names.{event}
+use Rattle.join.proofs.Names.{Ticks, _&&_, ltb, ltb-false, more-ticks, no-tick}
 use Rattle.join.proofs.Names.{false, firstCommon, getD-replicate, getD-set-other, getD-set-same, here, inl, inr, judged-all, kindOf, kindsOf}
-use Rattle.join.proofs.Names.{lastKind, later, length, length-replicate, length-set, lengthAt, lt-ltb, ne-eqb, ofKinds, plain-kind, questions}
+use Rattle.join.proofs.Names.{lastKind, later, length, length-replicate, length-set, lengthAt, lt-ltb, ne-eqb, ofKinds, plain-kind}
+use Rattle.join.proofs.Names.{questions}
 use Rattle.join.proofs.Names.{recordQuestions, recording-of, recording-refused, refl, replicate, set, set-out, split, stepFor, stream}
 use Rattle.join.proofs.Names.{stream-kind, subst, sym, tick, true, up-to-end, up-to-more, up-to-refused, up-to-start, ℕ}
 
@@ -209,3 +211,14 @@ module _ (bytes avoid : List ℕ) where
         found : (steps : List Step) (ks : List ℕ) → Search ks bytes place steps common → Found ks bytes steps common
         found steps ks (inl (zero-yet, none, on)) = inl (zero-yet, none)
         found steps ks (inr hit) = inr hit
+
+stays : (n : ℕ) → n ≡ cond (ltb 0 n) n 0
+stays n = split (ltb 0 n) (λ x. n ≡ cond x n 0) (λ e. refl) (λ e. omega (arith, ltb-false 0 n e))
+
+-- ticks have no kind
+pub pass-ticks : (bytes avoid kinds : List ℕ) (common : ℕ) {place to : ℕ} {o o′ : Clock} → Ticks bytes place o to o′
+    → PassedTo bytes avoid o kinds common place → PassedTo bytes avoid o′ kinds common to
+pass-ticks bytes avoid kinds common no-tick before = before
+pass-ticks bytes avoid kinds common (more-ticks {before = at-tick} {now = now} t r o′ ticks next e is) before =
+    pass-more bytes avoid now kinds common at-tick (pass-ticks bytes avoid kinds common ticks before) (omega (arith, next .there e .0 .0)) r o′ next
+    e 64 false kinds common (sym (ap callKind is)) refl refl (stays common)

@@ -1,8 +1,10 @@
 -- A recording that is read gives its records one after the other, and each is a step that could be taken after those before it.
 use Rattle.join.proofs.Names.{Accepts, Bool, Call, Judged, List, ReadsInOrder, ReadsRecords, Records, Step, Taken, Valid, VersionKnown, []}
 use Rattle.join.proofs.Names.{_%_, _++_, _+_, _-_, _/_, _<_, _∙_, _∷_, _≡_, _≤_, accepts-taken, append-nil, append-snoc, arith, at, bodyAt}
-use Rattle.join.proofs.Names.{callAt, callBytes, callOf, clock, clock-event, clock-tick, clockFrom, close, colourIn, cond, eq-eqb, eqb, event}
-use Rattle.join.proofs.Names.{false, firstColoured, judged-all, lastColour, le-ltb, length, lengthAt, lt-ltb, more, no-more, none, numberAt}
+use Rattle.join.proofs.Names.{callAt, callBytes, callOf, clock, clock-event, clock-tick, clockFrom, close, colourIn, cond, eq-eqb, eqb}
+use Rattle.join.proofs.Names.{event}
+use Rattle.join.proofs.Names.{false, firstColoured, judged-all, lastColour, lastTime, le-ltb, length, lengthAt, lt-ltb, more, no-more}
+use Rattle.join.proofs.Names.{none, numberAt}
 use Rattle.join.proofs.Names.{questions, record-taken, recordQuestions, recording-of, refl, stepBytes, stepFor, stream, subst, sym, tick}
 use Rattle.join.proofs.Names.{timeOf, true, valid-more, valid-none, version-taken, ℕ}
 use Rattle.join.proofs.Merging.{Comes, Fits, Line, Strict}
@@ -50,6 +52,11 @@ module _ (version : ℕ) (steps : List Step) where
   in-time (event s t) fits a = (a .in-order .0, a .in-order .0, clock-event s t steps)
   in-time (tick t) fits a = (omega (arith, a .later), a .later, clock-tick t steps)
   in-time close fits a = absurd fits
+
+  small : (s : Step) → Fits version s → timeOf s ≤ lastTime
+  small (event s t) fits = fits .1
+  small (tick t) fits = fits
+  small close fits = absurd fits
 
 -- its bytes are those of its step
 bytes-plain : (k t : ℕ) → k < firstColoured → callBytes (Call.Event k t) ≡ stepBytes (event k t)
@@ -100,7 +107,7 @@ module _ (bytes : List ℕ) where
       record {
         rest = s ∷ c .rest;
         is = c .is ∙ append-snoc before s (c .rest);
-        records = more there whole (bytes-call before (callAt bytes place) asked) (c .records);
+        records = more there whole (bytes-call before (callAt bytes place) asked) (small (at bytes 0) before s fits) (c .records);
         line = (timed .0, fits, subst (λ (n : ℕ). Line (at bytes 0) n (c .rest)) (timed .2) (c .line));
         strict = (timed .1, subst (λ (n : ℕ). Strict n (c .rest)) (timed .2) (c .strict));
         valid = c .valid;

@@ -1,5 +1,6 @@
 -- What the joined recording is: valid, of the higher version, and with the records of both.
-use Rattle.join.proofs.Names.{Interleaves, List, NoneInCommon, ReadsInOrder, Step, _<_, _^_, _≡_, arith, at, joined, joinedBytes, length, max}
+use Rattle.join.proofs.Names.{Interleaves, List, NoneInCommon, ReadsInOrder, Step, _<_, _^_, _≡_, arith, at, joined, joinedBytes, length}
+use Rattle.join.proofs.Names.{max}
 use Rattle.join.proofs.Names.{recording-of, refl, timesOf, without, ℕ}
 use Rattle.join.proofs.Merging.{joined-line, joined-valid, line-other}
 use Rattle.join.proofs.{Bytes.reads-back, Bytes.steps-few, Holding.joined-interleaves, Records.whole}

@@ -4,26 +4,40 @@ use clock::Clock;
 use constraint::Call;
 use constraint::JoinAnswer;
 use constraint::STREAM_COUNT;
-use recording::CallRead;
 ghost use mathlib.Core.Path.{_≡_};
-ghost use mathlib.Core.Bool.{true, false, cond, not, _&&_, _||_};
+ghost use mathlib.Core.Bool.{cond, _&&_};
 ghost use Prim.Native.Nat.{ℕ, _+_, _≤_, max};
-ghost use lib.Dec.{eqb, leb, ltb};
+ghost use lib.Dec.{eqb, ltb};
 ghost use lib.ListN.{length, set};
 ghost use lib.Seq.{sets};
 ghost use Rattle.constraint.specs.Steps.{at};
-ghost use Rattle.constraint.specs.Run.{stepFor};
-ghost use Rattle.constraint.specs.Joined.{timeOf, isDropped, AnswersJoin};
-ghost use mathlib.Core.List.{List};
-ghost use Rattle.recording.specs.Record.{ReadsCall};
-ghost use Rattle.join.specs.Walk.{callBytes, callKind, leftBytes, leftClock, Nexts, Walks, OutgrowsIn, firstCommon, Passes};
+ghost use Rattle.constraint.specs.Joined.{AnswersJoin};
+ghost use mathlib.Core.List.{List, [], _∷_};
+ghost use Rattle.constraint.specs.Bytes.{bytesOf};
+ghost use Rattle.join.specs.Walk.{callBytes, callKind, headFor, headFront, headBytes, isKept, HeadAt, Keeps, Nexts, Walks, OutgrowsIn};
+ghost use Rattle.join.specs.Walk.{RecordSize, firstCommon, Passes};
 
-// The record that comes next, if there is one: its call, and the places in both recordings behind it.
+// What the walk keeps of a record: how many bytes it has (0: there is none), its time, kind and colour. Where there is none, the time is later than
+// any.
+pub struct Head {
+    pub size: usize,
+    pub time: u64,
+    pub kind: u8,
+    pub colour: u8,
+}
+
+// The record that comes next, if there is one: its head, and the places in both recordings behind it.
 pub struct Next {
-    pub there: bool,
-    pub call: Call,
+    pub head: Head,
     pub first: usize,
     pub second: usize,
+}
+
+// Whether a record fits, the size of the joined recording behind it, and its clock.
+pub struct Kept {
+    pub fits: bool,
+    pub size: usize,
+    pub clock: u64,
 }
 
 // Whether a joined recording fits, and its size.
@@ -53,31 +67,6 @@ fn kind_of(call: Call) -> u8
     }
 }
 
-// The time of a call.
-fn time_of(call: Call) -> u64
-    ensures { λ r. ⌜ r ≡ timeOf (stepFor call) ⌝ }
-{
-    match call {
-        Call::Event { time, .. } => time,
-        Call::ColouredEvent { time, .. } => time,
-        Call::Tick { time } => time,
-        Call::Close => 0,
-    }
-}
-
-// §13.2
-// Whether a record is dropped: a tick that is not later than the clock.
-fn is_dropped(clock: u64, call: Call) -> bool
-    ensures { λ r. ⌜ r ≡ isDropped clock (stepFor call) ⌝ }
-{
-    match call {
-        Call::Event { .. } => false,
-        Call::ColouredEvent { .. } => false,
-        Call::Tick { time } => time <= clock,
-        Call::Close => false,
-    }
-}
-
 // How many bytes a record has.
 pub fn size_of(call: Call) -> usize
     ensures { λ r. ⌜ r ≡ length (callBytes call) ⌝ }
@@ -88,26 +77,6 @@ pub fn size_of(call: Call) -> usize
         Call::Tick { .. } => 10,
         Call::Close => 0,
     }
-}
-
-// How many are left of it at a clock.
-fn left_size(clock: u64, call: Call) -> usize
-    ensures { λ r. ⌜ r ≡ length (leftBytes clock call) ⌝ }
-{
-    if is_dropped(clock, call) {
-        return 0;
-    }
-    size_of(call)
-}
-
-// The clock behind it.
-fn left_clock(clock: u64, call: Call) -> u64
-    ensures { λ r. ⌜ r ≡ leftClock clock call ⌝ }
-{
-    if is_dropped(clock, call) {
-        return clock;
-    }
-    time_of(call)
 }
 
 // Stores a record's length, kind and colour in a buffer from a place on, and its time behind them.
@@ -132,55 +101,183 @@ pub fn put_call(buffer: &mut [u8], place: usize, call: Call)
     }
 }
 
-// Stores what is left of a record at a clock.
-fn put_left(buffer: &mut [u8], place: usize, clock: u64, call: Call)
-    requires { ⌜ place + length (leftBytes clock call) ≤ 18446744073709551615 ⌝ }
-    ensures { λ _. ⌜ now (buffer .exit) ≡ sets (now (buffer .entry)) place (leftBytes clock call) ⌝ }
+// The head of a call's record.
+fn head_of(call: Call) -> Head
+    ensures { λ r. ⌜ r ≡ headFor call ⌝ }
 {
-    if is_dropped(clock, call) {
-        return;
+    match call {
+        Call::Event { kind, time } => Head {
+            size: 11,
+            time,
+            kind,
+            colour: 0,
+        },
+        Call::ColouredEvent { kind, colour, time } => Head {
+            size: 12,
+            time,
+            kind,
+            colour,
+        },
+        Call::Tick { time } => Head {
+            size: 10,
+            time,
+            kind: 0,
+            colour: 0,
+        },
+        Call::Close => Head {
+            size: 0,
+            time: 18446744073709551615,
+            kind: 0,
+            colour: 0,
+        },
     }
-    put_call(buffer, place, call);
 }
 
-// Whether the first recording's record comes next: it is there, and the other is not or is no earlier.
-fn first_comes(there: bool, time: u64, other: bool, against: u64) -> bool
-    ensures { λ r. ⌜ r ≡ (there && (not other || leb time against)) ⌝ }
+// The head of the record at a place.
+fn head_at(bytes: &[u8], place: usize) -> Head
+    ensures { λ r. ⌜ HeadAt (now (bytes .entry)) place r ⌝ }
 {
-    there && (!other || time <= against)
+    let tick = recording::tick_at(bytes, place);
+    if tick.there {
+        return Head {
+            size: 10,
+            time: tick.time,
+            kind: 0,
+            colour: 0,
+        };
+    }
+    let record = recording::call_at(bytes, place);
+    let call = record.call;
+    head_of(call)
+}
+
+// §13.2
+// Whether a record is kept at a clock: all but the ticks that are not later.
+fn is_kept(clock: u64, head: Head) -> bool
+    ensures { λ r. ⌜ r ≡ isKept clock head ⌝ }
+{
+    if 10 < head.size {
+        return true;
+    }
+    clock < head.time
+}
+
+// The lowest byte of a number.
+fn low_byte(x: u64) -> u8
+    ensures { λ r. ⌜ r ∷ [] ≡ bytesOf 1 x ⌝ }
+{
+    (x & 255) as u8
+}
+
+// Stores the eight bytes of a number, for which there is room: a single store in machine code.
+fn put_eight_there(buffer: &mut [u8], place: usize, x: u64)
+    requires { ⌜ place + 8 ≤ length (now buffer) ⌝ }
+    ensures { λ _. ⌜ now (buffer .exit) ≡ sets (now (buffer .entry)) place (bytesOf 8 x) ⌝ }
+{
+    buffer[place] = low_byte(x >> 56);
+    buffer[place + 1] = low_byte(x >> 48);
+    buffer[place + 2] = low_byte(x >> 40);
+    buffer[place + 3] = low_byte(x >> 32);
+    buffer[place + 4] = low_byte(x >> 24);
+    buffer[place + 5] = low_byte(x >> 16);
+    buffer[place + 6] = low_byte(x >> 8);
+    buffer[place + 7] = low_byte(x);
+}
+
+// Stores what stands before a record's time, for which there is room.
+fn put_front(buffer: &mut [u8], place: usize, head: Head)
+    requires { ⌜ RecordSize head × (place + head .size ≤ length (now buffer)) ⌝ }
+    ensures { λ _. ⌜ now (buffer .exit) ≡ sets (now (buffer .entry)) place (headFront head) ⌝ }
+{
+    buffer[place] = 0;
+    buffer[place + 1] = (head.size - 2) as u8;
+    if head.size <= 10 {
+        return;
+    }
+    buffer[place + 2] = head.kind;
+    if head.size <= 11 {
+        return;
+    }
+    buffer[place + 3] = head.colour;
+}
+
+// Stores a record, for which there is room.
+fn put_record(buffer: &mut [u8], place: usize, head: Head)
+    requires { ⌜ RecordSize head × (place + head .size ≤ length (now buffer)) ⌝ }
+    ensures { λ _. ⌜ now (buffer .exit) ≡ sets (now (buffer .entry)) place (headBytes head) ⌝ }
+{
+    put_front(buffer, place, head);
+    put_eight_there(buffer, place + (head.size - 8), head.time);
+}
+
+// Stores a record within a limit, unless the buffer is shorter than that.
+fn put_within(buffer: &mut [u8], place: usize, limit: usize, head: Head)
+    requires { ⌜ RecordSize head × (place + head .size ≤ limit) ⌝ }
+    ensures { λ _. ⌜ (length (now (buffer .exit)) ≡ length (now (buffer .entry)))
+        × (limit ≤ length (now (buffer .entry)) → now (buffer .exit) ≡ sets (now (buffer .entry)) place (headBytes head)) ⌝ }
+{
+    if buffer.len() < limit {
+        return;
+    }
+    put_record(buffer, place, head);
+}
+
+// Keeps or drops a record behind the first `size` bytes of a joined recording.
+fn keep(buffer: &mut [u8], size: usize, limit: usize, clock: u64, head: Head) -> Kept
+    requires { ⌜ RecordSize head × (size ≤ limit) ⌝ }
+    ensures { λ r. ⌜ Keeps (now (buffer .entry)) size limit clock head r (now (buffer .exit)) ⌝ }
+{
+    if !is_kept(clock, head) {
+        return Kept {
+            fits: true,
+            size,
+            clock,
+        };
+    }
+    if limit - size < head.size {
+        return Kept {
+            fits: false,
+            size,
+            clock,
+        };
+    }
+    put_within(buffer, size, limit, head);
+    Kept {
+        fits: true,
+        size: size + head.size,
+        clock: head.time,
+    }
 }
 
 // §13.1
-// Which record comes next, where `a` is the record at a place in the first recording and `b` that at a place in the second.
-fn following(a: CallRead, b: CallRead, place: usize, other: usize) -> Next
-    ensures { λ r. ⌜ ((one two : List ℕ) → ReadsCall one place a → ReadsCall two other b → Nexts one two place other r) ⌝ }
+// Which record comes next, where `a` is the head of the record at a place in the first recording and `b` that at a place in the second.
+fn following(a: Head, b: Head, place: usize, other: usize) -> Next
+    requires { ⌜ (place + a .size ≤ 18446744073709551615) × (other + b .size ≤ 18446744073709551615) ⌝ }
+    ensures { λ r. ⌜ ((one two : List ℕ) → HeadAt one place a → HeadAt two other b → Nexts one two place other r)
+        × (r .first ≤ place + a .size) × (r .second ≤ other + b .size) ⌝ }
 {
-    let one = a.call;
-    let two = b.call;
-    if first_comes(a.number == 0, time_of(one), b.number == 0, time_of(two)) {
+    if b.time < a.time {
         return Next {
-            there: true,
-            call: one,
-            first: a.next,
-            second: other,
+            head: b,
+            first: place,
+            second: other + b.size,
         };
     }
     Next {
-        there: b.number == 0,
-        call: two,
-        first: place,
-        second: b.next,
+        head: a,
+        first: place + a.size,
+        second: other,
     }
 }
 
-// The record at the next place, where `a` is the record at a place: it is read again only if the place is another.
-fn read_again(bytes: &[u8], place: usize, next: usize, a: CallRead) -> CallRead
-    ensures { λ r. ⌜ (ReadsCall (now (bytes .entry)) place a → ReadsCall (now (bytes .entry)) next r) ⌝ }
+// The head at the next place, where `a` is that at a place: it is read only if the place is another.
+fn read_again(bytes: &[u8], place: usize, next: usize, a: Head) -> Head
+    ensures { λ r. ⌜ (HeadAt (now (bytes .entry)) place a → HeadAt (now (bytes .entry)) next r) ⌝ }
 {
     if next == place {
         return a;
     }
-    recording::call_at(bytes, next)
+    head_at(bytes, next)
 }
 
 // §13.3
@@ -194,8 +291,8 @@ fn version(first: &[u8], second: &[u8]) -> u8
 }
 
 // §13.2
-// The walk over both recordings: stores the joined one in the front of a buffer, as far as there is room; and stops where it has more bytes
-// than the limit.
+// The walk over both recordings: stores the joined one in the front of a buffer, unless that is shorter than the limit; and stops where the joined
+// one is longer than the limit.
 fn walk(first: &[u8], second: &[u8], buffer: &mut [u8], limit: usize) -> Walked
     ensures { λ r. ⌜ Walks (now (first .entry)) (now (second .entry)) (now (buffer .entry)) limit r (now (buffer .exit)) ⌝ }
 {
@@ -208,26 +305,25 @@ fn walk(first: &[u8], second: &[u8], buffer: &mut [u8], limit: usize) -> Walked
     big_endian::put_byte(buffer, 0, version(first, second));
     let mut place: usize = 1;
     let mut other: usize = 1;
-    let mut a = recording::call_at(first, place);
-    let mut b = recording::call_at(second, other);
+    let mut a = head_at(first, place);
+    let mut b = head_at(second, other);
     let mut clock: u64 = 0;
     let mut size: usize = 1;
     loop {
         let next = following(a, b, place, other);
-        if !next.there {
+        let head = next.head;
+        if head.size == 0 {
             return Walked { fits: true, size };
         }
-        let call = next.call;
-        let more = left_size(clock, call);
-        if limit - size < more {
+        let kept = keep(buffer, size, limit, clock, head);
+        if !kept.fits {
             return Walked {
                 fits: false,
                 size: 0,
             };
         }
-        put_left(buffer, size, clock, call);
-        size += more;
-        clock = left_clock(clock, call);
+        size = kept.size;
+        clock = kept.clock;
         a = read_again(first, place, next.first, a);
         b = read_again(second, other, next.second, b);
         place = next.first;
@@ -299,8 +395,10 @@ fn pass(bytes: &[u8], avoid: &[u8; 64]) -> Passed
         common = first_common(common, marked(avoid, kind), place);
         mark(&mut kinds, kind);
         let later = read.clock;
-        clock = later;
-        place = read.next;
+        let ticked = clock::ticks(bytes, read.next, later);
+        let latest = ticked.clock;
+        clock = latest;
+        place = ticked.place;
     }
     Passed {
         number: 0,
@@ -314,8 +412,8 @@ fn pass(bytes: &[u8], avoid: &[u8; 64]) -> Passed
 fn outgrows(first: &[u8], second: &[u8], limit: usize) -> bool
     ensures { λ r. ⌜ OutgrowsIn (now (first .entry)) (now (second .entry)) limit r ⌝ }
 {
-    if second.len() <= limit {
-        if first.len() < limit - second.len() {
+    if second.len() < limit {
+        if first.len() <= limit - second.len() {
             return false;
         }
     }

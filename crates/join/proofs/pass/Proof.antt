@@ -1,6 +1,6 @@
 -- The loop reads record after record: the kinds of those read are marked, and the first one to avoid is kept.
-use Rattle.join.proofs.Names.{_-_, arith, clockWith, failed, free, length, now, passed, version-refused}
-use Rattle.join.proofs.Passing.{PassedTo, pass-end, pass-more, pass-refused, pass-start}
+use Rattle.join.proofs.Names.{[], _-_, arith, clockWith, failed, free, length, now, passed, ticks-on, version-refused}
+use Rattle.join.proofs.Passing.{PassedTo, pass-end, pass-more, pass-refused, pass-start, pass-ticks}
 use Rattle.join.proofs.pass.Statement.{statement}
 use Rattle.join.proofs.pass.Tie as tie
 
@@ -39,23 +39,26 @@ returns-2 c =
 
 loop-less : tie.Need-loop-less Inv-loop μ-loop
 loop-less c =
-    let left = c .before .before .before .before .before .before in let at-read = left .before .before in let found = at-read .read .ensures in
+    let ticked = c .before in let left = ticked .before .before .before .before .before .before .before in
+    let found = left .before .before .read .ensures in
     let next = found .next-is (found .there (omega (arith, left .if2 .left))) in
-    omega (arith, next .0, next .1)
+    omega (arith, next .0, next .1, ticks-on (ticked .ticks .ensures []))
 
 loop-again : tie.Need-loop-again Inv-loop μ-loop
 loop-again c =
-    let marked = c .before in let common = marked .before .before in let avoided = common .before in let kind = avoided .before in
+    let ticked = c .before in
+    let marked = ticked .before .before in let common = marked .before .before in let avoided = common .before in let kind = avoided .before in
     let left = kind .before in
     let at-read = left .before .before in let at-loop = at-read .before .before .before in
     let args = at-loop .before .before .before .before .before .args in
-    pass-more (now (args .bytes)) (now (args .avoid)) (clockWith (at-loop .loop .clock) (at-loop .loop .next)) (at-loop .loop .kinds)
+    pass-ticks (now (args .bytes)) (now (args .avoid)) _ (common .first-common .result) (ticked .ticks .ensures _)
+    (pass-more (now (args .bytes)) (now (args .avoid)) (clockWith (at-loop .loop .clock) (at-loop .loop .next)) (at-loop .loop .kinds)
     (at-loop .loop .common) (at-loop .loop .place) (at-loop .loop .inv)
     (at-read .before .before .loop-test .taken) (at-read .read .result) _ (at-read .read .ensures) (omega (arith, left .if2 .left))
     (kind .kind-of .result)
     (avoided .marked .result)
     _ (common .first-common .result) (kind .kind-of .ensures) (avoided .marked .ensures) (marked .mark .ensures)
-    (common .first-common .ensures)
+    (common .first-common .ensures))
 
 returns-3 : tie.Need-returns-3 Inv-loop μ-loop
 returns-3 c =
@@ -68,4 +71,4 @@ returns-3 c =
     }
 
 pub pass-spec : {M : Type 1} → statement M
-pass-spec = tie.close (tie.spec Inv-loop μ-loop free returns free loop-holds free returns-2 free free free free loop-less loop-again returns-3)
+pass-spec = tie.close (tie.spec Inv-loop μ-loop free returns free loop-holds free returns-2 free free free free free loop-less loop-again returns-3)

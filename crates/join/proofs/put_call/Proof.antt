@@ -1,6 +1,6 @@
 -- Length field, kind and colour are stored first, and the time behind them.
 use Rattle.join.proofs.Names.{[], _∷_, arith, bytesOf, free, needs, now, refl}
-use Rattle.join.proofs.{Walking.stored-behind, put_call.Statement.statement}
+use Rattle.join.proofs.{Heads.stored-behind, put_call.Statement.statement}
 use Rattle.join.proofs.put_call.Tie as tie
 
 add-put-eight : tie.Need-add-put-eight

@@ -1,9 +1,9 @@
 -- Whatever the number of its type, a row's machine fits a row: each type's does, and so does that of no type.
 use Rattle.row.proofs.Names.{FitsRow, List, List·getD-eq-default, Machine, [], _+_, _<_, _∷_, _≡_, _≢_, _⊎_, arith, fits-none, getD, inl, inr}
-use Rattle.row.proofs.Names.{Bool, _%_, _∙_, ap, cond, eq-eqb, eqb, eqb-true, machineOf, machines, min, ne-eqb, noMachine, refl, split, suc}
+use Rattle.row.proofs.Names.{Bool, _%_, _∙_, ap, cond, eq-eqb, eqb, eqb-true, machineOf, machines, min, noMachine, refl, split, suc}
 use Rattle.row.proofs.Names.{sym, zero, ℕ}
 use Rattle.constraint.proofs.Library.{by-cases, decLt}
-use Rattle.row_type.specs.Words.{liveOf, typed}
+use Rattle.row_type.specs.Words.{liveOf}
 use Rattle.delay_order.proofs.Laws.Delay.{fitsDelay}
 use Rattle.delay_order.proofs.Laws.StrongDelay.{fitsStrongDelay}
 use Rattle.repeat_burst.proofs.Laws.Repeat.{fitsRepeat}
@@ -99,34 +99,30 @@ pub beyond : (n : ℕ) → 16 < n → machineOf n ≡ noMachine
 beyond n h = List·getD-eq-default machines noMachine {n = n} h
 
 -- it names the machine of the row's type
-same-machine : (tag : ℕ) → machineOf tag ≡ machineOf (typed tag % 32)
-same-machine zero = refl
-same-machine (suc n) =
-    by-cases (decLt (suc n) 32)
-    (λ small. rw (ne-eqb (suc n) 0 (λ z. absurd (omega (arith, z)))) (ap machineOf (at-most-31 (suc n) small)))
-    (λ large. rw (ne-eqb (suc n) 0 (λ z. absurd (omega (arith, z))))
-    (beyond (suc n) (omega (arith, large)) ∙ ap machineOf (from-31 (suc n) large)))
+same-machine : (tag : ℕ) → machineOf tag ≡ machineOf (min tag 30 % 32)
+same-machine tag =
+    by-cases (decLt tag 31) (λ small. ap machineOf (at-most-30 tag small))
+    (λ large. beyond tag (omega (arith, large)) ∙ ap machineOf (from-30 tag large))
   where
-    at-most-31 : (m : ℕ) → m < 32 → m ≡ min m 31 % 32
-    at-most-31 m h = omega (arith, h)
+    at-most-30 : (m : ℕ) → m < 31 → m ≡ min m 30 % 32
+    at-most-30 m h = omega (arith, h)
 
-    from-31 : (m : ℕ) → ¬ (m < 32) → 31 ≡ min m 31 % 32
-    from-31 m h = omega (arith, h)
+    from-30 : (m : ℕ) → ¬ (m < 31) → 30 ≡ min m 30 % 32
+    from-30 m h = omega (arith, h)
 
-typed-some : (tag : ℕ) → ¬ (typed tag % 32 ≡ 0)
-typed-some zero = λ z. absurd (omega (arith, z))
-typed-some (suc n) =
-    rw (ne-eqb (suc n) 0 (λ z. absurd (omega (arith, z)))) (λ z. absurd (omega (arith, z)))
-
-pub live-type : (tag broken : ℕ) → ¬ (liveOf tag broken % 32 ≡ 0) → (broken ≡ 0) × (machineOf tag ≡ machineOf (liveOf tag broken % 32))
+pub live-type : (tag broken : ℕ) → ¬ (liveOf tag broken % 32 ≡ 31) → (broken ≡ 0) × (machineOf tag ≡ machineOf (liveOf tag broken % 32))
 live-type tag broken =
     split (eqb broken 0)
-    (λ b. ¬ (cond b (typed tag) 0 % 32 ≡ 0) → (broken ≡ 0) × (machineOf tag ≡ machineOf (cond b (typed tag) 0 % 32)))
-    (λ e some. (eqb-true broken 0 e, same-machine tag)) (λ e some. absurd (some refl))
+    (λ b. ¬ (cond b (min tag 30) 31 % 32 ≡ 31) → (broken ≡ 0) × (machineOf tag ≡ machineOf (cond b (min tag 30) 31 % 32)))
+    (λ e other. (eqb-true broken 0 e, same-machine tag)) (λ e other. absurd (other refl))
 
--- it is 0 only where the row is broken
-pub live-none : (tag broken : ℕ) → liveOf tag broken % 32 ≡ 0 → ¬ (broken ≡ 0)
-live-none tag broken none is-open = typed-some tag (sym (ap (λ (b : Bool). cond b (typed tag) 0 % 32) (eq-eqb broken 0 is-open)) ∙ none)
+-- it is 31 only where the row is broken
+pub live-none : (tag broken : ℕ) → liveOf tag broken % 32 ≡ 31 → ¬ (broken ≡ 0)
+live-none tag broken none is-open =
+    below tag (sym (ap (λ (b : Bool). cond b (min tag 30) 31 % 32) (eq-eqb broken 0 is-open)) ∙ none)
+  where
+    below : (m : ℕ) → ¬ (min m 30 % 32 ≡ 31)
+    below m z = absurd (omega (arith, z))
 
 pub fits : (tag : ℕ) → FitsRow (machineOf tag)
 fits =

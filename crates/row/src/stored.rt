@@ -69,7 +69,7 @@ fn apply_by_type(row: &mut [[u64; SIZE]; 2], stream: u64, t: u64, number: u64)
 {
     let live = row[1][row_words::LIVE] % 32;
     match live {
-        0 => {}
+        31 => {}
         1 => delay::apply(row, stream, t, number),
         2 => strong_delay::apply(row, stream, t, number),
         3 | 5 => repeat::apply(row, stream, t, number),
@@ -85,8 +85,8 @@ fn apply_by_type(row: &mut [[u64; SIZE]; 2], stream: u64, t: u64, number: u64)
         14 => input_synchronization::apply(row, stream, t, number),
         15 => pattern::apply(row, stream, t, number),
         16 => arbitrary::apply(row, stream, t, number),
-        17 | 19 | 21 | 23 | 25 | 27 | 29 | 31 => row_words::break_at(row, t, number),
-        18 | 20 | 22 | 24 | 26 | 28 | 30 => row_words::break_at(row, t, number),
+        17 | 19 | 21 | 23 | 25 | 27 | 29 => row_words::break_at(row, t, number),
+        0 | 18 | 20 | 22 | 24 | 26 | 28 | 30 => row_words::break_at(row, t, number),
         _ => row_words::break_at(row, t, number),
     }
 }

@@ -29,12 +29,9 @@ pub record UndoRecord : Type 0 where
   pub second : ℕ
   pub step : ℕ
 
--- what an event dispatches on: the number of the row's type, or 31 for a larger one and for 0, which is no type's; 0 once the row is broken
-abbrev pub typed : ℕ → ℕ
-typed tag = cond (eqb tag 0) 31 (min tag 31)
-
+-- what an event dispatches on: the number of the row's type, or 30 for a larger one; 31 once the row is broken. In memory of zeros it is 0 (§15.13)
 abbrev pub liveOf : ℕ → ℕ → ℕ
-liveOf tag broken = cond (eqb broken 0) (typed tag) 0
+liveOf tag broken = cond (eqb broken 0) (min tag 30) 31
 
 unfoldable pub numberWords : Parameters → State → UndoRecord → List ℕ
 numberWords parameters state past =

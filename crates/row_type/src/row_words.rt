@@ -99,11 +99,8 @@ pub const UNDO_STEP: usize = 33;
 // The fifth kind of the constraint.
 pub const FIFTH: usize = 34;
 
-// The row's type while the row is not broken, and 0 once it is: what an event dispatches on.
+// What an event dispatches on: the row's type, or 31 once the row is broken.
 pub const LIVE: usize = 35;
-
-// The number of no type.
-const NO_TYPE: u64 = 31;
 
 // The constraint's numbers as a rule.
 pub fn parameters_at(w: &[u64; SIZE]) -> Parameters
@@ -188,17 +185,14 @@ pub fn save_undo_counts(row: &mut [[u64; SIZE]; 2])
     row[1][UNDO_FOUR] = four;
 }
 
-// Returns what an event of a row dispatches on: its type, and 0 once it is broken.
+// Returns what an event of a row dispatches on: its type, or 30 for a larger number, and 31 once it is broken.
 pub fn live_of(tag: u64, broken: u64) -> u64
     ensures { λ r. ⌜ r ≡ liveOf tag broken ⌝ }
 {
     if broken == 0 {
-        if tag == 0 {
-            return NO_TYPE;
-        }
-        return smaller(tag, NO_TYPE);
+        return smaller(tag, 30);
     }
-    0
+    31
 }
 
 // Why a row is broken, where an event breaks it.

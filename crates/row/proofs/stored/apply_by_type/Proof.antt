@@ -1,7 +1,7 @@
--- The word for the row's type picks the machine that `machineOf` does, and the type's function makes its change; the word is 0 of a broken row alone.
-use Rattle.row.proofs.Names.{Applies, Changes, List, Machine, [], _%_, _<_, _∙_, _≡_, _⊎_, ap, arith, changedWords, eq-eqb, getD, machineOf}
+-- The word for the row's type picks the machine that `machineOf` does, and the type's function makes its change; only of a broken row it is 31.
+use Rattle.row.proofs.Names.{Applies, Changes, List, Machine, [], _%_, _∙_, _≡_, _⊎_, ap, arith, changedWords, eq-eqb, getD, machineOf}
 use Rattle.row.proofs.Names.{Parameters, State, ne-eqb, needs, noMachine, now, numberWords, refl, ring, rowWords, sym, ℕ, ⊎-elim}
-use Rattle.row.proofs.{Machines.beyond, Machines.live-none, Machines.live-type, Machines.none-of, stored.apply_by_type.Statement.statement}
+use Rattle.row.proofs.{Machines.live-none, Machines.live-type, Machines.none-of, stored.apply_by_type.Statement.statement}
 use Rattle.row_type.specs.Words.{UndoRecord, liveOf}
 use Rattle.row.proofs.stored.apply_by_type.Tie as tie
 use Rattle.delay_order.specs.Delay.{machineDelay}
@@ -26,7 +26,7 @@ liveIn row = getD (getD row 1 []) 35 0
 
 -- what one machine makes of the words, where it is the one that is chosen
 by-type : (m : Machine) (entry exit : List (List ℕ)) (stream t number k : ℕ) → Applies (m .keeps) (m .decide) entry stream t number exit
-    → liveIn entry % 32 ≡ k → ¬ (k ≡ 0) → machineOf k ≡ m → Changes entry stream t number exit
+    → liveIn entry % 32 ≡ k → ¬ (k ≡ 31) → machineOf k ≡ m → Changes entry stream t number exit
 unfolding rowWords numberWords
 by-type m entry exit stream t number k made is some m-is parameters times state past e =
     let live : liveOf (parameters .tag) (state .broken) % 32 ≡ k = sym (ap (λ (row : List (List ℕ)). liveIn row % 32) e) ∙ is in
@@ -38,29 +38,43 @@ by-type m entry exit stream t number k made is some m-is parameters times state 
     ∙ rw (eq-eqb (state .broken) 0 (chosen .0)) refl
 
 -- a broken row stays
-shut : (entry : List (List ℕ)) (parameters : Parameters) (times : List ℕ) (state : State) (past : UndoRecord) → liveIn entry % 32 ≡ 0
+shut : (entry : List (List ℕ)) (parameters : Parameters) (times : List ℕ) (state : State) (past : UndoRecord) → liveIn entry % 32 ≡ 31
     → entry ≡ rowWords parameters times state past → ¬ (state .broken ≡ 0)
 unfolding rowWords numberWords
 shut entry parameters times state past is e =
     live-none (parameters .tag) (state .broken) (sym (ap (λ (row : List (List ℕ)). liveIn row % 32) e) ∙ is)
 
-stays-broken : (entry : List (List ℕ)) (stream t number : ℕ) → liveIn entry % 32 ≡ 0 → Changes entry stream t number entry
+stays-broken : (entry : List (List ℕ)) (stream t number : ℕ) → liveIn entry % 32 ≡ 31 → Changes entry stream t number entry
 stays-broken entry stream t number is parameters times state past e =
     rw (ne-eqb (state .broken) 0 (shut entry parameters times state past is e)) e
 
--- the numbers beyond those of the types, in two arms
-odd : (n : ℕ) → (n ≡ 17) ⊎ (n ≡ 19) ⊎ (n ≡ 21) ⊎ (n ≡ 23) ⊎ (n ≡ 25) ⊎ (n ≡ 27) ⊎ (n ≡ 29) ⊎ (n ≡ 31) → 16 < n
+-- the numbers of no type, in two arms
+abbrev NoType : ℕ → Type 0
+NoType n = (¬ (n ≡ 31)) × (machineOf n ≡ noMachine)
+
+is-none : (n k : ℕ) → n ≡ k → ¬ (k ≡ 31) → machineOf k ≡ noMachine → NoType n
+is-none n k e other none = ((λ z. other (sym e ∙ z)), ap machineOf e ∙ none)
+
+odd : (n : ℕ) → (n ≡ 17) ⊎ (n ≡ 19) ⊎ (n ≡ 21) ⊎ (n ≡ 23) ⊎ (n ≡ 25) ⊎ (n ≡ 27) ⊎ (n ≡ 29) → NoType n
 odd n =
-    ⊎-elim (λ e. omega (arith, e)) (⊎-elim (λ e. omega (arith, e)) (⊎-elim (λ e. omega (arith, e)) (⊎-elim (λ e. omega (arith, e))
-    (⊎-elim (λ e. omega (arith, e)) (⊎-elim (λ e. omega (arith, e)) (⊎-elim (λ e. omega (arith, e)) (λ e. omega (arith, e))))))))
+    ⊎-elim (λ e. is-none n 17 e (λ z. absurd (omega (arith, z))) refl)
+    (⊎-elim (λ e. is-none n 19 e (λ z. absurd (omega (arith, z))) refl)
+    (⊎-elim (λ e. is-none n 21 e (λ z. absurd (omega (arith, z))) refl)
+    (⊎-elim (λ e. is-none n 23 e (λ z. absurd (omega (arith, z))) refl)
+    (⊎-elim (λ e. is-none n 25 e (λ z. absurd (omega (arith, z))) refl)
+    (⊎-elim (λ e. is-none n 27 e (λ z. absurd (omega (arith, z))) refl)
+    (λ e. is-none n 29 e (λ z. absurd (omega (arith, z))) refl))))))
 
-even : (n : ℕ) → (n ≡ 18) ⊎ (n ≡ 20) ⊎ (n ≡ 22) ⊎ (n ≡ 24) ⊎ (n ≡ 26) ⊎ (n ≡ 28) ⊎ (n ≡ 30) → 16 < n
+even : (n : ℕ) → (n ≡ 0) ⊎ (n ≡ 18) ⊎ (n ≡ 20) ⊎ (n ≡ 22) ⊎ (n ≡ 24) ⊎ (n ≡ 26) ⊎ (n ≡ 28) ⊎ (n ≡ 30) → NoType n
 even n =
-    ⊎-elim (λ e. omega (arith, e)) (⊎-elim (λ e. omega (arith, e)) (⊎-elim (λ e. omega (arith, e)) (⊎-elim (λ e. omega (arith, e))
-    (⊎-elim (λ e. omega (arith, e)) (⊎-elim (λ e. omega (arith, e)) (λ e. omega (arith, e)))))))
-
-above : {n : ℕ} → 16 < n → ¬ (n ≡ 0)
-above h z = absurd (omega (arith, h, z))
+    ⊎-elim (λ e. is-none n 0 e (λ z. absurd (omega (arith, z))) refl)
+    (⊎-elim (λ e. is-none n 18 e (λ z. absurd (omega (arith, z))) refl)
+    (⊎-elim (λ e. is-none n 20 e (λ z. absurd (omega (arith, z))) refl)
+    (⊎-elim (λ e. is-none n 22 e (λ z. absurd (omega (arith, z))) refl)
+    (⊎-elim (λ e. is-none n 24 e (λ z. absurd (omega (arith, z))) refl)
+    (⊎-elim (λ e. is-none n 26 e (λ z. absurd (omega (arith, z))) refl)
+    (⊎-elim (λ e. is-none n 28 e (λ z. absurd (omega (arith, z))) refl)
+    (λ e. is-none n 30 e (λ z. absurd (omega (arith, z))) refl)))))))
 
 returns : tie.Need-returns
 returns c = let a = c .before .before .args in stays-broken (now (a .row)) (a .stream) (a .t) (a .number) (c .match .keys1)
@@ -162,15 +176,14 @@ returns-16 c =
 returns-17 : tie.Need-returns-17
 unfolding changedWords
 returns-17 c =
-    let a = c .before .before .before .before .args in let more = odd _ (c .before .before .match .keys17) in
-    by-type noMachine (now (a .row)) (c .break-at .last .0) (a .stream) (a .t) (a .number) _ (c .break-at .ensures) refl (above more) (beyond _ more)
+    let a = c .before .before .before .before .args in let none = odd _ (c .before .before .match .keys17) in
+    by-type noMachine (now (a .row)) (c .break-at .last .0) (a .stream) (a .t) (a .number) _ (c .break-at .ensures) refl (none .0) (none .1)
 
 returns-18 : tie.Need-returns-18
 unfolding changedWords
 returns-18 c =
-    let a = c .before .before .before .before .args in let more = even _ (c .before .before .match .keys18) in
-    by-type noMachine (now (a .row)) (c .break-at2 .last .0) (a .stream) (a .t) (a .number) _ (c .break-at2 .ensures) refl (above more)
-    (beyond _ more)
+    let a = c .before .before .before .before .args in let none = even _ (c .before .before .match .keys18) in
+    by-type noMachine (now (a .row)) (c .break-at2 .last .0) (a .stream) (a .t) (a .number) _ (c .break-at2 .ensures) refl (none .0) (none .1)
 
 returns-19 : tie.Need-returns-19
 unfolding changedWords

@@ -3,8 +3,8 @@
 use Rattle.row.proofs.Names.{RowUndo, Bool, Change, List, StepInput, Row, State, _&&_, _∙_, _≡_, ap, applied, appliedRow, arith, both}
 use Rattle.row.proofs.Names.{brokenByEvent, brokenRow, brokenState, changedWords, concerns, cond, editPlace, edited, endedRow}
 use Rattle.row.proofs.Names.{endedSaves, endedState, endsBy}
-use Rattle.row.proofs.Names.{eq-eqb, eqb, eventAt, eventKeeps, eventRow, eventSaves, false, keptAtPlace, savedRegisters, ltb, ltb-false}
-use Rattle.row.proofs.Names.{ltb-true}
+use Rattle.row.proofs.Names.{eq-eqb, eqb, eqb-true, eventAt, eventKeeps, eventRow, eventSaves, false, keptAtPlace, savedRegisters, ltb}
+use Rattle.row.proofs.Names.{ltb-false, ltb-true}
 use Rattle.row.proofs.Names.{mark, movesBy, ne-eqb, undoRecordOf, refl, ringOf, rowFrom, rowWords, savedAt, savedBy, split, stepKeeps}
 use Rattle.row.proofs.Names.{stepPlace}
 use Rattle.row.proofs.Names.{steppedRow, true, withChange, wordsOfRow, writesAt, ℕ}
@@ -31,6 +31,18 @@ module _ (r : Row) (b : RowUndo) (change : Change) (t number : ℕ) where
           rowWords (r .parameters) (q .times)
           (record { registers = change .registers; head = q .head; len = q .len; due = change .due; kept = mark (change .kept); broken = broken })
           (undoRecordOf (keptAtPlace r b at number))
+
+  -- a broken row stays as it is
+  pub event-words : cond (eqb (r .now .broken) 0)
+      (changedWords (savedRegisters (r .parameters .tag)) (r .parameters) (r .times) (r .now) (undoRecordOf b) change t number) (wordsOfRow r b)
+      ≡ wordsOfRow (cond (eqb (r .now .broken) 0) (withChange r change t number) r)
+      (cond (eqb (r .now .broken) 0) (cond (change .breaks) (savedAt r at number) (keptAtPlace r b at number)) b)
+  event-words =
+      split (eqb (r .now .broken) 0)
+      (λ x. cond x (changedWords (savedRegisters (r .parameters .tag)) (r .parameters) (r .times) (r .now) (undoRecordOf b) change t number)
+      (wordsOfRow r b) ≡ wordsOfRow (cond x (withChange r change t number) r)
+      (cond x (cond (change .breaks) (savedAt r at number) (keptAtPlace r b at number)) b))
+      (λ e. changed-words (eqb-true (r .now .broken) 0 e)) (λ _. refl)
 
 -- ---- what occurs
 

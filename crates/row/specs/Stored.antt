@@ -120,12 +120,14 @@ hintAfterRow r room = cond (ltb 62 (r .now .len)) (min room (64 - slotsUsedBy (r
 
 -- ---- what a function on a row's words promises, whatever row they are
 
--- what an event of one of its streams makes of them, by its type
+-- what an event of one of its streams makes of them, by its type, where the row is not broken
 abbrev pub Changes : List (List ℕ) → ℕ → ℕ → ℕ → List (List ℕ) → Type 0
 Changes entry stream t number exit =
     (parameters : Parameters) (times : List ℕ) (state : State) (past : UndoRecord) → entry ≡ rowWords parameters times state past
-    → exit ≡ changedWords (savedRegisters (parameters .tag)) parameters times state past
-    (decide parameters (state .registers) (ring times (state .head) (state .len)) stream t) t number
+    → exit ≡ cond (eqb (state .broken) 0)
+    (changedWords (savedRegisters (parameters .tag)) parameters times state past
+    (decide parameters (state .registers) (ring times (state .head) (state .len)) stream t) t number)
+    (rowWords parameters times state past)
 
 abbrev pub Becomes : List (List ℕ) → (Row → Row) → (Row → RowUndo → RowUndo) → List (List ℕ) → Type 0
 Becomes entry step saves exit = (r : Row) (b : RowUndo) → entry ≡ wordsOfRow r b → exit ≡ wordsOfRow (step r) (saves r b)

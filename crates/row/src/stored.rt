@@ -64,12 +64,14 @@ fn state_at(w: &[u64; SIZE]) -> State
     }
 }
 
-// What an event of one of its streams makes of the row, by its type; a row of no type breaks.
+// What an event of one of its streams makes of the row, by its type; a row of no type breaks, and a broken one stays as it is. The remainder bounds
+// the number, and an arm for each below the bound lets the dispatch do without a test.
 fn apply_by_type(row: &mut [[u64; SIZE]; 2], stream: u64, t: u64, number: u64)
     ensures { λ _. ⌜ Changes (now (row .entry)) stream t number (now (row .exit)) ⌝ }
 {
-    let tag = row[1][row_words::TYPE_TAG];
-    match tag {
+    let live = row[1][row_words::LIVE] % 32;
+    match live {
+        31 => {}
         1 => delay::apply(row, stream, t, number),
         2 => strong_delay::apply(row, stream, t, number),
         3 | 5 => repeat::apply(row, stream, t, number),
@@ -85,6 +87,8 @@ fn apply_by_type(row: &mut [[u64; SIZE]; 2], stream: u64, t: u64, number: u64)
         14 => input_synchronization::apply(row, stream, t, number),
         15 => pattern::apply(row, stream, t, number),
         16 => arbitrary::apply(row, stream, t, number),
+        17 | 19 | 21 | 23 | 25 | 27 | 29 => row_words::break_at(row, t, number),
+        0 | 18 | 20 | 22 | 24 | 26 | 28 | 30 => row_words::break_at(row, t, number),
         _ => row_words::break_at(row, t, number),
     }
 }
@@ -131,9 +135,7 @@ fn break_for(row: &mut [[u64; SIZE]; 2], time: u64, closes: bool, number: u64)
 pub fn event(row: &mut [[u64; SIZE]; 2], stream: u64, t: u64, number: u64)
     ensures { λ _. ⌜ Becomes (now (row .entry)) (eventRow (eventAt stream t) number) (eventKeeps (eventAt stream t) number) (now (row .exit)) ⌝ }
 {
-    if row[1][row_words::BROKEN] == 0 {
-        apply_by_type(row, stream, t, number);
-    }
+    apply_by_type(row, stream, t, number);
 }
 
 // The row where the clock or the close alone goes to it, which is the step of that number.
@@ -190,6 +192,7 @@ fn put_parameters(w: &mut [u64; SIZE], parameters: Parameters)
     w[row_words::JITTER] = parameters.jitter;
     w[row_words::MINIMUM] = parameters.minimum;
     w[row_words::FIFTH] = parameters.fifth;
+    w[row_words::LIVE] = row_words::live_of(parameters.tag, 0);
 }
 
 // What a row keeps is put into its numbers.
@@ -207,6 +210,7 @@ fn put_state(w: &mut [u64; SIZE], state: State)
     w[row_words::DUE] = state.due;
     w[row_words::KEPT] = state.kept;
     w[row_words::BROKEN] = state.broken;
+    w[row_words::LIVE] = row_words::live_of(w[row_words::TYPE_TAG], state.broken);
 }
 
 // So is what is kept of it.

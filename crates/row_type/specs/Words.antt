@@ -1,10 +1,11 @@
 -- The words of a row where it lies: two arrays of 64. The one is the ring of its times; the other has its constraint's numbers, what it keeps, what
 -- it kept before its last step, and what that step overwrote in the ring (§3.13).
-use Prim.Native.Nat.{ℕ}
+use Prim.Native.Nat.{ℕ, min}
 use mathlib.Core.Path.{_≡_}
 use mathlib.Core.Bool.{Bool, cond}
 use mathlib.Core.List.{List, [], _∷_}
 use lib.ListN.{getD, replicate}
+use lib.Dec.{eqb}
 use Rattle.constraint.specs.Limits.{noLimit}
 use Rattle.ring.specs.Ring.{Ring, ringOf, ring, edited, editPlace, timeAt, secondAt}
 use Rattle.ring.specs.declared.Edit.{Edit}
@@ -18,7 +19,7 @@ use Rattle.row_type.specs.declared.Change.{Change}
 
 -- the places after the last number are 0
 abbrev pub spare : List ℕ
-spare = replicate 29 0
+spare = replicate 28 0
 
 -- what a row was before its last step: what it kept, where the step wrote into its ring and the words there, and the number of that step
 pub record UndoRecord : Type 0 where
@@ -27,6 +28,10 @@ pub record UndoRecord : Type 0 where
   pub first : ℕ
   pub second : ℕ
   pub step : ℕ
+
+-- what an event dispatches on: the number of the row's type, or 30 for a larger one; 31 once the row is broken. In memory of zeros it is 0 (§15.13)
+abbrev pub liveOf : ℕ → ℕ → ℕ
+liveOf tag broken = cond (eqb broken 0) (min tag 30) 31
 
 unfoldable pub numberWords : Parameters → State → UndoRecord → List ℕ
 numberWords parameters state past =
@@ -37,7 +42,8 @@ numberWords parameters state past =
     ∷ past .state .registers .last ∷ past .state .registers .first ∷ past .state .registers .second ∷ past .state .registers .third
     ∷ past .state .registers .fourth
     ∷ past .state .head ∷ past .state .len ∷ past .state .due ∷ past .state .kept ∷ past .state .broken
-    ∷ past .place ∷ past .first ∷ past .second ∷ past .step ∷ parameters .fifth ∷ spare
+    ∷ past .place ∷ past .first ∷ past .second ∷ past .step ∷ parameters .fifth
+    ∷ liveOf (parameters .tag) (state .broken) ∷ spare
 
 unfoldable pub rowWords : Parameters → List ℕ → State → UndoRecord → List (List ℕ)
 rowWords parameters times state past = times ∷ numberWords parameters state past ∷ []

@@ -3,6 +3,7 @@ use crate::Parameters;
 use crate::Registers;
 use crate::parts::due_after;
 use crate::parts::plus;
+use crate::parts::smaller;
 use constraint::NO_LIMIT;
 use ring::SIZE;
 use ring::head_after;
@@ -18,7 +19,7 @@ ghost use Rattle.row_type.specs.declared.Parameters.{Parameters};
 ghost use Rattle.row_type.specs.declared.Registers.{Registers};
 ghost use Rattle.row_type.specs.Words.{parametersAt, registersAt, brokenAt, settled, lastSaved, firstThreeSaved, countsSaved};
 ghost use Rattle.row_type.specs.Words.{NumbersBecome, numbersSaved, SavesUndoRegisters, SavesUndo, SavesUndoAll, BreaksRow, Edits};
-ghost use Rattle.row_type.specs.Words.{MakesWaiting};
+ghost use Rattle.row_type.specs.Words.{MakesWaiting, liveOf};
 ghost use Rattle.ring.specs.declared.Edit.the-variants.{Drop, Push, PushTwo, Store};
 
 // The constraint's numbers.
@@ -94,6 +95,9 @@ pub const UNDO_STEP: usize = 33;
 
 // The fifth kind of the constraint.
 pub const FIFTH: usize = 34;
+
+// What an event dispatches on: the row's type, or 31 once the row is broken.
+pub const LIVE: usize = 35;
 
 // The constraint's numbers as a rule.
 pub fn parameters_at(w: &[u64; SIZE]) -> Parameters
@@ -178,6 +182,16 @@ pub fn save_undo_counts(row: &mut [[u64; SIZE]; 2])
     row[1][UNDO_FOUR] = four;
 }
 
+// Returns what an event of a row dispatches on: its type, or 30 for a larger number, and 31 once it is broken.
+pub fn live_of(tag: u64, broken: u64) -> u64
+    ensures { λ r. ⌜ r ≡ liveOf tag broken ⌝ }
+{
+    if broken == 0 {
+        return smaller(tag, 30);
+    }
+    31
+}
+
 // Why a row is broken, where an event breaks it.
 pub const BY_EVENT: u64 = 2;
 
@@ -195,6 +209,7 @@ fn break_numbers(w: &mut [u64; SIZE], t: u64, number: u64)
     w[DUE] = NO_LIMIT;
     w[KEPT] = t;
     w[BROKEN] = number;
+    w[LIVE] = live_of(w[TYPE_TAG], number);
 }
 
 // What the row is but for its marks becomes its past, before the step of that number, which overwrites words at a place.

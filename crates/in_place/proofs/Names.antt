@@ -19,7 +19,7 @@ pub use Rattle.in_place.specs.Steps.{OnStream, Stores, answerTo, allRows
 pub use Rattle.in_place.specs.Steps.{recordedOn, recordedTo, crowded}
 pub use Rattle.in_place.specs.Steps.{crowdedAt, crowdedOn, clockAppliedAt, clockApplied, leaves, leftAfter, leftOn, nextNumber}
 pub use Rattle.in_place.specs.Steps.{numberOf, rowsExpired}
-pub use Rattle.in_place.specs.Steps.{refusalIn, soonestAll, soonestOf, restoredMonitor}
+pub use Rattle.in_place.specs.Steps.{refusalIn, soonestAll, soonestOf, soonestOfFour, restoredMonitor, upToFour}
 pub use Rattle.in_place.specs.Steps.{dispatchedTo, dispatched, dueCounted, fullMarked}
 pub use Rattle.in_place.specs.Steps.{withClosed, withFull, withMonitor, withNext, withRow, withSoonest, withdrawnLent, withoutAsked}
 pub use lib.Bits.{bitAnd, bitOr}

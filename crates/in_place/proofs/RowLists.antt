@@ -8,7 +8,7 @@ use Rattle.in_place.proofs.Names.{le-ltb, length, ltb, ltb-false, ltb-t
 use Rattle.in_place.proofs.Names.{refl}
 use Rattle.in_place.proofs.Names.{rowAt, rowsIn, rowsOfKind, parameters-stays, saved-few, setOf, soonestAll, soonestOf, split, step-few, still}
 use Rattle.in_place.proofs.Names.{subst, suc}
-use Rattle.in_place.proofs.Names.{sym, true, withFull, withRows, withSoonest, zero, zip-length, zipFirst, ℕ}
+use Rattle.in_place.proofs.Names.{sym, true, upToFour, withFull, withRows, withSoonest, zero, zip-length, zipFirst, ℕ}
 use Rattle.in_place.proofs.Concerned.{applied-late, applied-moved, ended-late, late, late-first, late-saves, late-saves-first, late-still}
 use Rattle.in_place.proofs.Concerned.{late-unsaved, moved, no-ends, saved-late, saves, unconcerned, unsaved}
 use Rattle.in_place.proofs.RowByRow.{Beside, map-length, map-twice, mapped, row-more, row-none, same-beside, visits, visits-lists, visits-same}
@@ -207,7 +207,7 @@ module _ (c : Lent) (full : ℕ) (ix : Indexes (withFull c full)) (o : StepInput
         split (ltb (c .soonest) (o .time)) (λ b. ltb (c .soonest) (o .time) ≡ b → Applied (cond b (rowsExpired c o) c))
         (λ _ _. split (ltb (soonestAll c) (o .time))
         (λ b. ltb (soonestAll c) (o .time) ≡ b → Applied (cond b (withSoonest (clockApplied c n o (m .count)) 0) (withSoonest c (soonestAll c))))
-        (λ _ _. some-late) (λ _ e. not-late (soonestAll c) going e (soonest-least (m .rows) n)) refl)
+        (λ _ _. some-late) (λ _ e. not-late (soonestAll c) going e (λ i k. soonest-least (m .rows) (upToFour n) i (omega (arith, k)))) refl)
         (λ _ e. not-late (c .soonest) going e (ix .no-sooner)) refl
 
   -- ---- the words agree with the monitor after the step

@@ -1,5 +1,5 @@
 -- What a call and a withdrawal make of a lent monitor, part by part.
-use Prim.Native.Nat.{ℕ, zero, suc, _-_, _^_, _≤_, _<_, min}
+use Prim.Native.Nat.{ℕ, zero, suc, _+_, _-_, _*_, _/_, _^_, _≤_, _<_, min}
 use mathlib.Core.Path.{_≡_}
 use mathlib.Core.Bool.{Bool, true, false, cond, _||_}
 use mathlib.Core.List.{List, [], _∷_}
@@ -86,6 +86,12 @@ clockApplied h (suc n) o number = clockAppliedAt (clockApplied h n o number) n o
 abbrev pub soonestOf : List Row → ℕ → ℕ
 soonestOf rows zero = noLimit
 soonestOf rows (suc n) = min (soonestOf rows n) (getD rows n noRow .now .due)
+
+-- the soonest due time of four rows from one on
+abbrev pub soonestOfFour : List Row → ℕ → ℕ
+soonestOfFour rows i =
+    min (min (getD rows i noRow .now .due) (getD rows (i + 1) noRow .now .due))
+    (min (getD rows (i + 2) noRow .now .due) (getD rows (i + 3) noRow .now .due))
 
 -- ---- a withdrawal goes to all rows
 
@@ -176,8 +182,12 @@ nextNumber h = plus (h .monitor .count) 1
 
 -- ---- an event of a stream that is answered with no number but 12
 
+-- of all rows; they are read four at a time, so up to three places behind the last row are read as well
+abbrev pub upToFour : ℕ → ℕ
+upToFour n = (n + 3) / 4 * 4
+
 abbrev pub soonestAll : Lent → ℕ
-soonestAll h = soonestOf (h .monitor .rows) (heldRows (h .monitor))
+soonestAll h = soonestOf (h .monitor .rows) (upToFour (heldRows (h .monitor)))
 
 -- the rows to which the clock goes, where one may be overdue; where by their due times there is none, the soonest of these is stored
 abbrev pub rowsExpired : Lent → StepInput → Lent

@@ -10,11 +10,13 @@ use row::stored;
 use row_type::parts::smaller;
 use row_type::row_words::DUE;
 use row_type::row_words::LEN;
-ghost use Prim.Native.Nat.{_<_, _≤_, _^_};
+ghost use Prim.Native.Nat.{_+_, _-_, _<_, _≤_, _^_};
+ghost use lib.Bits.{bitAnd};
 ghost use mathlib.Core.Path.{_≡_};
 ghost use Rattle.row.specs.Machine.{eventAt};
 ghost use Rattle.in_place.specs.Layout.{Lent, wordsOfLent, Shaped, rowsIn};
-ghost use Rattle.in_place.specs.Steps.{Updates, fullMarked, dispatched, kindApplied, clockApplied, soonestOf, crowded, rowsUndone};
+ghost use Rattle.in_place.specs.Steps.{Updates, Computes, fullMarked, dispatched, kindApplied, clockApplied, crowded, rowsUndone};
+ghost use Rattle.in_place.specs.Steps.{soonestOf, soonestOfFour, upToFour};
 
 // A row with at most as many waiting has room for two more words.
 const NEARLY_FULL: u64 = 62;
@@ -22,13 +24,13 @@ const NEARLY_FULL: u64 = 62;
 // A set of rows is a number below it: the remainder of a word is one, whatever the word says.
 pub(crate) const SETS: u64 = 4294967296;
 
-// Marks a row as nearly full if it is. `bit` is the set of this row alone.
-fn mark_full(m: &mut Words, i: usize, bit: u32)
-    requires { ⌜ (i < 32) × (bit ≡ 2 ^ i) ⌝ }
+// Marks row i, the lowest of a set, as nearly full if it is.
+fn mark_full(m: &mut Words, i: usize, left: u32)
+    requires { ⌜ (i < 32) × (0 < left) × (left ≡ bitAnd left (left - 1) + 2 ^ i) ⌝ }
     ensures { λ _. ⌜ Updates (now (m .entry)) (λ h. fullMarked h i) (now (m .exit)) ⌝ }
 {
     if NEARLY_FULL < m[i][1][LEN] {
-        m[NUMBERS][0][FULL] = m[NUMBERS][0][FULL] | bit as u64;
+        m[NUMBERS][0][FULL] = m[NUMBERS][0][FULL] | (left - (left & (left - 1))) as u64;
     }
 }
 
@@ -42,7 +44,7 @@ fn dispatch_rows(m: &mut Words, rows: u32, stream: u64, t: u64, number: u64)
         let i = u32::trailing_zeros(left) as usize;
         stored::event(&mut m[i], stream, t, number);
         soonest = smaller(soonest, m[i][1][DUE]);
-        mark_full(m, i, left - (left & (left - 1)));
+        mark_full(m, i, left);
         left = left & (left - 1);
     }
     m[NUMBERS][0][SOONEST] = soonest;
@@ -73,16 +75,26 @@ pub(crate) fn rows_overflow(m: &Words, rows: u32, stream: u64, t: u64) -> bool
     false
 }
 
-// Returns the earliest deadline of the first n rows.
+// Returns the earliest deadline of four rows from i on.
+fn soonest_of_four(m: &Words, i: usize) -> u64
+    requires { ⌜ i ≤ 28 ⌝ }
+    ensures { λ r. ⌜ Computes (now (m .entry)) (λ h. soonestOfFour (h .monitor .rows) i) r ⌝ }
+{
+    let one = smaller(m[i][1][DUE], m[i + 1][1][DUE]);
+    let two = smaller(m[i + 2][1][DUE], m[i + 3][1][DUE]);
+    smaller(one, two)
+}
+
+// Returns the earliest deadline of the first n rows, and of those up to the next place that four divides.
 pub(crate) fn soonest(m: &Words, n: usize) -> u64
     requires { ⌜ n ≤ 32 ⌝ }
-    ensures { λ r. ⌜ ((h : Lent) → now (m .entry) ≡ wordsOfLent h → Shaped h → r ≡ soonestOf (h .monitor .rows) n) ⌝ }
+    ensures { λ r. ⌜ Computes (now (m .entry)) (λ h. soonestOf (h .monitor .rows) (upToFour n)) r ⌝ }
 {
     let mut time = NO_LIMIT;
     let mut i = 0;
     while i < n {
-        time = smaller(time, m[i][1][DUE]);
-        i += 1;
+        time = smaller(time, soonest_of_four(m, i));
+        i += 4;
     }
     time
 }

@@ -7,7 +7,7 @@ use Rattle.in_place.proofs.Parts.{number-at, shaped-full, shaped-row, s
 use Rattle.in_place.proofs.{Blocks.row-lies, Blocks.row-stored, RowSets.Lowest, RowSets.lowest, RowSets.no-rows, RowSets.rows-first}
 use Rattle.in_place.proofs.rows.dispatch_rows.Statement.{statement}
 use Rattle.row.specs.Stored as Stored
-use lib.Bits.{and-le-l, and-le-r}
+use lib.Bits.{and-le-r}
 use lib.Count.{trailingZeros}
 use Rattle.in_place.proofs.rows.dispatch_rows.Tie as tie
 
@@ -90,15 +90,14 @@ returns c h e s =
     ∙ ap (λ (rows : List ℕ). dispatched x rows o (a .number)) no-rows))
 
 mark-full-requires : tie.Need-mark-full-requires Inv-loop μ-loop
-mark-full-requires c κs = let d = low (c .before .before .before .before .before) in (d .below, omega (arith, d .apart))
+mark-full-requires c κs =
+    let l = c .before .before .before .before .before in (low l .below, omega (arith, l .loop-test .taken), low l .apart)
 
 pub dispatch-rows-spec : {M : Type 1} → statement M
 dispatch-rows-spec =
     tie.close (tie.spec Inv-loop μ-loop (λ c. search needs) (λ c. search needs) (λ c. search needs) loop-holds (λ c. omega (arith, low c .below))
     (λ c. omega (arith, low c .below)) (λ c. omega (arith, low c .below)) (λ c κs. search needs)
     (λ c. omega (arith, low (c .before .before) .below)) (λ c. omega (arith, low (c .before .before) .below)) (λ c. search needs) (λ c. search needs)
-    (λ c κs. tt) (λ c. omega arith)
-    (λ c. let left = c .before .before .before .before .before .before .loop .left in omega (arith, and-le-l left (left - 1)))
-    mark-full-requires (λ c. omega arith)
+    (λ c κs. tt) mark-full-requires (λ c. omega arith)
     (λ c. let left = c .before .before .before .before .before .before .before .loop .left in omega (arith, and-le-r left (left - 1)))
     loop-again (λ c. search needs) (λ c. search needs) (λ c. search needs) returns)

@@ -15,7 +15,8 @@ returns c h e s =
     let t = c .before in let o = t .before .before .before in let st = o .before .before .before in let a = st .args in
     let m = now (a .m) in
     c .smaller3 .ensures
-    ∙ ap₂ min (o .smaller .ensures ∙ ap₂ min (due-read h s m e (a .i) (omega (arith, st .pre))) (due-read h s m e (a .i + 1) (omega (arith, st .pre))))
+    ∙ ap₂ min
+    (o .smaller .ensures ∙ ap₂ min (due-read h s m e (a .i) (omega (arith, st .pre))) (due-read h s m e (a .i + 1) (omega (arith, st .pre))))
     (t .smaller2 .ensures ∙ ap₂ min (due-read h s m e (a .i + 2) (omega (arith, st .pre))) (due-read h s m e (a .i + 3) (omega (arith, st .pre))))
 
 pub soonest-of-four-spec : {M : Type 1} → statement M

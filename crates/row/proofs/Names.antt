@@ -5,7 +5,7 @@ pub use Rattle.constraint.proofs.Library.{Bool, List, List·getD-eq-default, []
 pub use Rattle.constraint.proofs.Library.{append-nil, arith, cond, drop, eq-eqb, eqb, eqb-false, eqb-true, false, getD, inl, inr, le-ltb, length}
 pub use Rattle.constraint.proofs.Library.{length-append, length-drop, length-set, lt-ltb, ltb, ltb-false, ltb-true, ne-eqb, needs, not-false}
 pub use Rattle.constraint.proofs.Library.{length-replicate, length-take-le, not-true, now, refl, replicate, set, subst, suc, sym, take, true, zero, ℕ}
-pub use Rattle.constraint.proofs.Library.{_%_, ⊎-elim}
+pub use Rattle.constraint.proofs.Library.{_%_, min, ⊎-elim}
 pub use Rattle.constraint.proofs.{Continuations.continues-closed, Continuations.meets-same, Continuations.open-at-tick, Lists.both, Lists.split}
 pub use Rattle.constraint.proofs.{Streams.among-kinds, Streams.among-where, Streams.kind-small, Streams.streams, Verdicts.broken-later}
 pub use Rattle.constraint.proofs.Lengths.{few-kinds}

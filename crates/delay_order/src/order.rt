@@ -42,7 +42,8 @@ pub fn apply(row: &mut [[u64; SIZE]; 2], stream: u64, t: u64, number: u64)
 
 // Sources are beyond, and no target is.
 fn wait_for_target(w: &mut [u64; SIZE], ahead: u64)
-    ensures { λ _. ⌜ NumbersBecome (λ state past. goingOn state (ringOf [] (state .head) (state .len)) (withAhead (state .registers) ahead) noLimit false)
+    ensures { λ _. ⌜ NumbersBecome
+        (λ state past. goingOn state (ringOf [] (state .head) (state .len)) (withAhead (state .registers) ahead) noLimit false)
         (λ state past. past) (now (w .entry)) (now (w .exit)) ⌝ }
 {
     row_words::settle(w, NO_LIMIT, 0);

@@ -1,6 +1,6 @@
 -- The oldest of the times that a row keeps, and the due time that it gives: by cases on the list.
-use Rattle.row_type.proofs.Names.{Each, List, Rising, [], _++_, _+_, _<_, _∙_, _∷_, _≡_, _≤_, arith, at, drop, dueOldest, dueOr, each-cons}
-use Rattle.row_type.proofs.Names.{each-none, eq-eqb, eqb, false, front, lastTime, le-leb, leb, leb-same, length, lt-leb, ne-eqb, none-left}
+use Rattle.row_type.proofs.Names.{Each, List, Rising, [], _++_, _+_, _<_, _∷_, _≡_, _≤_, arith, at, drop, dueOldest, dueOr, each-cons}
+use Rattle.row_type.proofs.Names.{each-none, eq-eqb, eqb, false, front, lastTime, length, ne-eqb, none-left}
 use Rattle.row_type.proofs.Names.{plus, refl, ring, ring-cons, ring-length, suc, sym, timeAt, zero, ℕ}
 
 -- ---- the oldest time
@@ -20,13 +20,6 @@ none-left-length (t ∷ times) n e = ne-eqb n 0 (λ z. omega arith)
 pub none-left-ring : (l : List ℕ) (f n : ℕ) → none-left (ring l f n) ≡ eqb n 0
 none-left-ring l f n = sym (none-left-length (ring l f n) n (ring-length l f n))
 
-pub none-left-dropped : (times : List ℕ) (n d : ℕ) → length times ≡ n → leb n d ≡ none-left (drop d times)
-none-left-dropped [] n zero e = le-leb n 0 (omega arith)
-none-left-dropped [] n (suc d) e = le-leb n (suc d) (omega arith)
-none-left-dropped (t ∷ times) n zero e = lt-leb n 0 (omega arith)
-none-left-dropped (t ∷ times) zero (suc d) e = absurd (omega arith)
-none-left-dropped (t ∷ times) (suc n) (suc d) e = leb-same (suc n) (suc d) n d (omega arith) (omega arith) ∙ none-left-dropped times n d (omega arith)
-
 pub none-left-pushed : (times : List ℕ) (t : ℕ) → none-left (times ++ (t ∷ [])) ≡ false
 none-left-pushed [] t = refl
 none-left-pushed (s ∷ times) t = refl
@@ -36,10 +29,6 @@ none-left-pushed (s ∷ times) t = refl
 pub due-or-pushed : (upper t : ℕ) (times : List ℕ) → dueOr (plus t upper) upper times ≡ dueOldest upper (times ++ (t ∷ []))
 due-or-pushed upper t [] = refl
 due-or-pushed upper t (s ∷ times) = refl
-
-pub due-front : (upper t : ℕ) (times : List ℕ) → plus (front (times ++ (t ∷ []))) upper ≡ dueOldest upper (times ++ (t ∷ []))
-due-front upper t [] = refl
-due-front upper t (s ∷ times) = refl
 
 -- the times rise, so a clock that is not past it is past that of none
 pub due-each : (upper t : ℕ) (times : List ℕ) → Rising times → t ≤ dueOldest upper times → Each (λ s. t ≤ s + upper) times

@@ -8,11 +8,10 @@ use ring::time_at;
 ghost use mathlib.Core.Path.{_≡_};
 ghost use Prim.Native.Nat.{_+_, _-_, min, max};
 ghost use lib.Dec.{leb};
-ghost use mathlib.Core.List.{[], _∷_, _++_};
 ghost use lib.ListN.{drop, getD};
 ghost use Rattle.constraint.specs.Streams.{kindOf};
 ghost use Rattle.ring.specs.Ring.{ring};
-ghost use Rattle.row_type.specs.Parts.{plus, farEnough, front, noRegisters};
+ghost use Rattle.row_type.specs.Parts.{plus, farEnough, front, dueOr, noRegisters};
 
 // a + b, or the largest number where that is more.
 pub fn plus(a: u64, b: u64) -> u64
@@ -84,14 +83,21 @@ pub fn front(times: &[u64; SIZE], head: usize, len: usize) -> u64
     time_at(times, head, 0)
 }
 
-// The oldest of the times once some have left and t has come.
-pub fn oldest_with(times: &[u64; SIZE], head: usize, len: usize, dropped: usize, t: u64) -> u64
-    ensures { λ r. ⌜ r ≡ front (drop dropped (ring (now (times .entry)) head len) ++ (t ∷ [])) ⌝ }
+// The due time that the oldest time gives once some have left, where one is left; else another.
+pub fn due_after(
+    upper: u64,
+    times: &[u64; SIZE],
+    head: usize,
+    len: usize,
+    dropped: usize,
+    otherwise: u64,
+) -> u64
+    ensures { λ r. ⌜ r ≡ dueOr otherwise upper (drop dropped (ring (now (times .entry)) head len)) ⌝ }
 {
     if dropped < len {
-        return time_at(times, head, dropped);
+        return plus(time_at(times, head, dropped), upper);
     }
-    t
+    otherwise
 }
 
 // The marks before any event.

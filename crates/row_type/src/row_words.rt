@@ -1,7 +1,7 @@
 // A row where it lies, in two arrays of 64 words: the ring of its times, and its numbers. What every row type does to them.
 use crate::Parameters;
 use crate::Registers;
-use crate::parts::oldest_with;
+use crate::parts::due_after;
 use crate::parts::plus;
 use crate::parts::smaller;
 use constraint::NO_LIMIT;
@@ -343,7 +343,7 @@ pub fn one_more_waits(row: &mut [[u64; SIZE]; 2], dropped: usize, t: u64, number
     let head = row[1][HEAD] as usize;
     let len = row[1][LEN] as usize;
     let upper = row[1][UPPER];
-    let due = plus(oldest_with(&row[0], head, len, dropped, t), upper);
+    let due = due_after(upper, &row[0], head, len, dropped, plus(t, upper));
     push_one(row, dropped, t, number);
     row[1][DUE] = due;
     row[1][KEPT] = 0;
@@ -358,7 +358,7 @@ pub fn newest_for_oldest(row: &mut [[u64; SIZE]; 2], t: u64, number: u64)
     let upper = row[1][UPPER];
     if 0 < len && len <= SIZE {
         let at = place_of(head, len);
-        let due = plus(oldest_with(&row[0], head, len, 1, t), upper);
+        let due = due_after(upper, &row[0], head, len, 1, plus(t, upper));
         save_undo(row, at, number);
         row[0][at] = t;
         row[1][DUE] = due;

@@ -2,7 +2,8 @@
 use Rattle.constraint.proofs.Library.{Bool, List, [], _-_, _<_, _≡_, ap, arith, cond, eq-eqb, eqb, false, getD, ne-eqb, needs, refl, true, ℕ}
 use Rattle.constraint.specs.Limits.{noLimit}
 use Rattle.row_type.specs.Words.{UndoRecord, changedWords, firstThreeSaved, goingOn, undoButRegisters, numberWords, undoWith, rowWords}
-use Rattle.row_type.specs.{Parts.continuesWith, Parts.earlyOf, Parts.plus, declared.Registers.Registers, declared.Parameters.Parameters, declared.State.State}
+use Rattle.row_type.specs.{Parts.continuesWith, Parts.earlyOf, Parts.plus, declared.Registers.Registers, declared.Parameters.Parameters}
+use Rattle.row_type.specs.{declared.State.State}
 use Rattle.delay_order.proofs.order.apply.Statement.{statement}
 use Rattle.delay_order.specs.Order.{aheadOf, changesTo, decideOrder, withAhead}
 use Rattle.ring.specs.{Ring.dropRing, Ring.ringOf, declared.Edit.the-variants.Drop}

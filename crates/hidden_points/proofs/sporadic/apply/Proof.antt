@@ -1,5 +1,6 @@
 -- The first event may have its point anywhere within its jitter; a later one goes on where the three tests hold.
-use Rattle.constraint.proofs.Library.{Bool, List, _&&_, _∙_, _≡_, ap, eq-eqb, eqb, false, le-leb, leb, lt-leb, ne-eqb, needs, refl, sym, true, ℕ, ⊎-elim}
+use Rattle.constraint.proofs.Library.{Bool, List, _&&_, _∙_, _≡_, ap, eq-eqb, eqb, false, le-leb, leb, lt-leb, ne-eqb, needs, refl, sym, true, ℕ}
+use Rattle.constraint.proofs.Library.{⊎-elim}
 use Rattle.ring.specs.Ring.{ring}
 use Rattle.row_type.specs.{Parts.breaking, Parts.farEnough, declared.Parameters.Parameters, declared.Registers.Registers}
 use Rattle.row_type.specs.Words.{changedWords, numberWords, rowWords}

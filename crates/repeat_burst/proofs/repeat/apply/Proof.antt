@@ -1,11 +1,10 @@
 -- The row goes on where both tests hold, with the time that has come.
-use Rattle.constraint.proofs.Library.{List, [], _++_, _∙_, _∷_, _≡_, ap, drop, le-ltb, length, lt-ltb, needs, not-false, not-true, refl, sym, true, ℕ}
+use Rattle.constraint.proofs.Library.{List, [], _++_, _∙_, _∷_, _≡_, ap, drop, length, needs, refl, sym, true, ℕ}
 use Rattle.constraint.proofs.Library.{⊎-elim}
 use Rattle.row_type.proofs.Oldest.{due-or-pushed}
 use Rattle.row_type.specs.{Parts.continuesWith, Parts.dueOldest, Parts.farEnough, Parts.plus, Parts.withLast, Words.changedWords, Words.lastSaved}
 use Rattle.row_type.specs.{Words.numberWords, Words.undoWith, Words.rowWords, declared.Change.Change, declared.Registers.Registers}
 use Rattle.row_type.specs.{declared.Parameters.Parameters}
-use Rattle.ring.proofs.Laws.{ring-length}
 use Rattle.ring.specs.{Ring.ring, declared.Edit.the-variants.Push}
 use Rattle.repeat_burst.proofs.repeat.apply.Statement.{statement}
 use Rattle.repeat_burst.specs.Repeat.{decideRepeat, leaving, spanReached}

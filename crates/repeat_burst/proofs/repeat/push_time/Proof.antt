@@ -1,6 +1,6 @@
 -- The test is that of `leaving`.
 use Rattle.constraint.proofs.Library.{le-ltb, lt-ltb, needs, refl}
-use Rattle.row_type.specs.Words.{changedWords, numberWords, rowWords}
+use Rattle.row_type.specs.Words.{numberWords, rowWords}
 use Rattle.ring.proofs.Laws.{ring-length}
 use Rattle.repeat_burst.proofs.repeat.push_time.Statement.{statement}
 use Rattle.repeat_burst.proofs.repeat.push_time.Tie as tie

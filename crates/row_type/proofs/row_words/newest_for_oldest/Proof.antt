@@ -1,6 +1,6 @@
 -- A ring that one leaves and one joins is as long as before; one that is empty or too long takes the common way.
-use Rattle.row_type.proofs.Names.{_<_, _≡_, _≤_, changedWords, drop, leb-true, needs, numberWords, refl, ring, rowWords}
-use Rattle.row_type.proofs.{Oldest.due-front, Oldest.none-left-pushed, Renewed.end-stays, Renewed.one-renewed}
+use Rattle.row_type.proofs.Names.{_<_, _≤_, changedWords, drop, leb-true, needs, numberWords, refl, ring, rowWords}
+use Rattle.row_type.proofs.{Oldest.due-or-pushed, Oldest.none-left-pushed, Renewed.end-stays, Renewed.one-renewed}
 use Rattle.row_type.proofs.row_words.newest_for_oldest.Statement.{statement}
 use Rattle.row_type.proofs.row_words.newest_for_oldest.Tie as tie
 
@@ -15,14 +15,14 @@ returns c parameters times state past e =
     let kept = k .save-undo .ensures parameters times state past e in
     rw (
       c .place-of2 .ensures,
-      d .plus .ensures,
-      o .oldest-with .ensures,
+      d .due-after .ensures,
+      o .plus .ensures,
       kept,
       p .place-of .ensures,
       e,
       one-renewed times (state .head) (state .len) (a .t) some few,
       end-stays (state .head) (state .len) 1 some,
-      due-front (parameters .upper) (a .t) left,
+      due-or-pushed (parameters .upper) (a .t) left,
       none-left-pushed left (a .t),
     )
     refl

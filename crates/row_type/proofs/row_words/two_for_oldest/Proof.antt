@@ -1,5 +1,5 @@
 -- A ring that two leave and two join is as long as before; a ring of fewer than two, or one that is too long, takes the common way.
-use Rattle.row_type.proofs.Names.{_≡_, _≤_, leb-true, needs, numberWords, refl, rowWords}
+use Rattle.row_type.proofs.Names.{_≤_, leb-true, needs, numberWords, refl, rowWords}
 use Rattle.row_type.proofs.Renewed.{end-stays, two-renewed}
 use Rattle.row_type.proofs.row_words.two_for_oldest.Statement.{statement}
 use Rattle.row_type.proofs.row_words.two_for_oldest.Tie as tie

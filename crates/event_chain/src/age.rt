@@ -146,7 +146,15 @@ fn pair_after(w: &[u64; SIZE], stream: u64, low: u64, high: u64, t: u64) -> Pair
 }
 
 // The words of a colour are new.
-fn store(row: &mut [[u64; SIZE]; 2], colour: usize, low: u64, high: u64, pair: Pair, t: u64, number: u64)
+fn store(
+    row: &mut [[u64; SIZE]; 2],
+    colour: usize,
+    low: u64,
+    high: u64,
+    pair: Pair,
+    t: u64,
+    number: u64,
+)
     requires { ⌜ colour < 8 ⌝ }
     ensures { λ _. ⌜ MakesAt lastSaved (now (row .entry)) (λ parameters registers words. aged registers words colour (owed low high) pair) t number
         (now (row .exit)) ⌝ }

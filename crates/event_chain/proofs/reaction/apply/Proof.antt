@@ -32,8 +32,8 @@ returns-2 c parameters times state past e =
     let pair : p .pair-after .result ≡ pairAfter parameters (s .stream) (getD words place 0) (getD words (place + 1) 0) (s .t) =
     rw e at (p .pair-after .ensures) ∙ ap₂ (λ (l h : ℕ). pairAfter parameters (s .stream) l h (s .t)) low high in
     c .store .ensures parameters times state past e
-    ∙ ap₂ (λ (h : ℕ) (x : Pair). changedWords lastSaved parameters times state past (paired (state .registers) words (s .stream % 8) h x) (s .t) (s .number))
-    high pair
+    ∙ ap₂ (λ (h : ℕ) (x : Pair). changedWords lastSaved parameters times state past
+    (paired (state .registers) words (s .stream % 8) h x) (s .t) (s .number)) high pair
     ∙ ap (λ (x : Change). changedWords lastSaved parameters times state past x (s .t) (s .number))
     (sym (long-enough 16 words _ (rw (ring-length times (state .head) (state .len)) many)))
 

@@ -20,7 +20,7 @@ use Rattle.row_type.specs.declared.{Change.Change, Parameters.Parameters, Regis
 use Rattle.patterns.specs.Pattern as P
 use Rattle.repeat_burst.specs.Arbitrary as A
 use Rattle.row.proofs.EveryType.{every-type-exact}
-use Rattle.row.specs.Machine.{applied, brokenRow, changedRow, concerns, crowding, decide, itemsOf, machineOf, rowOf, rowStep, stays}
+use Rattle.row.specs.Machine.{applied, brokenByEvent, brokenRow, changedRow, concerns, crowding, decide, itemsOf, machineOf, rowOf, rowStep, stays}
 use Rattle.row.specs.declared.{Row.Row, RowStep.RowStep, StepInput.StepInput}
 use Rattle.monitor.proofs.Withdrawing.{struck}
 use Rattle.monitor.specs.Contract.{after, step}
@@ -124,9 +124,14 @@ unfolding rowOf
 kept-start c = record { parameters-is = refl; constants = λ _. refl; from-first = λ _ _. refl }
 
 module _ (c : Constraint) (r : Row) (k : Kept c r) where
-  kept-broken : (t : ℕ) (closes : Bool) (number : ℕ) → Kept c (brokenRow r t closes number)
+  kept-broken : (t : ℕ) (closes : Bool) (number : ℕ) → 0 < number → Kept c (brokenRow r t closes number)
   unfolding brokenRow
-  kept-broken t closes number = record { parameters-is = k .parameters-is; constants = k .constants; from-first = λ _ e. rw e refl }
+  kept-broken t closes number above =
+      record { parameters-is = k .parameters-is; constants = k .constants; from-first = λ _ e. absurd (omega (arith, above, e)) }
+
+  kept-by-event : (t number : ℕ) → 0 < number → Kept c (brokenByEvent r t number)
+  kept-by-event t number above =
+      record { parameters-is = k .parameters-is; constants = k .constants; from-first = λ _ e. absurd (omega (arith, above, e)) }
 
   module _ (unbroken : r .now .broken ≡ 0) (change : Change) (calm : Constant (typeOf c) → Calm (change .edit)) where
     kept-applied : Kept c (applied r change)
@@ -139,11 +144,11 @@ module _ (c : Constraint) (r : Row) (k : Kept c r) where
           from-first = λ has _. edit-calm (change .edit) (ringOf (r .times) (r .now .head) (r .now .len)) (calm has) (k .from-first has unbroken) .1;
         }
 
-    kept-changed : (t number : ℕ) → Kept c (changedRow r change t number .row)
+    kept-changed : (t number : ℕ) → 0 < number → Kept c (changedRow r change t number .row)
     unfolding changedRow
-    kept-changed t number =
+    kept-changed t number above =
         by-three (ltb waitingLimit (r .now .len)) (change .breaks) (ltb waitingLimit (length (changed (change .edit) (itemsOf r))))
-        (brokenRow r t false number) (applied r change) (kept-broken t false number) kept-applied
+        (brokenByEvent r t number) (applied r change) (kept-by-event t number above) kept-applied
       where
         by-three : (a b d : Bool) (x y : Row) → Kept c x → Kept c y
             → Kept c (cond a (crowding r) (cond b (stays x) (cond d (crowding r) (stays y))) .row)
@@ -157,9 +162,9 @@ module _ (c : Constraint) (r : Row) (k : Kept c r) where
       decide-calm (r .parameters) (subst Constant (sym (tag-is c) ∙ ap (λ (p : Parameters). p .tag) (sym (k .parameters-is))) has) (r .now .registers)
       words s t
 
-  kept-step : (o : StepInput) (number : ℕ) → Kept c (rowStep r o number .row)
+  kept-step : (o : StepInput) (number : ℕ) → 0 < number → Kept c (rowStep r o number .row)
   unfolding rowStep
-  kept-step o number =
+  kept-step o number above =
       let broken = brokenRow r (o .time) (o .closes) number in
       let change = decide (r .parameters) (r .now .registers) (itemsOf r) (o .stream) (o .time) in
       split (ltb 0 (r .now .broken))
@@ -167,8 +172,9 @@ module _ (c : Constraint) (r : Row) (k : Kept c r) where
       (changedRow r change (o .time) number) (cond (o .closes && eqb (r .now .kept) 0) (stays broken) (stays r)))) .row))
       (λ _. k)
       (λ open-row. by-three (ltb (r .now .due) (o .time)) (concerns (r .parameters) (o .kind)) (o .closes && eqb (r .now .kept) 0) broken
-      (changedRow r change (o .time) number) (kept-broken (o .time) (o .closes) number)
-      (kept-changed (omega (arith, ltb-false 0 (r .now .broken) open-row)) change (change-calm (itemsOf r) (o .stream) (o .time)) (o .time) number))
+      (changedRow r change (o .time) number) (kept-broken (o .time) (o .closes) number above)
+      (kept-changed (omega (arith, ltb-false 0 (r .now .broken) open-row)) change (change-calm (itemsOf r) (o .stream) (o .time)) (o .time) number
+      above))
     where
       by-three : (a b d : Bool) (x : Row) (z : RowStep) → Kept c x → Kept c (z .row)
           → Kept c (cond a (stays x) (cond b z (cond d (stays x) (stays r))) .row)
@@ -188,12 +194,12 @@ rows-start : (cs : List Constraint) (rest : List Row) → KeptRows cs (map rowOf
 rows-start [] rest = tt
 rows-start (c ∷ cs) rest = (kept-start c, rows-start cs rest)
 
-rows-step : (cs : List Constraint) (rows : List Row) (o : StepInput) (number : ℕ) → KeptRows cs rows
+rows-step : (cs : List Constraint) (rows : List Row) (o : StepInput) (number : ℕ) → 0 < number → KeptRows cs rows
     → KeptRows cs (mapFirst (length cs) (λ r. rowStep r o number .row) rows)
 unfolding mapFirst
-rows-step [] rows o number kept = tt
-rows-step (c ∷ cs) [] o number kept = absurd kept
-rows-step (c ∷ cs) (r ∷ rows) o number kept = (kept-step c r (kept .0) o number, rows-step cs rows o number (kept .1))
+rows-step [] rows o number above kept = tt
+rows-step (c ∷ cs) [] o number above kept = absurd kept
+rows-step (c ∷ cs) (r ∷ rows) o number above kept = (kept-step c r (kept .0) o number above, rows-step cs rows o number above (kept .1))
 
 rows-at : (cs : List Constraint) (rows : List Row) → KeptRows cs rows → (i : ℕ) (c : Constraint) → getElem? cs i ≡ some c → Kept c (getD rows i noRow)
 rows-at [] rows kept i c there = never (cc)
@@ -210,7 +216,7 @@ module _ (cs : List Constraint) where
   taken-keeps m s kept = (
     kept .0,
     subst (λ (n : ℕ). KeptRows cs (mapFirst n (λ r. rowStep r (stepInputOf m s) (nextStep m) .row) (m .rows))) (sym (kept .0))
-        (rows-step cs (m .rows) (stepInputOf m s) (nextStep m) (kept .1)),
+        (rows-step cs (m .rows) (stepInputOf m s) (nextStep m) (omega arith) (kept .1)),
   )
 
   by-tests : (b d : Bool) (n : ℕ) (m x : Monitor) → KeptIn cs m → KeptIn cs x

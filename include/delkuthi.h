@@ -31,7 +31,7 @@
  * session-is-exact. It speaks of any memory and any list of the calls that
  * change it: delkuthi_fresh, events, ticks, closes, withdrawals,
  * delkuthi_take and delkuthi_report_on, with any arguments, in both forms. It
- * says what each of these calls answers, and what each of the seventeen calls
+ * says what each of these calls answers, and what each of the eighteen calls
  * that only read a monitor answers after the list. That no call leaves its
  * memory and that every call ends is in the contract of each call.
  * DATASHEET.md lists the promises with their theorems, the assumptions, and

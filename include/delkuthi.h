@@ -137,7 +137,7 @@
  *   stack, join      at most 16 KiB       DELKUTHI_JOIN_STACK
  *   stack, stretch   at most 32 KiB       DELKUTHI_STRETCH_STACK
  *   stack, table     at most 12 KiB       DELKUTHI_TABLE_STACK
- *   stack, fresh     at most 1 KiB        DELKUTHI_MONITOR_STACK
+ *   stack, fresh     at most 2 KiB        DELKUTHI_MONITOR_STACK
  *   stack, steps     at most 1 KiB        DELKUTHI_STEP_STACK
  *
  * Sources without a target wait in a Delay and in a StrongDelay, incomplete
@@ -515,7 +515,7 @@ extern "C" {
 #define DELKUTHI_JOIN_STACK    16384
 #define DELKUTHI_STRETCH_STACK 32768
 #define DELKUTHI_TABLE_STACK   12288
-#define DELKUTHI_MONITOR_STACK 1024
+#define DELKUTHI_MONITOR_STACK 2048
 #define DELKUTHI_STEP_STACK    1024
 
 /* begin no limit: made by a program */

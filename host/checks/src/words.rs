@@ -16,8 +16,12 @@ pub const ROWS: usize = NUMBERS + 3;
 pub const SOONEST: usize = NUMBERS + 4;
 /// Whether the last step may be withdrawn, and what it changed beside the rows.
 pub const LAST_STEP: Range<usize> = NUMBERS + 5..NUMBERS + 11;
-/// 1 while a place is free in every row.
-pub const ROOM: usize = NUMBERS + 11;
+/// The set of the rows that may be nearly full: row i is in it if bit i is 1.
+pub const FULL: usize = NUMBERS + 11;
+/// All rows.
+const ALL_ROWS: u64 = u32::MAX as u64;
+/// A row with more waiting is nearly full.
+const FEW: usize = 62;
 
 /// What a row was before its last step, two times that this step overwrote, and its number.
 pub fn past(row: usize) -> Range<usize> {
@@ -34,7 +38,9 @@ fn stamp(monitor: &Monitor, row: usize) -> u64 {
 pub fn of_withdrawals(place: usize) -> Option<&'static str> {
     match place {
         SOONEST => Some("the time before which no row is due: 0 after a withdrawal, and found again at the next step"),
-        ROOM => Some("1 while a place is free in every row: 0 stays where an event that is withdrawn has filled one"),
+        FULL => Some(
+            "the rows that may be nearly full: all of them after a withdrawal, and those that are after later events",
+        ),
         _ if LAST_STEP.contains(&place) => {
             Some("whether the last step may be withdrawn, and what it changed beside the rows")
         }
@@ -44,8 +50,7 @@ pub fn of_withdrawals(place: usize) -> Option<&'static str> {
 }
 
 /// The words after the withdrawal of a step, by those before the step and after it. Those before it are put back, but for: no row
-/// that the step changed has a past, no step may be withdrawn, every row is to be looked at, and a row that the step has filled is not
-/// known to have a free place again.
+/// that the step changed has a past, no step may be withdrawn, every row is to be looked at, and every row may be nearly full.
 pub fn withdrawn(before: &Monitor, stepped: &Monitor) -> Monitor {
     let mut words = *before.words();
     for row in (0..ROW_LIMIT).filter(|row| stamp(stepped, *row) == stepped.steps()) {
@@ -53,23 +58,22 @@ pub fn withdrawn(before: &Monitor, stepped: &Monitor) -> Monitor {
     }
     words[LAST_STEP].fill(0);
     words[SOONEST] = 0;
-    words[ROOM] = stepped.words()[ROOM];
+    words[FULL] = ALL_ROWS;
     Monitor::from_words(words)
 }
 
-/// Whether a place is free in every row, after a step that is taken: 1 only where fewer than 64 wait in each. An event
-/// after every 32 steps finds it again where it was 0; else only an event changes it, from 1 to 0.  # Panics If it is
-/// another number.
-pub fn room_after(before: &Monitor, stepped: &Monitor, event: bool) {
-    let (room, then) = (stepped.words()[ROOM], before.words()[ROOM]);
-    let waiting = |monitor: &Monitor| (0..monitor.rows()).map(|row| monitor.row_waiting(row)).max().unwrap_or(0);
-    assert!(room == 0 || (room == 1 && waiting(stepped) < 64), "{room} where {} wait", waiting(stepped));
+/// The rows that may be nearly full, after a step that is taken: among them is each in which more than 62 wait. Only an event changes
+/// the set.
+///
+/// # Panics
+/// If it is another set.
+pub fn full_after(before: &Monitor, stepped: &Monitor, event: bool) {
+    let (full, then) = (stepped.words()[FULL], before.words()[FULL]);
+    assert!(full <= ALL_ROWS, "{full:x}");
+    let nearly = (0..stepped.rows()).filter(|row| stepped.row_waiting(*row) > FEW);
+    nearly.for_each(|row| assert_eq!(full >> row & 1, 1, "row {row}"));
     if !event {
-        assert_eq!(room, then, "after no event");
-    } else if then == 1 {
-        assert!(room == 1 || waiting(stepped) == 64, "0 where {} wait", waiting(stepped));
-    } else if before.steps() % 32 != 0 {
-        assert_eq!(room, 0, "where {} wait", waiting(stepped));
+        assert_eq!(full, then, "after no event");
     }
 }
 

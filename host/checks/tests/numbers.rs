@@ -312,7 +312,7 @@ fn the_limits_on_the_stack_are_the_headers() {
 fn the_places_of_words_are_the_crates() {
     let of_lent = |name| constant("crates/in_place/src/lib.rt", name) as usize;
     let beside = |name| 128 * of_lent("NUMBERS") + of_lent(name);
-    assert_eq!([words::ROWS, words::SOONEST, words::ROOM], ["ROWS", "SOONEST", "FREE_SLOT_HINT"].map(beside));
+    assert_eq!([words::ROWS, words::SOONEST, words::FULL], ["ROWS", "SOONEST", "FULL"].map(beside));
     assert_eq!(words::LAST_STEP, beside("UNDO_ALLOWED")..beside("UNDO_CLOSED") + 1);
     let of_row = |name| 128 + 64 + constant("crates/row_type/src/row_words.rt", name) as usize;
     assert_eq!(words::past(1), of_row("UNDO_LAST")..of_row("UNDO_STEP") + 1);

@@ -2,7 +2,7 @@
 //! §3.12 to §3.15, §8.21, §9.2.
 
 use checks::beside::{counting_from, fresh, take, take_all, verdict};
-use checks::words::{Differing, differing, room_after, untouched, withdrawn};
+use checks::words::{Differing, differing, full_after, untouched, withdrawn};
 use delkuthi::Monitor;
 use model::random::Random;
 use model::random::calls::calls;
@@ -72,7 +72,7 @@ impl<'a> Beside<'a> {
     fn compare_words(&mut self, before: Monitor, request: Option<Step>, what: &str) {
         if let Some(step) = request {
             let event = matches!(step, Step::Event { .. } | Step::Coloured { .. });
-            room_after(&before, &self.monitor, event);
+            full_after(&before, &self.monitor, event);
             self.last = Some(before);
         } else {
             let last = self.last.take().expect("a step that can be withdrawn");

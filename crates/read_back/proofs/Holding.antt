@@ -1,5 +1,5 @@
 -- The words of a row of a monitor hold the row of the table: its numbers and constants stay what they were, and give its fields again.
-use Rattle.constraint.proofs.Library.{List, [], _%_, _<_, _∙_, _≡_, _≤_, ap, arith, getD, length, refl, subst, sym, ℕ}
+use Rattle.constraint.proofs.Library.{List, [], _<_, _∙_, _≡_, _≤_, ap, arith, getD, length, refl, subst, sym, ℕ}
 use Rattle.constraint.specs.Accepted.{Accepted}
 use Rattle.constraint.specs.Constraint.{Constraint}
 use Rattle.constraint.specs.Run.{Request}
@@ -20,16 +20,12 @@ use Rattle.in_place.proofs.Blocks.{row-lies}
 use Rattle.in_place.specs.Contract.{HoldsMonitor}
 use Rattle.in_place.specs.Layout.{Lent, Shaped, Words, heldRows, keptAt, rowAt, wordsOfLent}
 use Rattle.read_back.specs.Back.{rowBack, valuesIn}
-use Rattle.read_back.specs.Contract.{GivesBody, MonitorRowBack, WordsBack, a-row, given, no-room, no-row}
+use Rattle.read_back.specs.Contract.{GivesBody, MonitorRowBack, WordsBack, a-row, no-row, nothing-given, some-given}
 use Rattle.read_back.proofs.Bodies.{known-at}
 use Rattle.read_back.proofs.Inverse.{inverse}
 use Rattle.read_back.proofs.Kept.{Kept, kept-after}
 
 -- ---- a row's words
-
-gives-untouched : {body before written : List ℕ} {number : ℕ} → GivesBody body before number written → 0 < number % 256 → written ≡ before
-gives-untouched (given fits) odd = absurd (omega arith)
-gives-untouched (no-room short) odd = refl
 
 module _ (words : List (List ℕ)) (p : Parameters) (is : p ≡ parametersAt (getD words 1 [])) (v : List ℕ)
     (from : v ≡ valuesIn p (getD words 0 [])) (before : List ℕ) where
@@ -41,7 +37,7 @@ module _ (words : List (List ℕ)) (p : Parameters) (is : p ≡ parametersAt (ge
   pub unknown-back : ¬ TypeKnown 2 (p .tag) (at v 0) → WordsBack words before 15 before
   unknown-back unknown =
       record {
-        untouched = λ _. refl;
+        answers = nothing-given;
         gives = λ c same known. absurd (unknown (known-row 2 (p .tag) v
             (subst (λ (d : Constraint). TypeKnown 2 (typeOf d) (countOf d)) (same ∙ sym back-is) known)));
       }
@@ -53,7 +49,7 @@ module _ (words : List (List ℕ)) (p : Parameters) (is : p ≡ parametersAt (ge
       → WordsBack words before number written
   given-back {number} {written} gives =
       record {
-        untouched = gives-untouched gives;
+        answers = some-given _ gives;
         gives = λ c same known.
             subst (λ (d : Constraint). GivesBody (rowBody d) before number written) (back-is ∙ sym same) gives;
       }

@@ -1,5 +1,5 @@
 -- What a host is promised of a row that is read back (§9.13, §9.14).
-use Prim.Native.Nat.{ℕ, _+_, _*_, _%_, _≤_, _<_}
+use Prim.Native.Nat.{ℕ, _+_, _*_, _≤_, _<_}
 use mathlib.Core.Path.{_≡_}
 use mathlib.Core.List.{List, [], _++_}
 use mathlib.Core.Option.{none, some}
@@ -31,10 +31,14 @@ pub data TableRowBack (table : List ℕ) (i : ℕ) (before : List ℕ) : ℕ →
       → TableRowBack table i before number written
   refused : (n place : ℕ) → ReadsTableUpTo 2 table (table-refused n place) → 0 < n → n < 256 → TableRowBack table i before (place * 256 + n) before
 
--- what a row's words give: the body of the row that they hold, if that is of a known type. On a refusal the buffer stays as it was, whatever they
--- hold
+-- §9.14: whatever the words are, 15 and the buffer as it was, or some body
+pub data GivesSome (before : List ℕ) : ℕ → List ℕ → Type 0 where
+  nothing-given : GivesSome before 15 before
+  some-given : (body : List ℕ) {number : ℕ} {written : List ℕ} → GivesBody body before number written → GivesSome before number written
+
+-- what a row's words give: the body of the row that they hold, if that is of a known type
 pub record WordsBack (words : List (List ℕ)) (before : List ℕ) (number : ℕ) (written : List ℕ) : Type 0 where
-  pub untouched : 0 < number % 256 → written ≡ before
+  pub answers : GivesSome before number written
   pub gives : (c : Constraint) → c ≡ rowBack (parametersAt (getD words 1 [])) (getD words 0 []) → TypeKnown 2 (typeOf c) (countOf c)
       → GivesBody (rowBody c) before number written
 

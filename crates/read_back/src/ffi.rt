@@ -5,10 +5,8 @@ use in_place::Words;
 use in_place::held;
 use table::ReadAnswer;
 use table::scan;
-ghost use Prim.Native.Nat.{_<_, _%_};
-ghost use mathlib.Core.Path.{_≡_};
 ghost use Rattle.in_place.specs.Contract.{ReadOff};
-ghost use Rattle.read_back.specs.Contract.{TableRowBack, MonitorRowBack};
+ghost use Rattle.read_back.specs.Contract.{TableRowBack, MonitorRowBack, GivesSome};
 
 // §9.13, §11.5
 // Copies the body of a row of a table to a buffer. Returns 256 times the length of the body. On a refusal it returns 256 times the place of the
@@ -37,7 +35,7 @@ pub extern "C" fn delkuthi_table_row(table: &[u8], row: u64, body: &mut [u8]) ->
 // buffer as it was, whatever the monitor's memory holds.
 #[no_mangle]
 pub extern "C" fn delkuthi_monitor_row(m: &Words, row: u64, body: &mut [u8]) -> u64
-    ensures { λ r. ⌜ ((0 < r % 256 → now (body .exit) ≡ now (body .entry))
+    ensures { λ r. ⌜ (GivesSome (now (body .entry)) r (now (body .exit))
         × ReadOff (now (m .entry)) (λ monitor answer. MonitorRowBack monitor row (now (body .entry)) answer (now (body .exit))) r) ⌝ }
 {
     if held(m) as u64 <= row {

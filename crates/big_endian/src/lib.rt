@@ -1,4 +1,6 @@
 // Reads and writes big-endian numbers of two and eight bytes.
+#![tactic(auto)]
+
 ghost use Rattle.std.specs.Prelude.{◌≡◌, ◌≤◌, [], ◌∷◌};
 ghost use Rattle.std.proofs.lemmas.List.Edits.{sets};
 ghost use Rattle.constraint.specs.Steps.{at};

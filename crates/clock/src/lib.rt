@@ -1,5 +1,7 @@
 // The clock of a recording: its time, its count and the first free time of each stream, with all questions of a step except 12. Records are read one
 // by one, and no row is stepped. The first free times stay in an array that the caller lends.
+#![tactic(auto)]
+
 ghost use Rattle.std.specs.Prelude.{ℕ, List};
 ghost use Rattle.constraint.specs.declared.Call.{Call};
 ghost use Rattle.clock.specs.Clock.{Starts, TakesCall, clock_with, AsksCall, ReadsNext, Ticks};
@@ -7,7 +9,7 @@ ghost use Rattle.clock.specs.Clock.{Starts, TakesCall, clock_with, AsksCall, Rea
 use constraint::Call;
 use row_type::parts::plus;
 
-#[derive(Drop)]
+#[derive(Clone, Copy)]
 pub struct Clock {
     pub time: u64,
     // the steps taken

@@ -2,6 +2,8 @@
 
 // §1.2
 // The largest kind of event.
+#![tactic(auto)]
+
 pub const LAST_KIND: u8 = 63;
 // §1.2
 // The first coloured kind: those below it are plain.
@@ -29,7 +31,7 @@ pub const REPETITION_SPAN_LIMIT: u8 = 8;
 pub const WAITING_LIMIT: usize = 64;
 
 // A call, with its arguments as given: an event of a kind at a time, one of a coloured kind with its colour, a tick to a time, or the close.
-#[derive(Drop)]
+#[derive(Clone, Copy)]
 pub enum Call {
     Event { kind: u8, time: u64 },
     ColouredEvent { kind: u8, colour: u8, time: u64 },
@@ -45,7 +47,7 @@ pub enum Answer {
 }
 
 // The verdict of a row: open, kept, or broken with the step that broke it.
-#[derive(Drop)]
+#[derive(Clone, Copy)]
 pub enum Verdict {
     Open,
     Kept,

@@ -1,4 +1,6 @@
 // The C interface that steps, reports and writes. This file has the report on a recording: what the rows of a table read after it.
+#![tactic(auto)]
+
 pub mod ffi;
 pub mod joining;
 pub mod printed;

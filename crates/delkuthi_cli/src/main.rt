@@ -1,4 +1,6 @@
 // The program: reads table.bin and recording.bin where it stands, and prints the report.
+#![tactic(auto)]
+
 ghost use Rattle.io.specs.Counts.{IsPrefixLen};
 
 use libc::STDOUT_FILENO;

@@ -1,4 +1,6 @@
 // Rows of coloured kinds: chains from stimuli to responses.
+#![tactic(auto)]
+
 pub mod age;
 mod coloured;
 pub mod input_synchronization;

@@ -1,5 +1,7 @@
 // Makes a fresh monitor in the words that the host lends. It first validates the table's bytes. If they are accepted it clears all words, and reads
 // and stores the rows one by one.
+#![tactic(auto)]
+
 ghost use Rattle.std.specs.Prelude.{◌<◌, ◌≤◌, ◌≡◌, cond, length, set, replicate};
 ghost use Rattle.in_place.specs.Layout.{no_words};
 ghost use Rattle.in_place.specs.Steps.{Updates, Computes};

@@ -1,4 +1,6 @@
 // The monitor in memory that the host lends: 35 blocks of two arrays of 64 words. Every call changes these words in place.
+#![tactic(auto)]
+
 ghost use Rattle.std.specs.Prelude.{◌-◌, ◌≤◌, ◌≡◌};
 ghost use Rattle.in_place.specs.Layout.{Lent, words_of_lent, Shaped, held_rows};
 

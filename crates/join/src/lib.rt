@@ -1,5 +1,7 @@
 // Joins two recordings. Records are ordered by time; at equal times those of the first recording come first. Ticks that are not later than the joined
 // clock are left out.
+#![tactic(auto)]
+
 ghost use Rattle.std.specs.Prelude.{◌≡◌, cond, ◌&&◌, ℕ, ◌+◌, ◌≤◌, max, eqb, ltb, length, set, List, [], ◌∷◌};
 ghost use Rattle.std.proofs.lemmas.List.Edits.{sets};
 ghost use Rattle.constraint.specs.Steps.{at};
@@ -13,7 +15,7 @@ use constraint::{Call, JoinAnswer, STREAM_COUNT};
 
 // What the walk keeps of a record: how many bytes it has (0: there is none), its time, kind and colour. Where there is none, the time is later than
 // any.
-#[derive(Drop)]
+#[derive(Clone, Copy)]
 pub struct Head {
     pub size: usize,
     pub time: u64,

@@ -1,4 +1,6 @@
 // The monitor by value: a table's rows, and how events, ticks and the close step them.
+#![tactic(auto)]
+
 ghost use Rattle.std.specs.Prelude.{◌≡◌};
 ghost use Rattle.constraint.specs.Run.{asks, withdraws};
 ghost use Rattle.constraint.specs.declared.Call.{Call};
@@ -15,7 +17,7 @@ mod rows;
 pub mod verdicts;
 
 #[repr(C)]
-#[derive(Drop)]
+#[derive(Clone, Copy)]
 pub struct Monitor {
     pub rows: [Row; 32],
     // for each stream the first time still free: one more than the time of its last event; 0: none

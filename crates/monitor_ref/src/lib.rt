@@ -1,4 +1,6 @@
 // One step on a monitor that is passed by reference. It uses the step by value.
+#![tactic(auto)]
+
 ghost use Rattle.constraint.specs.Run.{asks};
 ghost use Rattle.monitor.specs.Contract.{Steps};
 ghost use Rattle.monitor_ref.specs.Number.{stepped_from};

@@ -1,4 +1,6 @@
 // The printed page: one line for each row, written line by line to the caller's buffer.
+#![tactic(auto)]
+
 ghost use Rattle.std.specs.Prelude.{◌≡◌, ◌≤◌, ◌<◌, min};
 ghost use Rattle.std.proofs.lemmas.List.Edits.{sets};
 ghost use Rattle.constraint.specs.Limits.{row_limit};

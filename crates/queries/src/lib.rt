@@ -1,4 +1,6 @@
 // What a host can ask while a monitor runs, computed from the numbers that the monitor keeps.
+#![tactic(auto)]
+
 pub mod ffi;
 
 ghost use Rattle.std.specs.Prelude.{◌≤◌, min, ◌≡◌};

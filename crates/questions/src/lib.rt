@@ -1,4 +1,6 @@
 // The questions of a call, and what a call changes outside the rows. All functions take and return numbers.
+#![tactic(auto)]
+
 ghost use Rattle.std.specs.Prelude.{◌≡◌, ℕ};
 ghost use Rattle.constraint.specs.Streams.{stream};
 ghost use Rattle.constraint.specs.declared.Call.{Call};
@@ -21,7 +23,7 @@ pub const NO_STREAM: u64 = STREAM_COUNT as u64;
 // What the last step changed beside the rows, as it was: the place of its stream and the first free time there, the clock, the count and the mark
 // of the close; and whether it may be withdrawn (0: no).
 #[repr(C)]
-#[derive(Drop)]
+#[derive(Clone, Copy)]
 pub struct Undo {
     pub may: u64,
     pub place: usize,

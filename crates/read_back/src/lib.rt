@@ -1,4 +1,6 @@
 // Rows read back as bodies: of a table in its bytes, and of a lent monitor.
+#![tactic(auto)]
+
 pub mod ffi;
 mod words;
 

@@ -1,5 +1,7 @@
 // Repetition: rows of one kind that keep the range, a low and a high, of the hidden point of each of the last span events, or of all events while
 // there are fewer. Lows and highs alternate, the oldest first. Each event adds two numbers.
+#![tactic(auto)]
+
 ghost use Rattle.std.specs.Prelude.{◌≡◌};
 ghost use Rattle.ring.specs.Ring.{ring};
 ghost use Rattle.row_type.specs.Words.{none_saved, asked_of, Applies};

@@ -1,5 +1,7 @@
 // The ring buffer of at most 64 times that every row keeps, in an array of 64 words. The oldest time is at index `head`; the others follow it and
 // wrap around at the end.
+#![tactic(auto)]
+
 ghost use Rattle.std.specs.Prelude.{◌≡◌, ◌+◌, ◌-◌};
 ghost use Rattle.ring.specs.Ring.{ring_place, head_after, time_at, second_at, ring_of, push_ring, put_ring, put_back};
 

@@ -1,4 +1,6 @@
 // One row of the monitor: its constraint as numbers, what it keeps of the events so far, and how a step changes it.
+#![tactic(auto)]
+
 ghost use Rattle.std.specs.Prelude.{◌≡◌, replicate};
 ghost use Rattle.constraint.specs.Types.{Known};
 ghost use Rattle.table_row.specs.Records.{row_in};
@@ -14,7 +16,7 @@ use table_row::TableRow;
 pub mod stored;
 
 #[repr(C)]
-#[derive(Drop)]
+#[derive(Clone, Copy)]
 pub struct Row {
     pub parameters: Parameters,
     pub times: [u64; SIZE],
@@ -23,7 +25,7 @@ pub struct Row {
 
 // What a row sees of a step: the kind of the event (65: no event) and its stream, the clock that the step leaves, and whether it closes the
 // recording.
-#[derive(Drop)]
+#[derive(Clone, Copy)]
 pub struct StepInput {
     pub kind: u64,
     pub stream: u64,
@@ -41,7 +43,7 @@ pub struct RowStep {
 // What a row was before the step that last changed it: what it kept, the word of its ring at a place, or two from it on where 64 is added to it, and
 // the number of that step; 0 where there is none.
 #[repr(C)]
-#[derive(Drop)]
+#[derive(Clone, Copy)]
 pub struct RowUndo {
     pub state: State,
     pub place: usize,

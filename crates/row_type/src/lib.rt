@@ -1,4 +1,6 @@
 // The parts that every row type uses: a constraint as numbers, what a row keeps of its events, and the change that an event makes.
+#![tactic(auto)]
+
 use ring::Edit;
 
 pub mod from_constraint;
@@ -7,7 +9,7 @@ pub mod row_words;
 
 // The constraint's fields as numbers. A field that a type does not have is 0; a kind that it does not have is 64.
 #[repr(C)]
-#[derive(Drop)]
+#[derive(Clone, Copy)]
 pub struct Parameters {
     // the number of its type
     pub tag: u64,
@@ -33,7 +35,7 @@ pub struct Parameters {
 
 // Five numbers that a row keeps beside its times. A type uses some of these, and its module says for what; the others stay 0.
 #[repr(C)]
-#[derive(Drop)]
+#[derive(Clone, Copy)]
 pub struct Registers {
     // one more than a time, or 0 for none: that of the last event, of the last target, or of a target beyond the number of sources
     pub last: u64,
@@ -46,7 +48,7 @@ pub struct Registers {
 
 // What a row keeps beside its rule and its times.
 #[repr(C)]
-#[derive(Drop)]
+#[derive(Clone, Copy)]
 pub struct State {
     pub registers: Registers,
     // where its times begin, and how many there are

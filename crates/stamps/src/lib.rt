@@ -1,4 +1,6 @@
 // Stamps known within a range: whether a Repeat row of span 1 is kept for every choice of true times, for none, or only for some.
+#![tactic(auto)]
+
 ghost use Rattle.std.specs.Prelude.{◌≡◌, ◌&&◌, leb};
 ghost use Rattle.row_type.specs.Parts.{plus};
 ghost use Rattle.constraint.specs.Stamps.{AnswersStampsUpTo};
@@ -19,7 +21,7 @@ use table_row::TableRow;
 const REPEAT: u8 = 3;
 
 // A Repeat row of span 1, and by how much its stamps are late at most.
-#[derive(Drop)]
+#[derive(Clone, Copy)]
 pub struct LateRow {
     pub event: u64,
     pub lower: u64,

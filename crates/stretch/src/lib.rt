@@ -1,5 +1,7 @@
 // The shortest stretch of consecutive records that breaks a row. It runs each start once, over one row without a monitor, to find the least number of
 // records that break the row from there. Then it tries the stretches by length and by start.
+#![tactic(auto)]
+
 ghost use Rattle.std.specs.Prelude.{◌≡◌, ◌≤◌, ◌<◌, length};
 ghost use Rattle.constraint.specs.Stretches.{AnswersStretchUpTo};
 ghost use Rattle.constraint.specs.Types.{Known};

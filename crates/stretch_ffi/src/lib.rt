@@ -1,5 +1,7 @@
 // The shortest stretch that breaks a row, for a host in C. The answer is one number. This is a separate crate for speed: the steps of a lent monitor
 // use the same functions of a row, and the compiler treats them as if there were no other caller.
+#![tactic(auto)]
+
 ghost use Rattle.stretch_ffi.specs.Stretches.{NumbersStretchUpTo, NumbersStretch};
 
 use constraint::StretchAnswer;

@@ -1,4 +1,6 @@
 // The table's bytes: reads rows from a file's bytes, and writes them to the caller's buffer.
+#![tactic(auto)]
+
 pub mod append;
 pub mod raw;
 mod reader;

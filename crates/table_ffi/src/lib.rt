@@ -1,4 +1,6 @@
 // The table reader and writer for tests in Rust: functions on byte slices and numbers.
+#![tactic(auto)]
+
 ghost use Rattle.std.specs.Prelude.{◌≡◌};
 ghost use Rattle.table_ffi.specs.Codes.{refusal_code, write_code, AnswersRead, AnswersRewrite};
 

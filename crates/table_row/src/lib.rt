@@ -1,4 +1,6 @@
 // A row as data: the types as constant lists, and a row read, asked and written by loops over its fields.
+#![tactic(auto)]
+
 pub mod fields;
 pub mod types;
 
@@ -16,7 +18,7 @@ use constraint::Answer;
 use fields::MOST_FIELDS;
 
 // A row of a table: its type, and the values of its fields, each in the place that its type has for it; every other place holds 0.
-#[derive(Drop)]
+#[derive(Clone, Copy)]
 pub struct TableRow {
     pub tag: u8,
     pub values: [u64; 18],
@@ -169,7 +171,7 @@ impl TableRow {
 }
 
 // The rows of a table: the first `count` of them.
-#[derive(Drop)]
+#[derive(Clone, Copy)]
 pub struct Table {
     pub rows: [TableRow; 32],
     pub count: usize,

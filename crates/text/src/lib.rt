@@ -1,4 +1,6 @@
 // The report's text by value. Functions append bytes line by line; the finished text is copied to the caller's buffer.
+#![tactic(auto)]
+
 ghost use Rattle.std.specs.Prelude.{◌≡◌};
 ghost use Rattle.constraint.specs.Report.{decimal, refused_text};
 ghost use Rattle.text.specs.Content.{Spells, empty_text, with_byte, extended, content, Copied};

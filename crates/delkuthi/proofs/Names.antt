@@ -3,8 +3,8 @@ pub use Rattle.constraint.proofs.Judged.{failed, judged_all, judged_no, judged_n
 pub use Rattle.constraint.proofs.Library.{Bool, List, List·getD-map, Option, [], ◌%◌, ◌&&◌, ◌*◌, ◌++◌, ◌+◌, ◌-◌, ◌/◌, ◌<◌, ◌↔◌, ◌∙◌, ◌∷◌, ◌≡◌, ◌≤◌}
 pub use Rattle.constraint.proofs.Library.{add-one, ap, append-nil, append_snoc, ap₂, arith, by_cases, cond, dec_lt, drop, drop-cons, drop_of_length-le}
 pub use Rattle.constraint.proofs.Library.{eq-eqb, eqb, eqb-true, false, get_or, get_or-take, inl, inr, le-ltb, length, length-append, length-map}
-pub use Rattle.constraint.proofs.Library.{length-take, length-take-le, lt-ltb, lt_of_le_of_lt, ltb, ltb-false, ltb-true, map, min, ne_eqb, needs}
-pub use Rattle.constraint.proofs.Library.{none, now, refl, replicate, set, set_at, some, subst, suc, sym, take, take_all, take-suc, true, zero, ℕ}
+pub use Rattle.constraint.proofs.Library.{length-take, length-take-le, lt-ltb, lt_of_le_of_lt, ltb, ltb-false, ltb-true, map, min, ne_eqb, rules}
+pub use Rattle.constraint.proofs.Library.{none, refl, replicate, set, set_at, some, subst, suc, sym, take, take_all, take-suc, true, zero, ℕ}
 pub use Rattle.constraint.proofs.Library.{⊎_elim}
 pub use Rattle.constraint.proofs.{Accepted.rows_room, Accepted.rows_then, Editions.reads_same, History.Valid, History.closed_close, History.count_of}
 pub use Rattle.constraint.proofs.{History.valid_none, Lists.both, Lists.get_d_within, Lists.split, Runs.run_valid, Sanity.run_once}

@@ -12,7 +12,7 @@ pub use Rattle.constraint.proofs.Library.{leb-false}
 pub use Rattle.constraint.proofs.Library.{◌*◌, div-one, get_or, le-leb, leb-true, length, length-append, length-drop, length-replicate, length-set}
 pub use Rattle.constraint.proofs.Library.{length-sets, length-take-le}
 pub use Rattle.constraint.proofs.Library.{lt-leb, lt-ltb}
-pub use Rattle.constraint.proofs.Library.{ltb, ltb-false, ltb-true, max, ne_eqb, needs, not, not-false, not-true, now, or-true as either_true, refl}
+pub use Rattle.constraint.proofs.Library.{ltb, ltb-false, ltb-true, max, ne_eqb, rules, not, not-false, not-true, or-true as either_true, refl}
 pub use Rattle.constraint.proofs.Library.{replicate, set, set_out, sets, subst, suc, sym, true, ℕ, ⊎_elim}
 pub use Rattle.constraint.proofs.Lists.{Rising, both, or_false, or-true, rising_across, split}
 pub use Rattle.constraint.proofs.{Runs.accepts_taken, Streams.coloured_kind_lem, Streams.kind_small, Streams.plain_kind, Streams.stream_kind}

@@ -6,7 +6,7 @@ pub use Rattle.constraint.proofs.Library.{Bool, Iff·trans, List, Option, [], �
 pub use Rattle.constraint.proofs.Library.{ap, append_assoc, append-nil, append_snoc, ap₂, arith, by_cases, cond, dec_lt, drop-cons, eqb, eqb-false}
 pub use Rattle.constraint.proofs.Library.{false, get_or, get_or-replicate, get_or-set_other, get_or-set_same, get_elem?, inl, inr, le-ltb, leb, leb-false}
 pub use Rattle.constraint.proofs.Library.{leb-true, length, length-append, length-map, length-replicate, length-set, length-take-le, lt-ltb, ltb}
-pub use Rattle.constraint.proofs.Library.{ltb-false, ltb-true, map, map-append, min, needs, none, refl, replicate, set, set_at, set_out, set-set}
+pub use Rattle.constraint.proofs.Library.{ltb-false, ltb-true, map, map-append, min, rules, none, refl, replicate, set, set_at, set_out, set-set}
 pub use Rattle.constraint.proofs.Library.{some, subst, subst⁻¹, subst₂, suc, sym, take, take_all, take-suc, true, zero, ℕ, ℕ_discrete, ⊎_elim}
 pub use Rattle.constraint.proofs.Lists.{both, get_d_within, or_false, or-true, split}
 pub use Rattle.constraint.proofs.Runs.{accepts_taken, broken_exactly, kept_exactly, reads_once, run_valid}

@@ -3,7 +3,7 @@ pub use Rattle.constraint.proofs.History.{Accepts, Past, Valid, clock_tick, clos
 pub use Rattle.constraint.proofs.History.{valid_more}
 pub use Rattle.constraint.proofs.Library.{Bool, List, [], ◌%◌, ◌&&◌, ◌*◌, ◌++◌, ◌+◌, ◌-◌, ◌/◌, ◌<◌, ◌^◌, ◌||◌, ◌∙◌, ◌∷◌, ◌≡◌, ◌≤◌, ◌⊎◌, add-one, ap}
 pub use Rattle.constraint.proofs.Library.{ap₂, arith, by_cases, cond, dec_lt, drop, eq-eqb, eqb, false, get_or, get_or-replicate, get_elem?, inl, inr}
-pub use Rattle.constraint.proofs.Library.{le-ltb, leb, length, lt-ltb, ltb, ltb-false, ltb-true, min, needs, none, now, refl, replicate, some}
+pub use Rattle.constraint.proofs.Library.{le-ltb, leb, length, lt-ltb, ltb, ltb-false, ltb-true, min, rules, none, refl, replicate, some}
 pub use Rattle.constraint.proofs.Library.{subst, subst₂, suc, sym, true, zero, ℕ, ⊎_elim}
 pub use Rattle.constraint.proofs.{Judged.judged_once, Judged.never, Lists.both, Lists.or_false, Lists.split}
 pub use Rattle.constraint.proofs.{Streams.stream_below, Streams.streams, Verdicts.broken_shut, Verdicts.open_of_meets}

@@ -3,8 +3,8 @@ pub use Rattle.constraint.proofs.History.{Accepts, Past, Valid, clock_close, clo
 pub use Rattle.constraint.proofs.History.{own_close, own_other, own_tick, past_of, valid_more}
 pub use Rattle.constraint.proofs.Library.{Bool, List, List·getD-eq-default, [], ◌&&◌, ◌++◌, ◌+◌, ◌<◌, ◌||◌, ◌∙◌, ◌∷◌, ◌≡◌, ◌≢◌, ◌≤◌, ◌⊎◌, ap}
 pub use Rattle.constraint.proofs.Library.{append-nil, arith, cond, drop, eq-eqb, eqb, eqb-false, eqb-true, false, get_or, inl, inr, le-ltb, length}
-pub use Rattle.constraint.proofs.Library.{length-append, length-drop, length-set, lt-ltb, ltb, ltb-false, ltb-true, ne_eqb, needs, not-false}
-pub use Rattle.constraint.proofs.Library.{length-replicate, length-take-le, not-true, now, refl, replicate, set, subst, suc, sym, take, true, zero, ℕ}
+pub use Rattle.constraint.proofs.Library.{length-append, length-drop, length-set, lt-ltb, ltb, ltb-false, ltb-true, ne_eqb, rules, not-false}
+pub use Rattle.constraint.proofs.Library.{length-replicate, length-take-le, not-true, refl, replicate, set, subst, suc, sym, take, true, zero, ℕ}
 pub use Rattle.constraint.proofs.Library.{◌%◌, min, ⊎_elim}
 pub use Rattle.constraint.proofs.{Continuations.continues_closed, Continuations.meets_same, Continuations.open_at_tick, Lists.both, Lists.split}
 pub use Rattle.constraint.proofs.{Streams.among_kinds, Streams.among_where, Streams.kind_small, Streams.streams, Verdicts.broken_later}

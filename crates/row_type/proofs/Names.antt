@@ -5,7 +5,7 @@ pub use Rattle.constraint.proofs.History.{Accepts, Past, clock_event, clock_tick
 pub use Rattle.constraint.proofs.Library.{Bool, List, [], ◌%◌, ◌&&◌, ◌*◌, ◌++◌, ◌+◌, ◌-◌, ◌<◌, ◌||◌, ◌↔◌, ◌∙◌, ◌∷◌, ◌≡◌, ◌≤◌, ◌⊎◌, ap, append-nil}
 pub use Rattle.constraint.proofs.Library.{arith, by_cases, cond, dec_lt, drop, eq-eqb, eqb, eqb-false, eqb-true, false, get_or, inl, inr, le-leb, le-ltb}
 pub use Rattle.constraint.proofs.Library.{leb, leb-false, leb-true, length, length-append, length-drop, length-set, lt-leb, lt-ltb, ltb, ltb-false}
-pub use Rattle.constraint.proofs.Library.{ltb-true, ne_eqb, needs, refl, replicate, set, subst, subst₂, suc, sym, take, take-take, transport, true}
+pub use Rattle.constraint.proofs.Library.{ltb-true, ne_eqb, rules, refl, replicate, set, subst, subst₂, suc, sym, take, take-take, transport, true}
 pub use Rattle.constraint.proofs.Library.{true≢false, zero, ℕ, ℕ_discrete}
 pub use Rattle.constraint.proofs.Lists.{Each, Rising, at_left, at_next, each_cons, each_none, rising_by, rising_snoc, split}
 pub use Rattle.constraint.proofs.{Lengths.at_most, Streams.streams, Streams.streams_in}

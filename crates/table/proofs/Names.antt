@@ -6,7 +6,7 @@ pub use Rattle.constraint.proofs.Library.{List, [], ◌*◌, ◌++◌, ◌+◌, 
 pub use Rattle.constraint.proofs.Library.{add-sub_cancel_left, add-zero, ap, append_assoc, ap₂, arith, drop, drop-append_seam}
 pub use Rattle.constraint.proofs.Library.{drop_at, drop-cons, drop-drop, drop_of_length-le, eqb, eqb-false, eqb-true, ext_get_or, get_or}
 pub use Rattle.constraint.proofs.Library.{get_or-drop, get_or-take, get_elem?, leb, length, length-append, length-drop, length-map}
-pub use Rattle.constraint.proofs.Library.{length-take, length-take-le, ltb, ltb-false, ltb-true, needs, now, refl, sets, some, subst}
+pub use Rattle.constraint.proofs.Library.{length-take, length-take-le, ltb, ltb-false, ltb-true, rules, refl, sets, some, subst}
 pub use Rattle.constraint.proofs.Library.{subst⁻¹, subst₂, suc, sym, take, take_all, take-append-drop, take-append_seam, take_at}
 pub use Rattle.constraint.proofs.Library.{zero, ℕ}
 pub use Rattle.constraint.proofs.{Editions.edition_above, Judged.skipped, Lists.split}

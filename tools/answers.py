@@ -105,10 +105,10 @@ class Function:
             at = it[1]
         return None, None
 
-    def resolve(self, words, place):
+    def resolve(self, words, place, is_view=True):
         """Walks `before` and the first field: returns ('place', P) or ('path', new words)."""
         words = list(words)
-        top = place
+        top = place if is_view else None
         while words and words[0] == "before":
             parent = self.old_places[place][1]
             if parent is None:
@@ -127,9 +127,20 @@ class Function:
             words[0] = new
         return "path", words
 
-    def body(self, text, place, base="c"):
+    def above(self, place, high):
+        """How many steps the place `high` is above a place."""
+        n = 0
+        while place != high:
+            place = self.old_places[place][1]
+            n += 1
+            if place is None:
+                return None
+        return n
+
+    def body(self, text, place, base="c", is_view=True):
         """Rewrites the paths in a body whose variable `base` is of the place."""
         aliases = {base: (base, place)}
+        whole = lambda at: ".".join([base, *["before"] * (self.above(place, at) + is_view)])
         out, i = "", 0
         pattern = re.compile(rf"let ({NAME}) = ({NAME}(?:\.[A-Za-z0-9_'·₀-₉-]+)*) in\b[ ]?|{TOKEN.pattern}")
         for m in pattern.finditer(text):
@@ -139,7 +150,7 @@ class Function:
                 words = m[2].split(".")
                 if words[0] in aliases:
                     base_var, at = aliases[words[0]]
-                    kind, got = self.resolve(words[1:], at)
+                    kind, got = self.resolve(words[1:], at, is_view)
                     if kind == "place":
                         aliases[m[1]] = (base_var, got)
                         continue
@@ -153,16 +164,11 @@ class Function:
             if words[0] in aliases:
                 base_var, at = aliases[words[0]]
                 if len(words) == 1:
-                    if words[0] != base_var or at != aliases[base_var][1]:
-                        self.tell(f"a whole place: {m[0]}")
-                        out += f"{base_var}"
-                    else:
-                        out += m[0]
+                    out += whole(at)
                     continue
-                kind, got = self.resolve(words[1:], at)
+                kind, got = self.resolve(words[1:], at, is_view)
                 if kind == "place":
-                    self.tell(f"a whole place: {m[0]}")
-                    out += m[0]
+                    out += whole(got)
                 else:
                     out += ".".join([base_var, *got])
                 continue
@@ -171,6 +177,24 @@ class Function:
         # A line that has only what a dropped let left.
         lines = [it.rstrip() for it in out.split("\n")]
         return "\n".join(it for k, it in enumerate(lines) if it or not k)
+
+
+def scopes(body, names):
+    """Where the body binds one of the names again: for each name the stretches in which it is the new one."""
+    found = {}
+    for m in re.finditer(rf"\(((?:{NAME} ?)+) :", body):
+        for p in m[1].split():
+            if p not in names:
+                continue
+            depth, i = 0, m.start()
+            while i < len(body):
+                depth += body[i] in "([{"
+                depth -= body[i] in ")]}"
+                if depth < 0:
+                    break
+                i += 1
+            found.setdefault(p, []).append((m.start(), i))
+    return found
 
 
 def invariant(fn, name, lines):
@@ -200,12 +224,11 @@ def invariant(fn, name, lines):
         return None
     to = {p: v for p, v in zip(params, mapped) if p != "_"}
     body = m[2]
-    for p in to:
-        if re.search(rf"[λ(] ?\(?(?:\S+ )*{re.escape(p)}(?: \S+)* :|let {re.escape(p)} =", body):
-            fn.tell(f"{name}: binds {p} again")
+    hidden = scopes(body, to)
     def turn(it):
         words = it[0].split(".")
-        words[0] = to.get(words[0], words[0])
+        if not any(a <= it.start() < b for a, b in hidden.get(words[0], ())):
+            words[0] = to.get(words[0], words[0])
         return ".".join(words)
     body = TOKEN.sub(turn, body)
     unfold = re.findall(r"(?m)^unfolding .*$", text)
@@ -286,6 +309,18 @@ def turn(crate, folder, names):
             continue
         m = re.match(rf"(?s)\(({NAME})( .*)\)$", bare)
         inline.append((k, "c", f"{bare} c"))
+    for block, lines, above in blocks:
+        m = re.search(r": tie\.Need-([A-Za-z0-9_'-]+)", lines[0])
+        if m and block != "use":
+            ks = [k for k, (old, new) in enumerate(fn.needs) if flat(old) == flat(m[1])] or [k for k, (old, new) in enumerate(fn.needs) if flat(old) == flat(re.sub(r"^overflow[_-]", "", m[1]))]
+            if ks and block in answered:
+                answered[block] = ks[:1] + [k for k in answered[block] if k not in ks and len(args) == len(fn.needs)]
+            elif ks and not TRIVIAL.match(block):
+                answered[block] = ks[:1]
+            elif block not in answered:
+                fn.tell(f"{block}: no goal {m[1]}")
+    if len(args) != len(fn.needs) and inline:
+        fn.tell(f"inline answers by place: {[fn.needs[k][1] for k, _, _ in inline]}")
     uses = []
     for block, lines, above in blocks:
         if block == "use":
@@ -310,6 +345,7 @@ def turn(crate, folder, names):
         if block in answered:
             goal_of[block] = [fn.needs[k][1] for k in answered[block]]
     made_names = {b: g[0] for b, g in goal_of.items()}
+    ties = []
     extra = []
     for block, lines, above in decl:
         if re.match(r"(invariant|decreases)[_-]loop", block) and "tie." in lines[0]:
@@ -327,14 +363,21 @@ def turn(crate, folder, names):
                 unfold = [it for it in lines[1:] if it.startswith("unfolding")]
                 clauses = [it for it in lines[1:] if not it.startswith("unfolding")]
                 source = opened("\n".join(clauses), formulas)
-                m = re.match(rf"(?s){re.escape(block)} (\S+)((?: κs)?) =(.*)", source)
-                if not m:
-                    fn.tell(f"{block}: not turned")
-                    answers.append("\n".join(["-- by hand: " + it for it in lines]))
-                    continue
-                done = fn.body(m[3], place, m[1])
-                done = done if done.startswith("\n") else " " + done.lstrip()
-                answers.append("\n".join([*above, f"pub {new} : goal.{new}", *unfold, f"{new} {m[1]} ={done}"]))
+                made = []
+                for one in re.split(rf"(?m)^(?={re.escape(block)} )", source):
+                    if not one.strip():
+                        continue
+                    m = re.match(rf"(?s){re.escape(block)} ([^\s=]+)((?: [^=\n]*?)?) =(.*)", one)
+                    if not m:
+                        m = re.match(rf"(?s){re.escape(block)} (=)()(.*)", one)
+                        made += [f"-- by hand: {it}" for it in one.split("\n")]
+                        fn.tell(f"{block}: not turned")
+                        continue
+                    done = fn.body(m[3].rstrip("\n"), place, m[1])
+                    done = done if done.startswith("\n") else " " + done.lstrip()
+                    rest = re.sub(r"^ κs", "", m[2])
+                    made.append(f"{new} {m[1]}{rest} ={done}")
+                answers.append("\n".join([*above, f"pub {new} : goal.{new}", *unfold, *made]))
             continue
         # a helper of its own
         source = "\n".join(lines)
@@ -343,9 +386,12 @@ def turn(crate, folder, names):
             var, word = typed[0]
             place = fn.place(word)
             if place:
+                more = "".join(f" goal.the-invariant-{new} goal.the-decreases-{new}" for (old, new), _ in fn.names["loops"])
+                named = re.compile(r"tie\.[A-Za-z0-9_'-]+(?: invariant_\w+ decreases_\w+)*(?=\))")
+                source = named.sub(lambda it: "tie." + fn.new_place[place] + (more if " " in it[0] else ""), source)
                 head, _, rest = source.partition("\n")
-                source = re.sub(r"tie\.[A-Za-z0-9_'-]+(?: invariant_\w+ decreases_\w+)*(?=\))", lambda it: "goal." + fn.new_place[place], source)
-                source = fn.body(source, place, var)
+                source = head + "\n" + fn.body(rest, place, var, is_view=False)
+                ties.append(block)
             else:
                 fn.tell(f"{block}: the place {word}")
         elif "tie." in source:
@@ -363,7 +409,7 @@ def turn(crate, folder, names):
     modules = f"Rattle.{name}.proofs.{path}"
     answers_text = invariants_text = None
     if answers:
-        answers_text = "\n".join([*header, *uses, f"use {modules}.Goals as goal"]) + "\n\n" + full + "\n"
+        answers_text = "\n".join([*header, *uses, f"use {modules}.Goals as goal", *[f"use {modules}.Tie as tie"] * bool(ties)]) + "\n\n" + full + "\n"
     if invariants:
         invariants_text = "\n".join([*header, *uses, f"use {modules}.Given as goal"]) + "\n\n" + "\n\n".join(invariants) + "\n"
     return answers_text, invariants_text, fn.told

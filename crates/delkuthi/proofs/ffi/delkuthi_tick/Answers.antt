@@ -1,0 +1,6 @@
+-- What is stored is what a request on the monitor's words promises.
+use Rattle.delkuthi.proofs.Names.{rules, takes_of}
+use Rattle.delkuthi.proofs.ffi.delkuthi_tick.Goals as goal
+
+pub returns : goal.returns
+returns c = takes_of c.tick.ensures

@@ -1,7 +1,0 @@
--- What is stored is what a request on the monitor's words promises.
-use Rattle.delkuthi.proofs.Names.{needs, takes_of}
-use Rattle.delkuthi.proofs.ffi.delkuthi_withdraw.Statement.{statement}
-use Rattle.delkuthi.proofs.ffi.delkuthi_withdraw.Tie as tie
-
-pub delkuthi_withdraw_spec : {M : Type 1} → statement M
-delkuthi_withdraw_spec = tie.close (tie.spec (λ c κs. search needs) (λ c. takes_of c.withdraw.ensures))

@@ -1,0 +1,9 @@
+-- What is written is what the summary of the monitor says that has taken the recording.
+use Rattle.delkuthi.proofs.Names.{rules}
+use Rattle.delkuthi.proofs.{Reports.reports_on}
+use Rattle.delkuthi.proofs.report.report_on.Goals as goal
+
+pub returns : goal.returns
+returns c =
+    reports_on c.summary_of-summary.result c.answer-on.ensures c.summary_of-summary.ensures
+    c.write.ensures

@@ -1,0 +1,15 @@
+-- The lines are those of the answer, behind an empty text.
+use Rattle.delkuthi.proofs.Names.{rules}
+use Rattle.delkuthi.proofs.{Reports.holds_closed, Reports.holds_refusal}
+use Rattle.delkuthi.proofs.report.text_of.Goals as goal
+
+pub returns-in-Accepted : goal.returns-in-Accepted
+returns-in-Accepted c =
+    rw c.enum_told.given.1
+    (holds_closed c.before.args.t2 c.closed-line.result c.row_lines.result
+    (rw (← c.new.ensures) c.closed-line.ensures) (rw (← c.held.ensures) c.row_lines.ensures))
+
+pub returns-in-Refused : goal.returns-in-Refused
+returns-in-Refused c =
+    rw c.answer-1.given.1
+    (holds_refusal _ _ c.refused_line.result (rw (← c.new-in-Refused.ensures) c.refused_line.ensures))

@@ -1,0 +1,40 @@
+-- The length of the table, and the place of a refusal, are small enough for 256 times them to fit in 64 bits.
+use Rattle.delkuthi.proofs.Adding.{numbered_added, numbered_refused, small_added, small_refused}
+use Rattle.delkuthi.proofs.Names.{◌<◌, ◌≤◌, arith, rules, }
+use Rattle.delkuthi.proofs.tables.delkuthi_add_row.Goals as goal
+use Rattle.delkuthi.proofs.tables.delkuthi_add_row.Tie as tie
+
+-- what was added, and where it was refused
+count : (c : tie.In-Added-2) → c.count.given.0.0 ≤ 5413
+count c =
+    let w = c.add_row in let a = c.args in
+    small_added a.table.now a.length a.body.now w.new.0 w.result w.ensures c.count-1.given.0.0 c.count-1.given.1
+
+refusal : (c : tie.In-Refused-2) → (0 < c.number.given.0.0) × (c.number.given.0.1.0 ≤ 5249)
+refusal c =
+    let w = c.add_row in let a = c.args in
+    small_refused a.table.now a.length a.body.now w.new.0 w.result w.ensures c.number-1.given.0.0
+    c.number-1.given.0.1.0 c.number-1.given.1
+
+pub returns-in-Added : goal.returns-in-Added
+returns-in-Added c =
+    let w = c.add_row in
+    let a = c.args in
+    numbered_added a.table.now a.length a.body.now w.new.0 w.result w.ensures c.count-1.given.0.0
+    c.count-1.given.1
+
+pub returns-in-Refused : goal.returns-in-Refused
+returns-in-Refused c =
+    let w = c.add_row in
+    let a = c.args in
+    numbered_refused a.table.now a.length a.body.now w.new.0 w.result w.ensures c.number-1.given.0.0
+    c.number-1.given.0.1.0 c.number-1.given.1 (omega arith)
+
+pub overflow_mul-number : goal.overflow_mul-number
+overflow_mul-number c = omega (arith, count c.before.before)
+
+pub overflow_mul-result : goal.overflow_mul-result
+overflow_mul-result c = omega (arith, refusal c.before.before)
+
+pub overflow_add-result : goal.overflow_add-result
+overflow_add-result c = omega (arith, refusal c.before.before)

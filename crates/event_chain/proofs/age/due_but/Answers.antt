@@ -1,0 +1,19 @@
+-- The loop goes from colour to colour: the due time so far is that of those passed.
+use Rattle.event_chain.specs.Age.{due_age}
+use Rattle.constraint.proofs.Library.{◌-◌, ◌≡◌, ◌≤◌, add-one, arith, refl}
+use Rattle.ring.specs.Ring.{ring}
+use Rattle.event_chain.proofs.age.due_but.Goals as goal
+
+pub loop-n-init : goal.loop-n-init
+unfolding due_age
+loop-n-init c = (omega arith, refl)
+
+pub loop-n-preserved : goal.loop-n-preserved
+unfolding due_age
+loop-n-preserved c =
+    (omega arith, rw (add-one c.loop-n.n, c.smaller-due.ensures, c.owed_of.ensures, ← c.loop-n.invariant.1))
+
+pub returns : goal.returns
+returns c =
+    let end : c.loop-n.n ≡ 8 = omega arith in
+    rw (c.loop-n.invariant.1, end)

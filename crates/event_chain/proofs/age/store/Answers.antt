@@ -1,0 +1,18 @@
+-- A pair that breaks the row, or one that is stored with the due time that it leaves.
+use Rattle.constraint.proofs.Library.{rules, refl}
+use Rattle.row_type.specs.Words.{changed_words, number_words, row_as_words}
+use Rattle.event_chain.proofs.age.store.Goals as goal
+
+pub returns-then-pair : goal.returns-then-pair
+unfolding row_as_words number_words changed_words
+returns-then-pair c parameters times state past e = rw (c.break_at.ensures parameters times state past e, c.if-pair.true) refl
+
+pub returns : goal.returns
+unfolding row_as_words number_words changed_words
+returns c parameters times state past e =
+    rw (
+      c.put_marked.ensures parameters times state past e,
+      rw e at c.due_after-due.ensures,
+      rw e at c.due_marked-before.ensures,
+      c.if-pair.false,
+    ) refl

@@ -1,0 +1,19 @@
+-- The loop goes from kind to kind.
+use Rattle.event_chain.specs.{Coloured.least_of}
+use Rattle.constraint.proofs.Library.{◌-◌, ◌≡◌, ◌≤◌, add-one, arith, refl}
+use Rattle.constraint.specs.Steps.{at}
+use Rattle.event_chain.proofs.coloured.least.Goals as goal
+
+pub loop-i-init : goal.loop-i-init
+unfolding least_of
+loop-i-init c = (omega arith, refl)
+
+pub loop-i-preserved : goal.loop-i-preserved
+unfolding least_of
+loop-i-preserved c =
+    (omega arith, rw (add-one c.loop-i.i, c.smaller-x.ensures, ← c.loop-i.invariant.1))
+
+pub returns : goal.returns
+returns c =
+    let end : c.loop-i.i ≡ c.args.n = omega arith in
+    rw (c.loop-i.invariant.1, end)

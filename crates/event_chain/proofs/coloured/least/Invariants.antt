@@ -1,0 +1,11 @@
+-- The loop goes from kind to kind.
+use Rattle.event_chain.specs.{Coloured.least_of}
+use Rattle.constraint.proofs.Library.{◌-◌, ◌≡◌, ◌≤◌, add-one, arith, refl}
+use Rattle.constraint.specs.Steps.{at}
+use Rattle.event_chain.proofs.coloured.least.Given as goal
+
+abbrev pub invariant-loop-i : goal.invariant-loop-i
+invariant-loop-i l = (l.i ≤ l.n) × (l.x ≡ least_of (at l.w) l.i)
+
+abbrev pub decreases-loop-i : goal.decreases-loop-i
+decreases-loop-i l = l.n - l.i

@@ -1,0 +1,44 @@
+-- Row after row: before the turn of number i the first i are stored, and the others are read from the place on that the turn has.
+use Rattle.fresh.proofs.Names.{Constraint, List, ReadsRows, RowsBehind, RowsPut, [], ◌-◌, ◌∙◌, ◌≡◌, ◌≤◌, after, ap, ap₂, arith, at, drop}
+use Rattle.fresh.proofs.Names.{Known, Placed, length, refl, no_row_undo, row_of, subst, sym, table_of, ℕ}
+use Rattle.fresh.proofs.Scanned.{put_next, put_none, row_known, scan_next}
+use Rattle.fresh.proofs.{Freshness.kept_is, Freshness.row_is}
+use Rattle.row.specs.Stored as Stored
+use Rattle.fresh.proofs.put_rows.Goals as goal
+
+-- the row that is loaded
+abbrev placed : tie.After-load-at invariant_loop decreases_loop → Placed
+placed d = record { row = record { tag = d.load_at.result.tag; values = d.load_at.new.0 }; next = d.load_at.result.next }
+
+pub loop-i-preserved : goal.loop-i-preserved
+loop-i-preserved c =
+    let l = c.loop-i in (
+      omega arith,
+      c.load_at-found.ensures.many,
+      λ rows reads.
+          let so_far = l.invariant.2 rows reads in
+          let next = scan_next _ rows l.i l.place (placed c.before.before.before.before) so_far.0 c.load_at-found.ensures.placed in
+          let row = c.begin.ensures ∙ ap (λ (x : Constraint). Stored.words_of_row (row_of x) no_row_undo) next.0
+          ∙ ap₂ Stored.words_of_row (sym (row_is rows l.i)) (sym (kept_is rows l.i)) in
+          (next.1, λ long. put_next _ (after rows []) l.i l.m c.begin.new.0 (omega (arith, long)) (so_far.1 long) row),
+    )
+
+-- the row that is loaded is of a known type
+pub begin-requires : goal.begin-requires
+begin-requires c =
+    let l = c.loop-i in
+    let rows = c.requires.0 in let reads = c.requires.1 in
+    let next = scan_next _ rows l.i l.place (placed c.before.before.before) (l.invariant.2 rows reads).0 c.load_at-found.ensures.placed in
+    subst Known (sym next.0) (row_known _ rows reads l.i)
+
+pub returns : goal.returns
+returns c rows reads long =
+    let l = c.loop-i in
+    let at_end : l.i ≡ 32 = omega arith in
+    subst (λ (k : ℕ). RowsPut c.args.m.now (after rows []) k l.m) at_end ((l.invariant.2 rows reads).1 long)
+
+pub loop-i-init : goal.loop-i-init
+loop-i-init c = (omega arith, refl, λ rows reads. (reads, λ long. put_none _ (after rows [])))
+
+pub load_at-found-requires : goal.load_at-found-requires
+load_at-found-requires c = c.loop-i.invariant.1

@@ -1,0 +1,48 @@
+-- Row after row, the last first: before the turn of the row below number i the set of those from i on is there, one digit for each.
+use Rattle.fresh.proofs.Names.{Lent, Shaped, ◌*◌, ◌+◌, ◌-◌, ◌<◌, ◌^◌, ◌∙◌, ◌≡◌, ◌≤◌, ap, ap₂, arith, is_of, pow-le-pow_right, pow-suc}
+use Rattle.fresh.proofs.Names.{set_from, subst, suc, words_of_lent, ℕ}
+use Rattle.fresh.proofs.set_of.Goals as goal
+use Rattle.fresh.proofs.set_of.Tie as tie
+
+pub loop-i-init : goal.loop-i-init
+unfolding set_from
+loop-i-init c =
+    let a = c.args in
+    let none : 0 ≡ a.n - a.n = omega arith in
+    (omega arith, subst (λ (k : ℕ). 0 < 2 ^ k) none (omega arith), λ h e s. ap (set_from (is_of h.monitor a.kind) a.n) none)
+
+pub loop-i-preserved : goal.loop-i-preserved
+unfolding set_from
+loop-i-preserved c =
+    let a = c.args in let i = c.loop-i.i in let inv = c.loop-i.invariant in
+    let more : suc (a.n - i) ≡ a.n - (i - 1) = omega (arith, inv.0) in
+    let same : i ≡ suc (i - 1) = omega arith in (
+      omega (arith, inv.0),
+      subst (λ (k : ℕ). 2 * c.loop-i.rows + c.digit_of.result < 2 ^ k) more
+          (omega (arith, inv.1, c.digit_of.ensures.0, pow-suc 2 (a.n - i))),
+      λ h e s.
+          let test = is_of h.monitor a.kind in
+          ap₂ (λ (x d : ℕ). 2 * x + d) (inv.2 h e s ∙ ap (λ (k : ℕ). set_from test k (a.n - i)) same) (c.digit_of.ensures.1 h e s)
+          ∙ ap (set_from test (i - 1)) more,
+    )
+
+pub returns : goal.returns
+returns c h e s =
+    let l = c.loop-i in let a = c.args in
+    let at_end : l.i ≡ 0 = omega (arith, c.loop-i-test.false) in
+    let all : a.n - l.i ≡ a.n = omega (arith, at_end) in
+    l.invariant.2 h e s ∙ ap₂ (set_from (is_of h.monitor a.kind)) at_end all
+
+-- there are at most 32 digits
+small : (c : tie.In-loop-i goal.the-invariant-loop-i goal.the-decreases-loop-i) → c.before.loop.rows < 4294967296
+small c =
+    let l = c.loop-i in
+    let most : 2 ^ (c.args.n - l.i) ≤ 2 ^ 32 =
+    pow-le-pow_right {n = 2} (omega arith) {i = c.args.n - l.i} {j = 32} (omega (arith, c.requires)) in
+    omega (arith, l.invariant.1, most)
+
+pub overflow_mul-rows : goal.overflow_mul-rows
+overflow_mul-rows c = omega (arith, small c.before)
+
+pub overflow_add-rows : goal.overflow_add-rows
+overflow_add-rows c = omega (arith, small c.before.before, c.digit_of.ensures.0)

@@ -1,0 +1,31 @@
+-- The answer is numbered; a refusal's place is small enough for the number to hold it.
+use Rattle.fresh.proofs.Names.{ReadsTableUpTo, ◌<◌, ◌≤◌, arith, rules, refl, table_refused}
+use Rattle.fresh.proofs.{Refusals.refused_small}
+use Rattle.fresh.proofs.validate.Goals as goal
+use Rattle.fresh.proofs.validate.Tie as tie
+
+-- the refusal that was read
+refusal : (c : tie.In-Refused-2)
+    → ReadsTableUpTo c.args.newest c.args.table.now
+    (table_refused c.answer-1.given.0.0 c.answer-1.given.0.1.0)
+refusal c = (rw c.answer-1.given.1 at c.validate-scanned.ensures).0
+
+small : (c : tie.In-Refused-2) → (0 < c.answer.given.0.0) × (c.answer.given.0.1.0 ≤ 5249)
+small c = refused_small c.args.table.now _ _ (refusal c)
+
+pub returns-in-Accepted : goal.returns-in-Accepted
+returns-in-Accepted c = record { accepted = λ _. rw c.enum_told-1.given.1 at c.validate-scanned.ensures; refused = λ other. absurd (other refl) }
+
+pub returns-in-Refused : goal.returns-in-Refused
+returns-in-Refused c =
+    record {
+      accepted = λ none. absurd (omega (arith, none, (small c.before.before).0));
+      refused = λ _.
+          record { question = _; place = _; reads = refusal c.before.before; above = (small c.before.before).0; below = omega arith; numbered = refl };
+    }
+
+pub overflow_mul-result : goal.overflow_mul-result
+overflow_mul-result c = omega (arith, (small c.before.before).1)
+
+pub overflow_add-result : goal.overflow_add-result
+overflow_add-result c = omega (arith, (small c.before.before).1)

@@ -1,0 +1,82 @@
+-- The first event may have its point anywhere within its jitter; a later one goes on where the three tests hold.
+use Rattle.constraint.proofs.Library.{Bool, List, ◌&&◌, ◌∙◌, ◌≡◌, ap, eq-eqb, eqb, false, le-leb, leb, lt-leb, ne_eqb, rules, refl, sym, true, ℕ}
+use Rattle.constraint.proofs.Library.{⊎_elim}
+use Rattle.ring.specs.Ring.{ring}
+use Rattle.row_type.specs.{Parts.breaking, Parts.far_enough, declared.Parameters.Parameters, declared.Registers.Registers}
+use Rattle.row_type.specs.Words.{changed_words, number_words, row_as_words}
+use Rattle.hidden_points.specs.Sporadic.{decide_sporadic, highest, later_sporadic, lowest, stride}
+use Rattle.hidden_points.proofs.sporadic.apply.Goals as goal
+
+-- the three tests of a later event
+abbrev goes : Parameters → Registers → ℕ → Bool
+goes parameters registers t =
+    far_enough parameters.minimum registers.last t &&
+    (leb (stride parameters.lower) parameters.upper && leb (lowest parameters registers t) (highest parameters registers t))
+
+breaks : (parameters : Parameters) (registers : Registers) (kept : List ℕ) (stream t : ℕ) → eqb registers.last 0 ≡ false
+    → goes parameters registers t ≡ false → decide_sporadic parameters registers kept stream t ≡ breaking
+unfolding decide_sporadic later_sporadic
+breaks parameters registers kept stream t later stops = rw (stops, later) refl
+
+-- one of them that does not hold is enough
+and_false : (x : Bool) → (x && false) ≡ false
+and_false true = refl
+and_false false = refl
+
+first_fails : (x y : Bool) → x ≡ false → (x && y) ≡ false
+first_fails x y e = rw e refl
+
+second_fails : (x y z : Bool) → y ≡ false → (x && (y && z)) ≡ false
+second_fails x y z e = rw e (and_false x)
+
+third_fails : (x y z : Bool) → z ≡ false → (x && (y && z)) ≡ false
+third_fails x y z e = rw (e, and_false y) (and_false x)
+
+pub returns-then-last-eq0 : goal.returns-then-last-eq0
+unfolding row_as_words number_words decide_sporadic
+returns-then-last-eq0 c parameters times state past e =
+    rw (c.place.ensures parameters times state past e, rw e at c.minus-near.ensures, eq-eqb _ _ (rw e at c.if-last-eq0.true)) refl
+
+pub returns-then-low-high : goal.returns-then-low-high
+unfolding row_as_words number_words decide_sporadic later_sporadic
+returns-then-low-high c parameters times state past e =
+    let a = c.args in
+    let strides : c.stride-stride.result ≡ stride parameters.lower = rw e at c.stride-stride.ensures in
+    let low : c.larger-low.result ≡ lowest parameters state.registers a.t = c.larger-low.ensures
+    ∙ rw (c.plus.ensures, strides, c.minus-near.ensures, e) refl in
+    let high : c.latest-high.result ≡ highest parameters state.registers a.t = rw e at c.latest-high.ensures in
+    rw (
+      c.place-then-low-high.ensures parameters times state past e,
+      ← rw e at c.far_enough.ensures,
+      ne_eqb _ _ (rw e at c.if-last-eq0.false),
+      ← low,
+      ← high,
+      c.if-far_enough.true,
+      ← strides,
+      le-leb _ _ (rw e at c.if-stride-upper.true),
+      le-leb _ _ c.if-low-high.true,
+    )
+    refl
+
+pub returns : goal.returns
+unfolding row_as_words number_words changed_words
+returns c parameters times state past e =
+    let a = c.args in
+    let strides : c.stride-stride.result ≡ stride parameters.lower = rw e at c.stride-stride.ensures in
+    let far = far_enough parameters.minimum state.registers.last a.t in
+    let wide = leb (stride parameters.lower) parameters.upper in
+    let room = leb (lowest parameters state.registers a.t) (highest parameters state.registers a.t) in
+    let stops : goes parameters state.registers a.t ≡ false =
+    ⊎_elim
+    (λ w. let low : w.6.result ≡ lowest parameters state.registers a.t = w.6.ensures
+    ∙ rw (w.5.ensures, strides, c.minus-near.ensures, e) refl in
+    let high : w.8.result ≡ highest parameters state.registers a.t = rw e at w.8.ensures in
+    let none : room ≡ false = rw (← low, ← high) (lt-leb _ _ w.9.left) in
+    third_fails far wide room none)
+    (λ v. let either = v.came in
+    ⊎_elim (λ w. first_fails far (wide && room) (sym (rw e at w.2.ensures) ∙ w.3.left))
+    (λ w. second_fails far wide room (ap (λ (x : ℕ). leb x parameters.upper) (sym strides) ∙ lt-leb _ _ (rw e at w.left))) either)
+    c.if-stride-upper.branch in
+    let kept = ring times state.head state.len in
+    let decided = breaks parameters state.registers kept a.stream a.t (ne_eqb _ _ (rw e at c.if-last-eq0.false)) stops in
+    rw (c.break_at.ensures parameters times state past e, decided) refl

@@ -1,0 +1,6 @@
+-- Each number is stored at its place; the first free times behind them stay.
+use Rattle.in_place.proofs.Names.{rules, refl}
+use Rattle.in_place.proofs.numbers.record_step.Goals as goal
+
+pub returns : goal.returns
+returns c = rw (c.plus.ensures, e, going) refl

@@ -1,0 +1,6 @@
+-- Each number is read before the first is stored, and stands again where it stood.
+use Rattle.in_place.proofs.Names.{rules, refl}
+use Rattle.in_place.proofs.numbers.restore_counters.Goals as goal
+
+pub returns : goal.returns
+returns c = rw (c.minus.ensures, e) refl

@@ -1,0 +1,12 @@
+-- Row after row: before the turn of number i the first i have taken it.
+use Rattle.in_place.proofs.Names.{Lent, Shaped, ◌-◌, ◌<◌, ◌∙◌, ◌≡◌, ◌≤◌, add-one, ap, arith, clock_applied, ended_row, ended_saves, kept_at, row_at}
+use Rattle.in_place.proofs.Names.{sym}
+use Rattle.in_place.proofs.Names.{words_of_lent, ℕ}
+use Rattle.in_place.proofs.{Blocks.row_lies, Blocks.row_stored, Parts.shaped_ended}
+use Rattle.in_place.proofs.rows.apply_clock_all.Given as goal
+
+abbrev pub invariant-loop-i : goal.invariant-loop-i
+invariant-loop-i l = (l.i ≤ l.n) × ((h : Lent) → l.initial.m ≡ words_of_lent h → Shaped h → l.m ≡ words_of_lent (clock_applied h l.i l.o l.number))
+
+abbrev pub decreases-loop-i : goal.decreases-loop-i
+decreases-loop-i l = l.n - l.i

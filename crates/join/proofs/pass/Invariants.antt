@@ -1,0 +1,11 @@
+-- The loop reads record after record: the kinds of those read are marked, and the first one to avoid is kept.
+use Rattle.join.proofs.Names.{[], ◌-◌, arith, clock_with, failed, free, length, passed, ticks_on, version_refused}
+use Rattle.join.proofs.Passing.{PassedTo, pass_end, pass_more, pass_refused, pass_start, pass_ticks}
+use Rattle.join.proofs.pass.Given as goal
+
+abbrev pub invariant-loop-place : goal.invariant-loop-place
+invariant-loop-place l =
+    PassedTo l.bytes l.avoid (clock_with l.clock l.next) l.kinds l.common l.place
+
+abbrev pub decreases-loop-place : goal.decreases-loop-place
+decreases-loop-place l = length l.bytes - l.place

@@ -1,0 +1,37 @@
+-- The loop gives the step to one row after the other, as many as the monitor holds, and stops at the first that it crowds.
+use Rattle.monitor.proofs.Names.{◌-◌, ◌∙◌, ◌≡◌, ◌≤◌, arith, length, length-map, rules, sym}
+use Rattle.monitor.proofs.{First.Moved, First.moved_all, First.moved_full, First.moved_next, First.moved_none}
+use Rattle.monitor.proofs.rows.step.Goals as goal
+use Rattle.monitor.proofs.rows.step.Tie as tie
+
+-- a monitor has 32 rows
+size : (c : tie.Start goal.the-invariant-loop-i goal.the-decreases-loop-i) → length c.args.m.rows ≡ 32
+size c = sym (length-map c.args.m.rows _) ∙ c.well-formed.0.1.1.0.1.0.1
+
+-- and keeps 32 beside them
+wide : (c : tie.Start goal.the-invariant-loop-i goal.the-decreases-loop-i) → length c.args.m.before ≡ 32
+wide c = sym (length-map c.args.m.before _) ∙ c.well-formed.0.1.1.1.1.1.1.1.1.0.1.0.1
+
+pub returns-then-stepped : goal.returns-then-stepped
+returns-then-stepped c =
+    let args = c.args in
+    moved_full args.o args.number args.m (size c.before.before.before.before.before.before.before) c.loop-i.after c.loop-i.i c.loop-i.invariant.1 _ _
+    (omega (arith, c.held-len.ensures)) c.step-stepped.ensures c.if-stepped.true
+
+pub loop-i-preserved : goal.loop-i-preserved
+loop-i-preserved c =
+    let args = c.args in (
+      omega arith,
+      moved_next args.o args.number args.m (size c.before.before.before.before.before.before.before.before.before.before) c.loop-i.after c.loop-i.i c.loop-i.invariant.1
+          (wide c.before.before.before.before.before.before.before.before.before.before) _ _ _ _
+          (omega (arith, c.held-len.ensures)) c.step-stepped.ensures c.saved-saved.ensures c.if-stepped.false,
+    )
+
+pub returns : goal.returns
+returns c =
+    let args = c.args in
+    moved_all args.o args.number args.m (size c.before.before.before.before) c.loop-i.after c.loop-i.i c.loop-i.invariant.1
+    (omega (arith, c.held-len.ensures))
+
+pub loop-i-init : goal.loop-i-init
+loop-i-init c = let args = c.args in (omega arith, moved_none args.o args.number args.m)

@@ -1,0 +1,6 @@
+-- The place is that of `time_at`.
+use Rattle.ring.proofs.Names.{rules}
+use Rattle.ring.proofs.time_at.Goals as goal
+
+pub returns : goal.returns
+returns c = rw (← c.place_of-at.ensures)

@@ -1,0 +1,26 @@
+-- The marks and the step that broke the row become the past beside the rest.
+use Rattle.row_type.proofs.Names.{rules, number_words, refl, row_as_words}
+use Rattle.row_type.specs.Words.{UndoRecord}
+use Rattle.row_type.proofs.row_words.save_undo_all.Goals as goal
+
+pub returns : goal.returns
+unfolding row_as_words number_words
+returns c parameters times state past e =
+    let counts = c.save_undo_counts.ensures parameters times state past e in
+    let whole : UndoRecord =
+    record {
+      state =
+          record {
+            registers = state.registers;
+            head = past.state.head;
+            len = past.state.len;
+            due = past.state.due;
+            kept = past.state.kept;
+            broken = state.broken;
+          };
+      place = past.place;
+      first = past.first;
+      second = past.second;
+      step = past.step;
+    } in
+    c.save_undo.ensures parameters times state whole (rw (counts, e) refl)

@@ -1,0 +1,47 @@
+-- The number is that of the stretch, or that of the refusal, which is from 1 to 127, and its place.
+use Rattle.constraint.proofs.Judged.{never}
+use Rattle.constraint.proofs.Library.{◌<◌, ◌≡◌, arith, rules, refl, ℕ}
+use Rattle.constraint.specs.{Stretches.AnswersStretchUpTo, declared.StretchAnswer.StretchAnswer}
+use Rattle.stretch_ffi.proofs.{StretchNumbers.stretch_short}
+use Rattle.stretch_ffi.proofs.stretch_number.Goals as goal
+
+-- the number of a refusal is small
+refusal_small : (n place m at : ℕ) → 0 < n → n < 256 → StretchAnswer.Refused n place ≡ StretchAnswer.Refused m at → (0 < m) × (m < 256)
+refusal_small n place m at above below e = let same : n ≡ m = cc in (omega (arith, same, above), omega (arith, same, below))
+
+-- and of a stretch
+stretch_parts : (first size tried a b c : ℕ) → first < 256 → size < 65536 → tried < 4294967296 → StretchAnswer.Found first size tried
+    ≡ StretchAnswer.Found a b c
+    → (a < 256) × (b < 65536) × (c < 4294967296)
+stretch_parts first size tried a b c one two three e =
+    let first_is : first ≡ a = cc in
+    let size_is : size ≡ b = cc in
+    let tried_is : tried ≡ c = cc in
+    (omega (arith, one, first_is), omega (arith, two, size_is), omega (arith, three, tried_is))
+
+pub returns-in-Found : goal.returns-in-Found
+returns-in-Found c =
+    let given = c.answer-1.given in
+    record {
+      answer = StretchAnswer.Found given.0.0 given.0.1.0 given.0.1.1.0;
+      answers = rw given.1 at c.shortest-answer.ensures;
+      equals = refl;
+      small = λ n place e. never (cc);
+      parts = λ first size tried e. stretch_parts given.0.0 given.0.1.0 given.0.1.1.0 first size tried (omega arith) (omega arith)
+          (omega arith) e;
+    }
+
+pub returns-in-Refused : goal.returns-in-Refused
+returns-in-Refused c =
+    let args = c.args in
+    let given = c.answer-in-Refused-1.given in
+    let says : AnswersStretchUpTo args.newest args.table.now args.recording.now args.row
+    (StretchAnswer.Refused given.0.0 given.0.1.0) =
+    rw given.1 at c.shortest-answer.ensures in
+    record {
+      answer = StretchAnswer.Refused given.0.0 given.0.1.0;
+      answers = says;
+      equals = omega (arith, c.place_number.ensures);
+      small = λ n place e. refusal_small given.0.0 given.0.1.0 n place (stretch_short _ _ _ _ _ says).0 (omega arith) e;
+      parts = λ first size tried e. never (cc);
+    }

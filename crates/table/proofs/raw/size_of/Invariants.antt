@@ -1,0 +1,11 @@
+-- The loop adds row after row: the size so far and the bytes of the rows left are the whole.
+use Rattle.table.proofs.Names.{Bytes, ◌*◌, ◌+◌, ◌-◌, ◌≡◌, ◌≤◌, ap, arith, length, raw_rows, raw_size, rows_bytes}
+use Rattle.table.proofs.RawRows.{left_size, rows_all, rows_end}
+use Rattle.table.proofs.raw.size_of.Given as goal
+
+abbrev pub invariant-loop-i : goal.invariant-loop-i
+invariant-loop-i l = (l.i ≤ l.count) × (l.size ≤ 1 + 40 * l.i)
+    × (l.size + length (rows_bytes (raw_rows l.bytes l.i (l.count - l.i))) ≡ 1 + length (rows_bytes (raw_rows l.bytes 0 l.count)))
+
+abbrev pub decreases-loop-i : goal.decreases-loop-i
+decreases-loop-i l = l.count - l.i

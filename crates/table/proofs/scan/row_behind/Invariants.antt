@@ -1,0 +1,12 @@
+-- Row after row: before the turn of number k the rows from k on are read from the place that the turn has.
+use Rattle.table.proofs.Names.{Constraint, List, ReadsRows, ◌-◌, ◌<◌, ◌∙◌, ◌≡◌, ◌≤◌, ap, arith, drop, filler, length, some, sym, table_of, ℕ}
+use Rattle.table.proofs.{Scanning.row_there, Scanning.scan_step}
+use Rattle.table.proofs.scan.row_behind.Given as goal
+
+abbrev pub invariant-loop-k : goal.invariant-loop-k
+invariant-loop-k l =
+    (l.k ≤ l.i) × ((edition : ℕ) (rows : List Constraint) → ReadsRows edition l.bytes 0 1 (table_of rows) → l.i < length rows
+    → ReadsRows edition l.bytes l.k l.place (table_of (drop l.k rows)))
+
+abbrev pub decreases-loop-k : goal.decreases-loop-k
+decreases-loop-k l = l.i - l.k

@@ -1,0 +1,7 @@
+-- A count of 0 is no row.
+use Rattle.constraint.proofs.Library.{refl}
+use Rattle.table_row.specs.Tables.{rows_of}
+use Rattle.table_row.proofs.Table.new.Goals as goal
+
+pub returns : goal.returns
+returns c = refl

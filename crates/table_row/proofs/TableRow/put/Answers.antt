@@ -1,0 +1,44 @@
+-- The length field, the type byte and the fields are stored one behind the other.
+use Rattle.constraint.proofs.Library.{◌+◌, ◌∙◌, ◌≡◌, ap, arith, rules, sets, ℕ, List}
+use Rattle.constraint.specs.Steps.{at}
+use Rattle.constraint.specs.Types.{TypeKnown}
+use Rattle.constraint.specs.Table.{fields_bytes}
+use Rattle.table_row.specs.Records.{fields_as, roles_of, row_in, total}
+use Rattle.table_row.proofs.Judging.{body_long, known_row, row_bytes_long, row_stores}
+use Rattle.table_row.proofs.{Lines.total_small}
+use Rattle.table_row.proofs.TableRow.put.Goals as goal
+use Rattle.table_row.proofs.TableRow.put.Tie as tie
+
+-- of a known type, with a known n
+known : (c : tie.Start) → TypeKnown c.requires.0.0 c.args.self.tag (at c.args.self.values 0)
+known c = known_row c.requires.0.0 c.args.self.tag c.args.self.values c.requires.0.1
+
+-- so its length is that of its roles, and 1 more
+long : (c : tie.After-size_of-size) → 1 + c.type_size.result ≡ 1 + total (roles_of c.before.before.before.before.args.self.tag
+    (at c.args.self.values 0))
+long c = ap (λ (n : ℕ). 1 + n) (c.type_size.ensures ∙ ap total c.roles_of-roles.ensures)
+
+pub overflow_add-size : goal.overflow_add-size
+overflow_add-size c = omega (arith, c.type_size.ensures, total_small c.roles_of-roles.result)
+
+pub put_fields-requires : goal.put_fields-requires
+put_fields-requires c =
+    let row = c.args.self in
+    omega (
+      arith,
+      c.requires.1,
+      row_bytes_long (row_in row),
+      body_long c.requires.0.0 row.tag row.values (known c.before.before.before.before.before.before.before.before.before.before.before.before.before.before),
+      c.put_byte.auto.0,
+      c.put_two.auto.0,
+    )
+
+pub returns : goal.returns
+returns c =
+    let row = c.args.self in
+    row_stores c.requires.0.0 row.tag row.values (known c.before.before.before.before.before.before.before.before.before.before.before.before.before.before.before.before.before) c.args.buffer.now _ _ _ c.args.place _
+    (long c.before.before.before.before.before.before.before.before.before.before.before.before.before)
+    c.put_two.ensures c.put_byte.ensures
+    (c.put_fields.ensures
+    ∙ ap (λ (r : List ℕ). sets c.put_byte.new.0 (c.args.place + 3) (fields_bytes (fields_as r row.values)))
+    c.roles_of-roles.ensures)

@@ -1,0 +1,38 @@
+-- The loop goes from byte to byte: where none before was the kind, the answer to what is asked of those left is the answer to all.
+use Rattle.constraint.proofs.Library.{Bool, ◌-◌, ◌∙◌, ◌≤◌, arith, false, sym, true, ⊎_elim}
+use Rattle.constraint.proofs.Judged.{free, same_test}
+use Rattle.constraint.specs.Records.{Absent, Decides}
+use Rattle.constraint.specs.Accepted.{kinds_in}
+use Rattle.table_row.specs.Records.{fields_from}
+use Rattle.table_row.proofs.FieldByField.{fields_end, kind_elsewhere, kind_here}
+use Rattle.table_row.proofs.fields.is_new.Goals as goal
+
+pub returns-then-values-i : goal.returns-then-values-i
+returns-then-values-i c =
+    let a = c.args in
+    let is = sym c.is_kind.ensures ∙ c.if-is_kind.true in
+    c.loop-i.invariant.1 false
+    (λ absent. (rw (kind_here a.roles.now a.values.now c.loop-i.i (omega (arith, c.requires.0)) is) at absent).0 (sym
+    c.if-values-i.true))
+
+pub loop-i-preserved : goal.loop-i-preserved
+loop-i-preserved c =
+    let a = c.args in
+    let is = sym c.is_kind.ensures in
+    let i = c.loop-i.i in (
+      omega arith,
+      λ b later. c.loop-i.invariant.1 b
+          (⊎_elim
+          (λ came. rw (kind_here a.roles.now a.values.now i (omega (arith, c.requires.0)) (is ∙ came.0.taken))
+          (same_test (λ absent. (λ e. came.2.left (sym e), absent)) (λ absent. absent.1) b later))
+          (λ came. rw (kind_elsewhere a.roles.now a.values.now i (omega (arith, c.requires.0)) (is ∙ came.left)) later)
+          c.if-is_kind.branch),
+    )
+
+pub returns : goal.returns
+returns c =
+    let a = c.args in
+    c.loop-i.invariant.1 true (rw (fields_end a.roles.now a.values.now c.loop-i.i (omega (arith, c.requires.0))) tt)
+
+pub loop-i-init : goal.loop-i-init
+loop-i-init c = (omega arith, λ b h. h)

@@ -1,0 +1,16 @@
+-- The loop goes from byte to byte: where none before was the kind, the answer to what is asked of those left is the answer to all.
+use Rattle.constraint.proofs.Library.{Bool, ◌-◌, ◌∙◌, ◌≤◌, arith, false, sym, true, ⊎_elim}
+use Rattle.constraint.proofs.Judged.{free, same_test}
+use Rattle.constraint.specs.Records.{Absent, Decides}
+use Rattle.constraint.specs.Accepted.{kinds_in}
+use Rattle.table_row.specs.Records.{fields_from}
+use Rattle.table_row.proofs.FieldByField.{fields_end, kind_elsewhere, kind_here}
+use Rattle.table_row.proofs.fields.is_new.Given as goal
+
+abbrev pub invariant-loop-i : goal.invariant-loop-i
+invariant-loop-i l =
+    (l.i ≤ 18) × ((b : Bool) → Decides (Absent l.kind (kinds_in (fields_from l.roles l.values l.i))) b
+    → Decides (Absent l.kind (kinds_in (fields_from l.roles l.values l.from))) b)
+
+abbrev pub decreases-loop-i : goal.decreases-loop-i
+decreases-loop-i l = 18 - l.i

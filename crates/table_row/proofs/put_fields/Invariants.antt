@@ -1,0 +1,16 @@
+-- The loop stores field after field: storing those left in what there is now gives the whole.
+use Rattle.constraint.proofs.Library.{◌*◌, ◌+◌, ◌-◌, ◌∙◌, ◌≡◌, ◌≤◌, ap, arith, length, refl, sets, sym, List}
+use Rattle.constraint.specs.Steps.{at}
+use Rattle.constraint.specs.Types.{Field}
+use Rattle.constraint.specs.Table.{fields_bytes}
+use Rattle.table_row.specs.Records.{fields_from}
+use Rattle.table_row.proofs.{FieldByField.fields_end, Stores.fields_more, Lines.width_small}
+use Rattle.table_row.proofs.put_fields.Given as goal
+
+abbrev pub invariant-loop-i : goal.invariant-loop-i
+invariant-loop-i l =
+    (l.i ≤ 18) × (length l.buffer ≡ length l.initial.buffer) × (l.next ≤ l.place + 8 * l.i)
+    × (sets l.buffer l.next (fields_bytes (fields_from l.roles l.values l.i)) ≡ sets l.initial.buffer l.place (fields_bytes (fields_from l.roles l.values 0)))
+
+abbrev pub decreases-loop-i : goal.decreases-loop-i
+decreases-loop-i l = 18 - l.i

@@ -1,0 +1,9 @@
+-- The parts of the line are put behind one another.
+use Rattle.constraint.proofs.Library.{rules}
+use Rattle.text.proofs.{Texts.extended_append}
+use Rattle.text.specs.Content.{extended}
+use Rattle.text.proofs.Text.closed_line.Goals as goal
+
+pub returns : goal.returns
+unfolding extended
+returns c = rw (c.push.ensures, c.decimal.ensures, c.word.ensures, extended_append)

@@ -1,0 +1,11 @@
+-- The parts of the line are put behind one another.
+use Rattle.constraint.proofs.Library.{rules}
+use Rattle.text.proofs.{Texts.extended_append}
+use Rattle.text.specs.Content.{extended}
+use Rattle.text.proofs.Text.refused_line.Goals as goal
+
+pub returns : goal.returns
+unfolding extended
+returns c =
+    rw (c.push-2.ensures, c.decimal.ensures, c.push.ensures, c.decimal-text.ensures, c.word.ensures)
+    (simp extended_append)

@@ -13,11 +13,15 @@ import sys
 
 NAME = r"[A-Za-z_ℕ⊎≢≡◌λ][A-Za-z0-9_'·₀-₉⁰-⁹⁻¹ℕ⊎-]*"
 TOKEN = re.compile(rf"(?<![A-Za-z0-9_'·ℕ⊎₀-₉.-]){NAME}(?:\.[A-Za-z0-9_'·₀-₉-]+)*")
-TRIVIAL = re.compile(r"\(?(?:λ [\w\sκ']+\.\s*)?(?:search\s+(?:rules|needs)|omega arith|tt|free)\)?$")
+TRIVIAL = re.compile(r"\(?(?:λ\s+[\w\sκ']+\.\s*)?(?:search\s+(?:rules|needs)|omega arith|tt|free)\)?$")
+
+
+# Names of calls that a script took for names of the library.
+GARBLED = {"type_size": "size_of"}
 
 
 def flat(word):
-    word = word.replace("-", "_")
+    word = GARBLED.get(word.replace("-", "_"), word.replace("-", "_"))
     return word[:-4] if word.endswith("_lem") else re.sub(r"_lem(\d+)$", r"\1", word)
 
 
@@ -76,15 +80,30 @@ def blocks_of(text):
 class Function:
     def __init__(self, crate, path, names):
         self.crate, self.path, self.names = crate, path, names
-        self.told = []
+        self.told, self.lemmas = [], set()
         self.old_places = {it[0]: it for it in names["places"]}
         self.new_place = {it[0]: new for it, new in zip(names["places"], names["places_by_name"])}
         self.typed = {it[0]: dict((b, a) for a, b in t) for it, t in zip(names["places"], names["typed"])}
+        self.args = {a: b.split(" .")[-1] for a, b in names["args"]}
+        self.arms = {it[0]: arm for it, arm in zip(names["places"], names["arms"])}
         self.needs = names["needs"]
         self.at = [a for a, b in names["asked_at"]]
 
     def tell(self, text):
         self.told.append(text)
+
+    def arm(self, place, words):
+        """The path of what a step of an arm gives, as today's arms have it."""
+        at, wanted = place, [flat(it) for it in words]
+        while at:
+            arm = self.arms.get(at)
+            if arm:
+                for new, old, path in arm[2]:
+                    n = 1 + len(path)
+                    if path and flat(old) == wanted[0] and [flat(it) for it in path] == wanted[1:n]:
+                        return [arm[0], new, *words[n:]]
+            at = self.old_places[at][1]
+        return None
 
     def place(self, word):
         """The old place of this name."""
@@ -117,6 +136,11 @@ class Function:
             words.pop(0)
         if not words:
             return "place", place
+        if words[0] in ("args", "ranges") and len(words) > 1:
+            words[1] = self.args.get(f".{words[0]} .{words[1]}", words[1])
+        arm = self.arm(place, words)
+        if arm:
+            return "path", arm
         new, old = self.field(place, words[0])
         if new:
             if old.startswith("shared_slice_known") or "known" in old:
@@ -175,6 +199,10 @@ class Function:
             out += m[0]
         out += text[i:]
         # A line that has only what a dropped let left.
+        def negated(it):
+            self.lemmas.add("not-" + it[2])
+            return f"(not-{it[2]} _ {it[1]}.{it[2]})"
+        out = re.sub(r"(?<![\w.'-])([\w']+\.if-not-[A-Za-z0-9_'-]+)\.(true|false)(?![\w'-])", negated, out)
         lines = [it.rstrip() for it in out.split("\n")]
         return "\n".join(it for k, it in enumerate(lines) if it or not k)
 
@@ -303,12 +331,12 @@ def turn(crate, folder, names):
         if re.fullmatch(NAME, bare):
             answered.setdefault(bare, []).append(k)
             continue
-        m = re.match(r"(?s)\(λ ([^\s.]+)((?: [^\s.]+)*)\.\s?(.*)\)$", bare)
+        m = re.match(r"(?s)\(λ\s+([^\s.]+)((?:\s+[^\s.]+)*)\.\s?(.*)\)$", bare)
         if m:
-            inline.append((k, m[1], m[3]))
+            inline.append((k, m[1], re.sub(r"^ κs", "", " ".join(["", *m[2].split()])), m[3]))
             continue
         m = re.match(rf"(?s)\(({NAME})( .*)\)$", bare)
-        inline.append((k, "c", f"{bare} c"))
+        inline.append((k, "c", "", f"{bare} c"))
     for block, lines, above in blocks:
         m = re.search(r": tie\.Need-([A-Za-z0-9_'-]+)", lines[0])
         if m and block != "use":
@@ -320,7 +348,7 @@ def turn(crate, folder, names):
             elif block not in answered:
                 fn.tell(f"{block}: no goal {m[1]}")
     if len(args) != len(fn.needs) and inline:
-        fn.tell(f"inline answers by place: {[fn.needs[k][1] for k, _, _ in inline]}")
+        fn.tell(f"inline answers by place: {[fn.needs[k][1] for k, _, _, _ in inline]}")
     uses = []
     for block, lines, above in blocks:
         if block == "use":
@@ -388,19 +416,18 @@ def turn(crate, folder, names):
             if place:
                 more = "".join(f" goal.the-invariant-{new} goal.the-decreases-{new}" for (old, new), _ in fn.names["loops"])
                 named = re.compile(r"tie\.[A-Za-z0-9_'-]+(?: invariant_\w+ decreases_\w+)*(?=\))")
-                source = named.sub(lambda it: "tie." + fn.new_place[place] + (more if " " in it[0] else ""), source)
-                head, _, rest = source.partition("\n")
-                source = head + "\n" + fn.body(rest, place, var, is_view=False)
+                source = named.sub(lambda it: f"steps.{place} tie.the-claims reads.Pre reads.Post" + (more if " " in it[0] else ""), source)
+                source = fn.body(source, place, var, is_view=False)
                 ties.append(block)
             else:
                 fn.tell(f"{block}: the place {word}")
         elif "tie." in source:
             fn.tell(f"{block}: names tie")
         answers.append("\n".join([*above, source]))
-    for k, var, text in inline:
+    for k, var, rest, text in inline:
         new = fn.needs[k][1]
         done = fn.body(opened(text, formulas), fn.at[k], var)
-        answers.append(f"pub {new} : goal.{new}\n{new} {var} =" + ("" if done.startswith("\n") else " ") + done)
+        answers.append(f"pub {new} : goal.{new}\n{new} {var}{rest} =" + (done if done.startswith("\n") else " " + done.lstrip()))
     def respell(it):
         return re.sub(rf"(?<![\w.'-])({'|'.join(map(re.escape, made_names))})(?![\w'-])", lambda m: made_names[m[1]], it) if made_names else it
     full = "\n\n".join(answers)
@@ -408,8 +435,10 @@ def turn(crate, folder, names):
         fn.tell("an answer names the invariant")
     modules = f"Rattle.{name}.proofs.{path}"
     answers_text = invariants_text = None
+    if fn.lemmas:
+        uses.append(f"use borrow.Author.Tests.{{{', '.join(sorted(fn.lemmas))}}}")
     if answers:
-        answers_text = "\n".join([*header, *uses, f"use {modules}.Goals as goal", *[f"use {modules}.Tie as tie"] * bool(ties)]) + "\n\n" + full + "\n"
+        answers_text = "\n".join([*header, *uses, f"use {modules}.Goals as goal", *[f"use {modules}.{it}" for it in ("Tie as tie", "Reads as reads", "Lts as steps")] * bool(ties)]) + "\n\n" + full + "\n"
     if invariants:
         invariants_text = "\n".join([*header, *uses, f"use {modules}.Given as goal"]) + "\n\n" + "\n\n".join(invariants) + "\n"
     return answers_text, invariants_text, fn.told

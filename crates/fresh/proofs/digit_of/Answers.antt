@@ -5,12 +5,14 @@ use Rattle.fresh.proofs.Names.{number_words, parameters_at, refl, row_lies, row_
 use Rattle.row.specs.Stored as Stored
 use Rattle.fresh.proofs.digit_of.Goals as goal
 use Rattle.fresh.proofs.digit_of.Tie as tie
+use Rattle.fresh.proofs.digit_of.Reads as reads
+use Rattle.fresh.proofs.digit_of.Lts as steps
 
 parameters_read : (r : Row) (b : RowUndo) → parameters_at (get_or (Stored.words_of_row r b) 1 []) ≡ r.parameters
 unfolding Stored.words_of_row row_as_words number_words
 parameters_read r b = refl
 
-asked : (c : tie.After-concerns) (h : Lent) → let a = c.before.before.before.args in a.m.now ≡ words_of_lent h → Shaped h
+asked : (c : steps.After-concerns tie.the-claims reads.Pre reads.Post) (h : Lent) → let a = c.before.args in a.m.now ≡ words_of_lent h → Shaped h
     → c.concerns.result ≡ is_of h.monitor a.kind a.i
 asked c h e s =
     let st = c.before in let a = st.args in

@@ -3,6 +3,8 @@ use Rattle.fresh.proofs.Names.{Lent, Shaped, ◌*◌, ◌+◌, ◌-◌, ◌<◌,
 use Rattle.fresh.proofs.Names.{set_from, subst, suc, words_of_lent, ℕ}
 use Rattle.fresh.proofs.set_of.Goals as goal
 use Rattle.fresh.proofs.set_of.Tie as tie
+use Rattle.fresh.proofs.set_of.Reads as reads
+use Rattle.fresh.proofs.set_of.Lts as steps
 
 pub loop-i-init : goal.loop-i-init
 unfolding set_from
@@ -34,7 +36,7 @@ returns c h e s =
     l.invariant.2 h e s ∙ ap₂ (set_from (is_of h.monitor a.kind)) at_end all
 
 -- there are at most 32 digits
-small : (c : tie.In-loop-i goal.the-invariant-loop-i goal.the-decreases-loop-i) → c.before.loop.rows < 4294967296
+small : (c : steps.In-loop tie.the-claims reads.Pre reads.Post goal.the-invariant-loop-i goal.the-decreases-loop-i) → c.loop-i.rows < 4294967296
 small c =
     let l = c.loop-i in
     let most : 2 ^ (c.args.n - l.i) ≤ 2 ^ 32 =

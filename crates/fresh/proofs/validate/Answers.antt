@@ -3,18 +3,20 @@ use Rattle.fresh.proofs.Names.{ReadsTableUpTo, ◌<◌, ◌≤◌, arith, rules,
 use Rattle.fresh.proofs.{Refusals.refused_small}
 use Rattle.fresh.proofs.validate.Goals as goal
 use Rattle.fresh.proofs.validate.Tie as tie
+use Rattle.fresh.proofs.validate.Reads as reads
+use Rattle.fresh.proofs.validate.Lts as steps
 
 -- the refusal that was read
-refusal : (c : tie.In-Refused-2)
+refusal : (c : steps.After-answer tie.the-claims reads.Pre reads.Post)
     → ReadsTableUpTo c.args.newest c.args.table.now
-    (table_refused c.answer-1.given.0.0 c.answer-1.given.0.1.0)
-refusal c = (rw c.answer-1.given.1 at c.validate-scanned.ensures).0
+    (table_refused c.in-Refused.number c.in-Refused.place)
+refusal c = (rw c.in-Refused.is at c.validate-scanned.ensures).0
 
-small : (c : tie.In-Refused-2) → (0 < c.answer.given.0.0) × (c.answer.given.0.1.0 ≤ 5249)
+small : (c : steps.After-answer tie.the-claims reads.Pre reads.Post) → (0 < c.in-Refused.number) × (c.in-Refused.place ≤ 5249)
 small c = refused_small c.args.table.now _ _ (refusal c)
 
 pub returns-in-Accepted : goal.returns-in-Accepted
-returns-in-Accepted c = record { accepted = λ _. rw c.enum_told-1.given.1 at c.validate-scanned.ensures; refused = λ other. absurd (other refl) }
+returns-in-Accepted c = record { accepted = λ _. rw c.in-Accepted.is at c.validate-scanned.ensures; refused = λ other. absurd (other refl) }
 
 pub returns-in-Refused : goal.returns-in-Refused
 returns-in-Refused c =

@@ -8,4 +8,4 @@ returns-then-next-place c head =
     subst (λ (place : ℕ). HeadAt args.bytes.now place args.a) (sym c.if-next-place.true) head
 
 pub returns : goal.returns
-returns c = c.head_at.ensures
+returns c head = c.head_at.ensures

@@ -36,8 +36,8 @@ numbered m call s n steps e =
 
 pub returns-in-Taken : goal.returns-in-Taken
 returns-in-Taken c =
-    numbered _ _ c.step-stepped.result 0 c.step-stepped.ensures (rw c.enum_told-1.given.1)
+    numbered _ _ c.step-stepped.result 0 c.step-stepped.ensures (rw c.in-Taken.is)
 
 pub returns-in-Refused : goal.returns-in-Refused
 returns-in-Refused c =
-    numbered _ _ c.step-stepped.result c.answer-1.given.0.0 c.step-stepped.ensures (rw c.answer-1.given.1)
+    numbered _ _ c.step-stepped.result c.in-Refused.number c.step-stepped.ensures (rw c.in-Refused.is)

@@ -7,8 +7,10 @@ use Rattle.read_back.specs.Contract.{no_room}
 use Rattle.read_back.proofs.Bodies.{body_in, gives}
 use Rattle.read_back.proofs.give_body.Goals as goal
 use Rattle.read_back.proofs.give_body.Tie as tie
+use Rattle.read_back.proofs.give_body.Reads as reads
+use Rattle.read_back.proofs.give_body.Lts as steps
 
-short : (c : tie.After-length-size) → c.length.result ≤ 145
+short : (c : steps.After-length tie.the-claims reads.Pre reads.Post) → c.length-size.result ≤ 145
 short c = let row = c.args.row in
     omega (arith, c.length-size.ensures, row_short c.requires.0 row.tag row.values c.requires.1)
 

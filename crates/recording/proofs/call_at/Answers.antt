@@ -4,6 +4,8 @@ use Rattle.recording.proofs.{Records.reads_none, Records.reads_refused, Records.
 use Rattle.recording.specs.Record.{ReadsCall}
 use Rattle.recording.proofs.call_at.Goals as goal
 use Rattle.recording.proofs.call_at.Tie as tie
+use Rattle.recording.proofs.call_at.Reads as reads
+use Rattle.recording.proofs.call_at.Lts as steps
 
 pub returns-then-bytes-place : goal.returns-then-bytes-place
 returns-then-bytes-place c =
@@ -16,7 +18,7 @@ returns-then-record-gt0 c =
     rw c.refused-then-record-gt0.ensures (reads_refused args.bytes.now args.place (c.read_record-record.ensures.none c.if-record-gt0.true))
 
 -- the record is whole
-whole : (c : tie.After-struct_known-2-1)
+whole : (c : steps.After-struct_known2 tie.the-claims reads.Pre reads.Post)
     → (c.args.place + c.read_record-record.result.next
     ≤ length c.args.bytes.now)
     × ReadsCall c.args.bytes.now

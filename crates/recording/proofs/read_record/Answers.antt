@@ -4,16 +4,18 @@ use Rattle.constraint.specs.{Recording.RecordAt, Table.length_at}
 use Rattle.recording.proofs.{Records.body_length_lem, Records.record_none, Records.record_whole}
 use Rattle.recording.proofs.read_record.Goals as goal
 use Rattle.recording.proofs.read_record.Tie as tie
+use Rattle.recording.proofs.read_record.Reads as reads
+use Rattle.recording.proofs.read_record.Lts as steps
 
 -- the record is whole
-whole : (c : tie.Else-size-eq0) → RecordAt c.before.before.before.args.stretch.now 0
-    × (c.type_size.result ≡ 2 + length_at c.args.stretch.now 0)
-whole c = c.type_size.ensures.whole (omega (arith, c.if-size-eq0.false))
+whole : (c : steps.Else1 tie.the-claims reads.Pre reads.Post) → RecordAt c.args.stretch.now 0
+    × (c.size_of-size.result ≡ 2 + length_at c.args.stretch.now 0)
+whole c = c.size_of-size.ensures.whole (omega (arith, c.if-size-eq0.false))
 
 pub returns-then-size-eq0 : goal.returns-then-size-eq0
 returns-then-size-eq0 c =
     let args = c.args in
-    rw c.refused.ensures (record_none args.version args.stretch.now (c.type_size.ensures.none c.if-size-eq0.true))
+    rw c.refused.ensures (record_none args.version args.stretch.now (c.size_of-size.ensures.none c.if-size-eq0.true))
 
 pub call_of-call-requires : goal.call_of-call-requires
 call_of-call-requires c =

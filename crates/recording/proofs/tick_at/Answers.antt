@@ -5,8 +5,10 @@ use Rattle.recording.proofs.{Records.tick_whole}
 use Rattle.recording.specs.Record.{TickAt}
 use Rattle.recording.proofs.tick_at.Goals as goal
 use Rattle.recording.proofs.tick_at.Tie as tie
+use Rattle.recording.proofs.tick_at.Reads as reads
+use Rattle.recording.proofs.tick_at.Lts as steps
 
-there : (c : tie.Then-is_tick) → let args = c.before.before.before.args in TickAt args.bytes.now args.place
+there : (c : steps.Then1 tie.the-claims reads.Pre reads.Post) → let args = c.args in TickAt args.bytes.now args.place
 there c = c.is_tick.ensures c.if-is_tick.true
 
 pub returns-then-is_tick : goal.returns-then-is_tick

@@ -69,7 +69,3 @@ returns c parameters times state past e =
     (λ w. rw (le-leb _ _ (rw e at w.0.taken), w.1.left) refl)
     (λ w. rw (lt-leb _ _ (rw e at w.left)) refl)
     c.else-span-upper.branch)
-
-pub bounds-row-1-4 : goal.bounds-row-1-4
-bounds-row-1-4 c = (λ
-    c.before. search needs) c.before

@@ -3,18 +3,20 @@ use Rattle.stamps.proofs.Names.{Counted, ReadsTableUpTo, RowIs, arith, at, free,
 use Rattle.stamps.proofs.{Answers.answer_range, Answers.answer_reads, Answers.answer_recording, Answers.answer_row}
 use Rattle.stamps.proofs.read.Goals as goal
 use Rattle.stamps.proofs.read.Tie as tie
+use Rattle.stamps.proofs.read.Reads as reads
+use Rattle.stamps.proofs.read.Lts as steps
 
 -- the refusal that was read
-refusal : (c : tie.In-Refused-2) → ReadsTableUpTo c.before.before.before.before.before.before.args.newest
-    c.args.table.now (table_refused c.answer-1.given.0.0 c.answer-1.given.0.1.0)
-refusal c = (rw c.answer-1.given.1 at c.row_numbered-numbered.ensures.scans).0
+refusal : (c : steps.After-answer tie.the-claims reads.Pre reads.Post) → ReadsTableUpTo c.args.newest
+    c.args.table.now (table_refused c.in-Refused.number c.in-Refused.place)
+refusal c = (rw c.in-Refused.is at c.row_numbered-numbered.ensures.scans).0
 
 -- the rows that were counted, and the one of the number
-counted : (c : tie.In_default) → let a = c.before.before.before.before.before.before.args in
+counted : (c : steps.After-enum_told tie.the-claims reads.Pre reads.Post) → let a = c.args in
     Counted (at a.table.now 0) (ReadsTableUpTo a.newest a.table.now) c.row_numbered-numbered.result.scan.rows
-counted c = rw c.enum_told-1.given.1 at c.row_numbered-numbered.ensures.scans
+counted c = rw c.in_default.is at c.row_numbered-numbered.ensures.scans
 
-row_is : (c : tie.In_default) → let found = c.before.before.before.row-numbered in
+row_is : (c : steps.After-enum_told tie.the-claims reads.Pre reads.Post) → let found = c.row_numbered-numbered in
     RowIs found.result.scan.rows c.args.row (row_in found.result.row) (counted c).rows
 row_is c = c.row_numbered-numbered.ensures.found (counted c).rows (counted c).reads
 

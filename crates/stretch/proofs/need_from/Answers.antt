@@ -8,6 +8,8 @@ use Rattle.table_row.specs.Records.{row_in}
 use Rattle.stretch.specs.Machine.{seen_as}
 use Rattle.stretch.proofs.need_from.Goals as goal
 use Rattle.stretch.proofs.need_from.Tie as tie
+use Rattle.stretch.proofs.need_from.Reads as reads
+use Rattle.stretch.proofs.need_from.Lts as steps
 
 pub loop-at-init : goal.loop-at-init
 loop-at-init c =
@@ -17,7 +19,7 @@ loop-at-init c =
     )
 
 -- the answer to the question for 64, and the words after the step
-asked : (c : tie.After-step_overflows goal.the-invariant-loop-at goal.the-decreases-loop-at) →
+asked : (c : steps.After-step_overflows tie.the-claims reads.Pre reads.Post goal.the-invariant-loop-at goal.the-decreases-loop-at) →
     let args = c.args in
     let r = c.loop-at.invariant.1.row in
     c.step_overflows.result ≡ crowded_by r.parameters r.now (seen_as (at args.streams.now c.loop-at.at)
@@ -26,8 +28,7 @@ asked c =
     let lying = c.loop-at.invariant.1 in
     rw (← c.seen-o.ensures) (c.step_overflows.ensures lying.row lying.before lying.lies)
 
-stepped : (c : tie.After-step goal.the-invariant-loop-at goal.the-decreases-loop-at) →
-
+stepped : (c : steps.After-step tie.the-claims reads.Pre reads.Post goal.the-invariant-loop-at goal.the-decreases-loop-at) →
     let args = c.args in
     let lying = c.loop-at.invariant.1 in
     let o = seen_as (at args.streams.now c.loop-at.at) (at args.times.now c.loop-at.at) in

@@ -9,7 +9,7 @@ returns-in-Accepted c =
     let r = c.read-reading in
     record {
       read = _;
-      reads = reads_as c.args.bytes.now r.result _ c.enum_told-1.given.1 r.ensures;
+      reads = reads_as c.args.bytes.now r.result _ c.in-Accepted.is r.ensures;
       code = sym (rows_length r.result.table);
     }
 
@@ -18,7 +18,7 @@ returns-in-Refused c =
     let r = c.read-reading in
     record {
       read = _;
-      reads = reads_as c.args.bytes.now r.result _ c.answer-1.given.1
+      reads = reads_as c.args.bytes.now r.result _ c.in-Refused.is
           r.ensures;
       code = c.refusal_code.ensures;
     }

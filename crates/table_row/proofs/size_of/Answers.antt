@@ -22,4 +22,4 @@ loop-i-init c = (omega arith, omega arith, omega arith)
 
 pub overflow_add-size : goal.overflow_add-size
 overflow_add-size c =
-    omega (arith, c.width_of-size.ensures, width_small (at c.args.t1 c.loop-i.i), c.loop-i.invariant.1)
+    omega (arith, c.width_of-size.ensures, width_small (at c.args.roles c.loop-i.i), c.loop-i.invariant.1)

@@ -5,9 +5,11 @@ use Rattle.constraint.proofs.Library.{◌≡◌, arith, rules, }
 use Rattle.questions.proofs.Places.{place_small}
 use Rattle.clock.proofs.Clock.take.Goals as goal
 use Rattle.clock.proofs.Clock.take.Tie as tie
+use Rattle.clock.proofs.Clock.take.Reads as reads
+use Rattle.clock.proofs.Clock.take.Lts as steps
 
 -- what is asked
-number_is : (c : tie.After-refusal-number) →
+number_is : (c : steps.After-refusal tie.the-claims reads.Pre reads.Post) →
     let args = c.args in c.refusal-number.result ≡ refusal_of (clock_with args.self args.next.now) args.call
 number_is c = rw c.place-at.ensures at c.refusal-number.ensures
 

@@ -93,7 +93,3 @@ returns c parameters times state past e =
       ne_eqb _ _ (rw stayed at c.if-ahead-eq0.false),
       going_to,
     ) refl
-
-pub store-requires : goal.store-requires
-store-requires c = (λ
-    c.before κs. search needs) c.before

@@ -5,15 +5,15 @@ use Rattle.delkuthi.proofs.ffi.delkuthi_row_step.Goals as goal
 
 pub returns-in-Open : goal.returns-in-Open
 returns-in-Open c =
-    step_read c.read.result c.read.ensures (rw (c.v-1.given.1, c.enum_told-in-Open-1.given.1))
+    step_read c.read.result c.read.ensures (rw (c.in-Reads.is, c.in-Open.is))
 
 pub returns-in-Kept : goal.returns-in-Kept
 returns-in-Kept c =
-    step_read c.read.result c.read.ensures (rw (c.v-1.given.1, c.enum_told-in-Kept-1.given.1))
+    step_read c.read.result c.read.ensures (rw (c.in-Reads.is, c.in-Kept.is))
 
 pub returns-in-Broken : goal.returns-in-Broken
 returns-in-Broken c =
-    step_read c.read.result c.read.ensures (rw (c.v-1.given.1, c.v-in-Reads-1.given.1))
+    step_read c.read.result c.read.ensures (rw (c.in-Reads.is, c.in-Broken.is))
 
 pub returns-in-Refused : goal.returns-in-Refused
-returns-in-Refused c = step_read c.read.result c.read.ensures (rw c.enum_told-1.given.1)
+returns-in-Refused c = step_read c.read.result c.read.ensures (rw c.in-Refused.is)

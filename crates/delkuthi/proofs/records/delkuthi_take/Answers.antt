@@ -8,7 +8,7 @@ pub returns-in-Accepted : goal.returns-in-Accepted
 returns-in-Accepted c =
     record {
       answer = ReadAnswer.Accepted;
-      takes = rw c.enum_told-1.given.1 at c.take_records-answer.ensures;
+      takes = rw c.in-Accepted.is at c.take_records-answer.ensures;
       equals = refl;
       small = λ n place e. never (cc);
     }

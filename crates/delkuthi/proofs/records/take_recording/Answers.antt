@@ -8,7 +8,7 @@ pub returns-in-Accepted : goal.returns-in-Accepted
 returns-in-Accepted c rows accepted holds =
     let args = c.args in
     let takes : TakesBytes args.bytes.now args.m.now ReadAnswer.Accepted _ =
-    rw c.enum_told-1.given.1 at c.take_records-answer.ensures in
+    rw c.in-Accepted.is at c.take_records-answer.ensures in
     recording_whole rows args.bytes.now accepted args.m.now c.close.result holds (omega arith) takes (takes_of c.close.ensures)
 
 pub returns-in-Refused : goal.returns-in-Refused

@@ -11,5 +11,5 @@ returns-in-Accepted c =
 
 pub returns-in-Refused : goal.returns-in-Refused
 returns-in-Refused c =
-    rw c.answer-1.given.1
+    rw c.in-Refused.is
     (holds_refusal _ _ c.refused_line.result (rw (← c.new-in-Refused.ensures) c.refused_line.ensures))

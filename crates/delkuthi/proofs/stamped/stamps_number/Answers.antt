@@ -10,8 +10,8 @@ refusal_small n place m at above below e = let same : n ≡ m = cc in (omega (ar
 pub returns-in-Reads : goal.returns-in-Reads
 returns-in-Reads c =
     record {
-      answer = StampedAnswer.Reads c.answer-1.given.0.0;
-      answers = rw c.answer-1.given.1 at c.read-answer.ensures;
+      answer = StampedAnswer.Reads c.in-Reads.verdict;
+      answers = rw c.in-Reads.is at c.read-answer.ensures;
       equals = c.verdict_number.ensures;
       small = λ n place e. never (cc);
     }

@@ -3,13 +3,13 @@ use Rattle.delkuthi.proofs.Names.{judged_no, rules}
 use Rattle.delkuthi.proofs.writing.form_refusal.Goals as goal
 
 pub returns-in-Event : goal.returns-in-Event
-returns-in-Event c = rw c.call-1.given.1 c.Plain-Form.ensures
+returns-in-Event c = rw c.in-Event.is c.Plain-Form.ensures
 
 pub returns-in-ColouredEvent : goal.returns-in-ColouredEvent
-returns-in-ColouredEvent c = rw c.call-in-ColouredEvent-1.given.1 c.coloured_form.ensures
+returns-in-ColouredEvent c = rw c.in-ColouredEvent.is c.coloured_form.ensures
 
 pub returns-in-Tick : goal.returns-in-Tick
-returns-in-Tick c = rw c.call-in-Tick-1.given.1 c.time_form.ensures
+returns-in-Tick c = rw c.in-Tick.is c.time_form.ensures
 
 pub returns-in-Close : goal.returns-in-Close
-returns-in-Close c = rw c.enum_told-1.given.1 (judged_no 14 _ _ (λ h. h))
+returns-in-Close c = rw c.in-Close.is (judged_no 14 _ _ (λ h. h))

@@ -13,7 +13,7 @@ overflow_add-next c =
     let args = c.before.args in
     let room = put_room args.recording.now args.size args.call c.write_refusal-refusal.result (omega (arith, c.if-refusal-gt0.false))
     c.write_refusal-refusal.ensures in
-    record { fits = omega (arith, room, c.place_for-place.ensures, c.type_size.ensures) }
+    record { fits = omega (arith, room, c.place_for-place.ensures, c.size_of.ensures) }
 
 pub put_call-requires : goal.put_call-requires
 put_call-requires c =
@@ -26,5 +26,5 @@ pub returns : goal.returns
 returns c =
     let args = c.before.args in
     put_written args.recording.now args.size args.call c.write_refusal-refusal.result (omega (arith, c.if-refusal-gt0.false))
-    c.write_refusal-refusal.ensures c.place_for-place.ensures (ap (λ (n : ℕ). c.place_for-place.result + n) c.type_size.ensures)
+    c.write_refusal-refusal.ensures c.place_for-place.ensures (ap (λ (n : ℕ). c.place_for-place.result + n) c.size_of.ensures)
     c.place_number.ensures c.begin.ensures c.put_call.ensures

@@ -34,7 +34,3 @@ returns c parameters times state past e =
     (λ w. rw (ne_eqb _ _ (rw e at w.left))
     (⊎_elim (λ v. rw (eq-eqb _ _ (rw e at v.0.taken), rw e at v.2.left) refl) (λ v. rw (ne_eqb _ _ (rw e at v.left)) refl) c.else-stream-row-2.branch))
     c.else-stream-row.branch)
-
-pub bounds-row-1-else-stream-row : goal.bounds-row-1-else-stream-row
-bounds-row-1-else-stream-row c = (λ
-    c.before. search needs) c.before

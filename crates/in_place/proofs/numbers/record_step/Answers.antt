@@ -3,4 +3,4 @@ use Rattle.in_place.proofs.Names.{rules, refl}
 use Rattle.in_place.proofs.numbers.record_step.Goals as goal
 
 pub returns : goal.returns
-returns c = rw (c.plus.ensures, e, going) refl
+returns c m soonest full plain lists e going = rw (c.plus.ensures, e, going) refl

@@ -3,4 +3,4 @@ use Rattle.in_place.proofs.Names.{rules, refl}
 use Rattle.in_place.proofs.numbers.restore_counters.Goals as goal
 
 pub returns : goal.returns
-returns c = rw (c.minus.ensures, e) refl
+returns c m soonest full plain lists e = rw (c.minus.ensures, e) refl

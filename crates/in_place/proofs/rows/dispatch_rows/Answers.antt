@@ -10,6 +10,8 @@ use lib.Bits.{and_le_r}
 use lib.Count.{count_trailing_zeros}
 use Rattle.in_place.proofs.rows.dispatch_rows.Goals as goal
 use Rattle.in_place.proofs.rows.dispatch_rows.Tie as tie
+use Rattle.in_place.proofs.rows.dispatch_rows.Reads as reads
+use Rattle.in_place.proofs.rows.dispatch_rows.Lts as steps
 
 -- a monitor from which the rows that are left make what all rows make of the first; its soonest time is not stored yet
 pub record Midway (h : Lent) (rows stream t number soonest left : ℕ) (m : Words) : Type 0 where
@@ -33,7 +35,7 @@ loop-left-init c = (
 )
 
 -- the lowest row that is left
-low : (c : tie.In-loop-left goal.the-invariant-loop-left goal.the-decreases-loop-left) → let left = c.before.loop.left in Lowest 32 left (count_trailing_zeros 32 left)
+low : (c : steps.In-loop tie.the-claims reads.Pre reads.Post goal.the-invariant-loop-left goal.the-decreases-loop-left) → let left = c.loop-left.left in Lowest 32 left (count_trailing_zeros 32 left)
 low c = lowest 32 c.loop-left.left (omega (arith, c.loop-left-test.true)) c.loop-left.invariant.0
 
 pub loop-left-preserved : goal.loop-left-preserved

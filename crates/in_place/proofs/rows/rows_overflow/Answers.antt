@@ -6,16 +6,18 @@ use lib.Bits.{and_le_r}
 use lib.Count.{count_trailing_zeros}
 use Rattle.in_place.proofs.rows.rows_overflow.Goals as goal
 use Rattle.in_place.proofs.rows.rows_overflow.Tie as tie
+use Rattle.in_place.proofs.rows.rows_overflow.Reads as reads
+use Rattle.in_place.proofs.rows.rows_overflow.Lts as steps
 
 pub loop-left-init : goal.loop-left-init
 loop-left-init c = (omega arith, λ h e s. refl)
 
 -- the lowest row that is left
-low : (c : tie.In-loop-left goal.the-invariant-loop-left goal.the-decreases-loop-left) → let left = c.before.loop.left in Lowest 32 left (count_trailing_zeros 32 left)
+low : (c : steps.In-loop tie.the-claims reads.Pre reads.Post goal.the-invariant-loop-left goal.the-decreases-loop-left) → let left = c.loop-left.left in Lowest 32 left (count_trailing_zeros 32 left)
 low c = lowest 32 c.loop-left.left (omega (arith, c.loop-left-test.true)) c.loop-left.invariant.0
 
 -- whether it is crowded
-asked : (c : tie.After-event_overflows goal.the-invariant-loop-left goal.the-decreases-loop-left) (h : Lent) →
+asked : (c : steps.After-event_overflows tie.the-claims reads.Pre reads.Post goal.the-invariant-loop-left goal.the-decreases-loop-left) (h : Lent) →
     let a = c.before.args in
     a.m.now ≡ words_of_lent h → Shaped h
     → c.event_overflows.result ≡ crowded_at h (count_trailing_zeros 32 c.loop.left) a.stream a.t
@@ -24,7 +26,7 @@ asked c h e s =
     c.event_overflows.ensures (row_at h.monitor i) (kept_at h.monitor i) (row_lies h s a.m.now e i (low c.before.before).below)
 
 -- it is asked, and then the others
-next : (c : tie.After-event_overflows goal.the-invariant-loop-left goal.the-decreases-loop-left) (h : Lent) →
+next : (c : steps.After-event_overflows tie.the-claims reads.Pre reads.Post goal.the-invariant-loop-left goal.the-decreases-loop-left) (h : Lent) →
     let a = c.before.args in let left = c.loop.left in
     a.m.now ≡ words_of_lent h → Shaped h
     → crowded h (rows_in a.rows) a.stream a.t ≡ (c.event_overflows.result || crowded h (rows_in (bit_and left (left - 1))) a.stream a.t)

@@ -3,10 +3,12 @@ use Rattle.monitor.proofs.Names.{Accepted, AcceptedIn, ◌∙◌, after, ap, ari
 use Rattle.monitor.proofs.{Demand.accepted_few, Demand.accepted_sound, FittingRows.sound_place}
 use Rattle.monitor.proofs.Monitor.fresh_in.Goals as goal
 use Rattle.monitor.proofs.Monitor.fresh_in.Tie as tie
+use Rattle.monitor.proofs.Monitor.fresh_in.Reads as reads
+use Rattle.monitor.proofs.Monitor.fresh_in.Lts as steps
 
 -- the answer is "taken"
-taken : (c : tie.In-Taken) → AcceptedIn c.before.before.before.args.edition (rows_of c.before.before.before.args.table)
-taken c = rw c.enum_told-1.given.1 at c.validate.ensures
+taken : (c : steps.After-enum_told tie.the-claims reads.Pre reads.Post) → AcceptedIn c.args.edition (rows_of c.args.table)
+taken c = rw c.in-Taken.is at c.validate.ensures
 
 pub over-requires-in-Taken : goal.over-requires-in-Taken
 over-requires-in-Taken c =
@@ -21,7 +23,7 @@ pub returns-in-Refused : goal.returns-in-Refused
 unfolding after play
 returns-in-Refused c =
     record {
-      judged = rw c.number-1.given.1 at c.validate.ensures;
+      judged = rw c.in-Refused.is at c.validate.ensures;
       made = λ e. never (cc);
       refused = λ n e. c.over.ensures;
     }

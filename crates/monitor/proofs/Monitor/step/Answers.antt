@@ -4,15 +4,17 @@ use Rattle.monitor.proofs.Names.{◌∙◌, ◌≡◌, ap, arith, asks, crowds, 
 use Rattle.monitor.proofs.{Answers.crowded_by, Answers.refused_by, Answers.taken_by, Theorem.step_kept}
 use Rattle.monitor.proofs.Monitor.step.Goals as goal
 use Rattle.monitor.proofs.Monitor.step.Tie as tie
+use Rattle.monitor.proofs.Monitor.step.Reads as reads
+use Rattle.monitor.proofs.Monitor.step.Lts as steps
 
 -- what is asked first
-module _ (c : tie.After-refusal-number) where
+module _ (c : steps.After-refusal tie.the-claims reads.Pre reads.Post) where
   abbrev start : tie.Start
   start = c.before.before.before
   by_number : stepped_by start.args.t1 start.args.call c.refusal-number.result ≡ step_of start.args.t1 start.args.call
   unfolding step_of
   by_number = ap (stepped_by start.args.t1 start.args.call) (rw c.place-at.ensures at c.refusal-number.ensures)
-module _ (c : tie.After-refusal-number) where
+module _ (c : steps.After-refusal tie.the-claims reads.Pre reads.Post) where
   abbrev asked : tie.After-refusal
   asked = c.before
   crowds_is : crowds (start asked).args.t1 (start asked).args.call ≡ c.step.result.crowded

@@ -3,13 +3,15 @@ use Rattle.monitor.proofs.Names.{◌-◌, ◌∙◌, ◌≡◌, ◌≤◌, arith
 use Rattle.monitor.proofs.{First.Moved, First.moved_all, First.moved_full, First.moved_next, First.moved_none}
 use Rattle.monitor.proofs.rows.step.Goals as goal
 use Rattle.monitor.proofs.rows.step.Tie as tie
+use Rattle.monitor.proofs.rows.step.Reads as reads
+use Rattle.monitor.proofs.rows.step.Lts as steps
 
 -- a monitor has 32 rows
-size : (c : tie.Start goal.the-invariant-loop-i goal.the-decreases-loop-i) → length c.args.m.rows ≡ 32
+size : (c : steps.Start tie.the-claims reads.Pre reads.Post goal.the-invariant-loop-i goal.the-decreases-loop-i) → length c.args.m.rows ≡ 32
 size c = sym (length-map c.args.m.rows _) ∙ c.well-formed.0.1.1.0.1.0.1
 
 -- and keeps 32 beside them
-wide : (c : tie.Start goal.the-invariant-loop-i goal.the-decreases-loop-i) → length c.args.m.before ≡ 32
+wide : (c : steps.Start tie.the-claims reads.Pre reads.Post goal.the-invariant-loop-i goal.the-decreases-loop-i) → length c.args.m.before ≡ 32
 wide c = sym (length-map c.args.m.before _) ∙ c.well-formed.0.1.1.1.1.1.1.1.1.0.1.0.1
 
 pub returns-then-stepped : goal.returns-then-stepped

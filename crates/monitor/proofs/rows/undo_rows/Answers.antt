@@ -3,12 +3,14 @@ use Rattle.monitor.proofs.Names.{◌-◌, ◌∙◌, ◌≡◌, ◌≤◌, arith
 use Rattle.monitor.proofs.{First.without_all, First.without_next, First.without_none}
 use Rattle.monitor.proofs.rows.undo_rows.Goals as goal
 use Rattle.monitor.proofs.rows.undo_rows.Tie as tie
+use Rattle.monitor.proofs.rows.undo_rows.Reads as reads
+use Rattle.monitor.proofs.rows.undo_rows.Lts as steps
 
 -- a monitor has 32 rows, and keeps 32 beside them
-size : (c : tie.Start goal.the-invariant-loop-i goal.the-decreases-loop-i) → length c.args.m.rows ≡ 32
+size : (c : steps.Start tie.the-claims reads.Pre reads.Post goal.the-invariant-loop-i goal.the-decreases-loop-i) → length c.args.m.rows ≡ 32
 size c = sym (length-map c.args.m.rows _) ∙ c.well-formed.0.1.1.0.1.0.1
 
-wide : (c : tie.Start goal.the-invariant-loop-i goal.the-decreases-loop-i) → length c.args.m.before ≡ 32
+wide : (c : steps.Start tie.the-claims reads.Pre reads.Post goal.the-invariant-loop-i goal.the-decreases-loop-i) → length c.args.m.before ≡ 32
 wide c = sym (length-map c.args.m.before _) ∙ c.well-formed.0.1.1.1.1.1.1.1.1.0.1.0.1
 
 pub loop-i-init : goal.loop-i-init

@@ -5,9 +5,11 @@ use Rattle.page.proofs.{Pages.copied_nothing, Pages.copied_page, Pages.some_rows
 use Rattle.page.specs.{ReadBack.page_length, Sheet.verdicts_of}
 use Rattle.page.proofs.Summary.write.Goals as goal
 use Rattle.page.proofs.Summary.write.Tie as tie
+use Rattle.page.proofs.Summary.write.Reads as reads
+use Rattle.page.proofs.Summary.write.Lts as steps
 
 -- the length that was tested
-counted : (c : tie.After-size-size) → c.size.result ≡ page_length (min c.before.before.before.args.t1.rows row_limit)
+counted : (c : steps.After-size tie.the-claims reads.Pre reads.Post) → c.size-size.result ≡ page_length (min c.args.self.rows row_limit)
 counted c = c.size-size.ensures ∙ ap page_length c.held-rows.ensures
 
 pub returns-then-buffer-size : goal.returns-then-buffer-size

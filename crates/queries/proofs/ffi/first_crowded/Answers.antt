@@ -5,12 +5,14 @@ use Rattle.queries.proofs.Names.{kept_at, rules, row_at, sym}
 use Rattle.queries.proofs.{Places.block_lies, Places.rows_there, RowPresent.first_here, RowPresent.first_none}
 use Rattle.queries.proofs.ffi.first_crowded.Goals as goal
 use Rattle.queries.proofs.ffi.first_crowded.Tie as tie
+use Rattle.queries.proofs.ffi.first_crowded.Reads as reads
+use Rattle.queries.proofs.ffi.first_crowded.Lts as steps
 
 abbrev test : StepInput → Row → Bool
 test o r = crowded_by r.parameters r.now o
 
 -- the test of row i, and what is found from there on
-found : (c : tie.After-step_overflows goal.the-invariant-loop-i goal.the-decreases-loop-i) (n : Monitor) → HoldsMonitor c.before.before.before.before.args.m.now n
+found : (c : steps.After-step_overflows tie.the-claims reads.Pre reads.Post goal.the-invariant-loop-i goal.the-decreases-loop-i) (n : Monitor) → HoldsMonitor c.before.args.m.now n
     → first_marked c.before.args.rows (test c.before.args.o) 0 n.rows
     ≡ cond c.step_overflows.result c.loop.i (first_marked
     (c.before.args.rows - (c.loop.i + 1)) (test c.before.args.o)

@@ -3,11 +3,13 @@ use Rattle.constraint.proofs.Library.{◌∙◌, ◌≡◌, arith, eq-eqb, false
 use Rattle.table_row.specs.Records.{is_kind}
 use Rattle.read_back.proofs.words.field_in.Goals as goal
 use Rattle.read_back.proofs.words.field_in.Tie as tie
+use Rattle.read_back.proofs.words.field_in.Reads as reads
+use Rattle.read_back.proofs.words.field_in.Lts as steps
 
-no_kind : (c : tie.Else-is_kind) → is_kind c.before.before.args.role ≡ false
+no_kind : (c : steps.Else1 tie.the-claims reads.Pre reads.Post) → is_kind c.args.role ≡ false
 no_kind c = sym c.is_kind.ensures ∙ c.if-is_kind.false
 
-no_byte : (c : tie.Else-role-ge-FIRST_BYTE) → ltb 96 c.before.before.before.args.role ≡ false
+no_byte : (c : steps.Else2 tie.the-claims reads.Pre reads.Post) → ltb 96 c.args.role ≡ false
 no_byte c = le-ltb 96 c.args.role (omega (arith, c.if-role-ge-FIRST_BYTE.false))
 
 pub returns-then-role-ge-FIRST_BYTE : goal.returns-then-role-ge-FIRST_BYTE

@@ -7,12 +7,14 @@ use Rattle.row.specs.Machine.{fresh_state, row_from}
 use Rattle.row.proofs.Names.{no_row_undo, row_of, row_as_words, words_of_row}
 use Rattle.row.proofs.stored.begin.Goals as goal
 use Rattle.row.proofs.stored.begin.Tie as tie
+use Rattle.row.proofs.stored.begin.Reads as reads
+use Rattle.row.proofs.stored.begin.Lts as steps
 
 -- a row of some numbers with an empty ring
 empty : Parameters → List (List ℕ)
 empty p = words_of_row (row_from p (replicate 64 0) (fresh_state p)) no_row_undo
 
-blank_words : (c : tie.After-encode_row) → c.encode-row.result
+blank_words : (c : steps.After-encode_row tie.the-claims reads.Pre reads.Post) → c.encode_row.result
     ≡ empty (parameters_of (row_read c.args.tag c.args.values.now))
 unfolding empty
 blank_words c =

@@ -5,7 +5,3 @@ use Rattle.row_type.proofs.row_words.break_numbers.Goals as goal
 pub returns : goal.returns
 unfolding number_words
 returns c parameters state past e = rw (c.live_of.ensures, e) refl
-
-pub bounds-w-16 : goal.bounds-w-16
-bounds-w-16 c = (λ
-    c.before. search needs) c.before

@@ -24,7 +24,3 @@ returns-then-len-le-SIZE c parameters times state past e =
       none_left_pushed left a.t,
     )
     refl
-
-pub place_of-at-requires : goal.place_of-at-requires
-place_of-at-requires c = (λ
-    c.before κs. search needs) c.before

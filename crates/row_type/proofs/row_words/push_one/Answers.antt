@@ -22,7 +22,3 @@ returns-else-dropped-gt0 c parameters times state past e =
     ≡ push_ring a.word (drop_ring a.dropped (ring_of times state.head state.len)) =
     c.push-more.ensures ∙ rw (c.left-len.ensures, c.head_after-head.ensures, kept, e) refl in
     rw (← pushed, kept, c.place_of.ensures, c.left-len.ensures, c.head_after-head.ensures, e, none) refl
-
-pub bounds-row-1-then-dropped-gt0 : goal.bounds-row-1-then-dropped-gt0
-bounds-row-1-then-dropped-gt0 c = (λ
-    c.before. search needs) c.before

@@ -3,7 +3,7 @@ use Rattle.stamps.proofs.Names.{eq-eqb, free, ne_eqb, rules}
 use Rattle.stamps.proofs.Stamps.after.Goals as goal
 
 pub returns-then-kind-asked : goal.returns-then-kind-asked
-returns-then-kind-asked c = rw (c.call-1.given.1, eq-eqb _ _ c.if-kind-asked.true) c.stamped.ensures
+returns-then-kind-asked c = rw (c.in-Event.is, eq-eqb _ _ c.if-kind-asked.true) c.stamped.ensures
 
 pub returns-else-kind-asked : goal.returns-else-kind-asked
-returns-else-kind-asked c = rw (c.call-1.given.1, ne_eqb _ _ c.if-kind-asked.false)
+returns-else-kind-asked c = rw (c.in-Event.is, ne_eqb _ _ c.if-kind-asked.false)

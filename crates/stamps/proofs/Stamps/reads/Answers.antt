@@ -2,13 +2,15 @@
 use Rattle.stamps.proofs.Names.{◌&&◌, ◌∙◌, ◌≡◌, close_verdict, free, leb, plus, sym}
 use Rattle.stamps.proofs.Stamps.reads.Goals as goal
 use Rattle.stamps.proofs.Stamps.reads.Tie as tie
+use Rattle.stamps.proofs.Stamps.reads.Reads as reads
+use Rattle.stamps.proofs.Stamps.reads.Lts as steps
 
 -- the first test, and the second
-each_is : (c : tie.After-both) → let args = c.before.before.args in
+each_is : (c : steps.After-both tie.the-claims reads.Pre reads.Post) → let args = c.args in
     c.both.result ≡ (args.self.each && leb args.now (plus args.self.earliest args.asked.upper))
 each_is c = rw c.in_time.ensures at c.both.ensures
 
-some_is : (c : tie.After-both-2) → let args = c.before.before.before.before.before.args in
+some_is : (c : steps.After-both2 tie.the-claims reads.Pre reads.Post) → let args = c.args in
     c.both-2.result ≡ (args.self.some && leb args.now (plus args.self.high args.asked.upper))
 some_is c = rw c.in_time-2.ensures at c.both-2.ensures
 

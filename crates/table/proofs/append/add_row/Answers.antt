@@ -3,9 +3,11 @@ use Rattle.table.proofs.Names.{Bytes, arith, length-take, rules, }
 use Rattle.table.proofs.Appending.{adds_none, adds_one}
 use Rattle.table.proofs.append.add_row.Goals as goal
 use Rattle.table.proofs.append.add_row.Tie as tie
+use Rattle.table.proofs.append.add_row.Reads as reads
+use Rattle.table.proofs.append.add_row.Lts as steps
 
 -- a slice of bytes holds bytes
-each : (c : tie.After-slice_known-1) → Bytes c.before.args.buffer.now
+each : (c : steps.After-slice_known tie.the-claims reads.Pre reads.Post) → Bytes c.args.buffer.now
 unfolding Bytes
 each c i h = omega (arith, c.slice_known-1.given i)
 
@@ -21,13 +23,13 @@ pub returns-in-Refused : goal.returns-in-Refused
 returns-in-Refused c =
     let a = c.before.args in
     adds_none a.buffer.now a.size c.within.result a.body.now c.within.ensures _ _
-    (rw c.number-1.given.1 at c.answer.ensures)
+    (rw c.in-Refused.is at c.answer.ensures)
 
 pub returns-in-Added : goal.returns-in-Added
 returns-in-Added c =
     let a = c.before.args in
     adds_one a.buffer.now a.size c.within.result a.body.now c.within.ensures _ _
-    (rw c.count-1.given.1 at c.answer.ensures) c.put_row.ensures (each c.before.before.before.before.before.before.before.before.before.before.before.before)
+    (rw c.in-Added.is at c.answer.ensures) c.put_row.ensures (each c.before.before.before.before.before.before.before.before.before.before.before.before)
 
 pub slice_bounds-answer-end : goal.slice_bounds-answer-end
 slice_bounds-answer-end c = omega (arith, c.within-place.ensures)

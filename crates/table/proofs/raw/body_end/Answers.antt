@@ -3,12 +3,14 @@ use Rattle.table.proofs.Names.{◌*◌, ◌+◌, ◌≡◌, ◌≤◌, ap, arith
 use Rattle.table.proofs.RawRows.{body_within}
 use Rattle.table.proofs.raw.body_end.Goals as goal
 use Rattle.table.proofs.raw.body_end.Tie as tie
+use Rattle.table.proofs.raw.body_end.Reads as reads
+use Rattle.table.proofs.raw.body_end.Lts as steps
 
 -- the length is that of the row's body
-size : (c : tie.After-length_of) → let a = c.before.before.before.before.args in c.length-of.result ≡ body_length a.bytes.now a.i
+size : (c : steps.After-length_of tie.the-claims reads.Pre reads.Post) → let a = c.args in c.length_of.result ≡ body_length a.bytes.now a.i
 size c = rw (c.length_of.ensures, c.byte_at-tag.ensures, c.byte_at-n.ensures)
 
-ends : (c : tie.After-length_of) → let a = c.before.before.before.before.args in
+ends : (c : steps.After-length_of tie.the-claims reads.Pre reads.Post) → let a = c.args in
     a.i * raw_size + c.length_of.result ≤ length a.bytes.now
 ends c =
     let a = c.args in

@@ -4,9 +4,11 @@ use Rattle.table.proofs.RawRows.{raw_bytes, raw_length}
 use Rattle.table.proofs.Stores.{row_stores}
 use Rattle.table.proofs.raw.put_row.Goals as goal
 use Rattle.table.proofs.raw.put_row.Tie as tie
+use Rattle.table.proofs.raw.put_row.Reads as reads
+use Rattle.table.proofs.raw.put_row.Lts as steps
 
 -- a slice of bytes holds bytes
-each : (c : tie.After-shared_slice_known-1) → Bytes c.before.before.args.bytes.now
+each : (c : steps.After-shared_slice_known tie.the-claims reads.Pre reads.Post) → Bytes c.args.bytes.now
 unfolding Bytes
 each c i h = omega (arith, c.shared_slice_known-1.given i)
 

@@ -3,9 +3,11 @@ use Rattle.table.proofs.Names.{Bytes, ◌+◌, ◌-◌, ◌∙◌, ◌≡◌, �
 use Rattle.table.proofs.RawRows.{left_size, left_stored, rows_all, rows_end}
 use Rattle.table.proofs.raw.put_rows.Goals as goal
 use Rattle.table.proofs.raw.put_rows.Tie as tie
+use Rattle.table.proofs.raw.put_rows.Reads as reads
+use Rattle.table.proofs.raw.put_rows.Lts as steps
 
 -- a slice of bytes holds bytes
-each : (c : tie.After-shared_slice_known-1 goal.the-invariant-loop-i goal.the-decreases-loop-i) → Bytes c.before.before.args.bytes.now
+each : (c : steps.After-shared_slice_known tie.the-claims reads.Pre reads.Post goal.the-invariant-loop-i goal.the-decreases-loop-i) → Bytes c.args.bytes.now
 unfolding Bytes
 each c i h = omega (arith, c.shared_slice_known-1.given i)
 
@@ -15,7 +17,7 @@ loop-i-init c =
     (omega arith, refl, ap (λ rows. 1 + length (rows_bytes rows)) all, ap (λ rows. sets a.buffer.now 1 (rows_bytes rows)) all)
 
 -- the size of the row of a turn
-size : (c : tie.In-loop-i goal.the-invariant-loop-i goal.the-decreases-loop-i) → let start = c.before.before.before.before in let a = start.args in let i = c.before.loop.i in
+size : (c : steps.In-loop tie.the-claims reads.Pre reads.Post goal.the-invariant-loop-i goal.the-decreases-loop-i) → let a = c.args in let i = c.loop-i.i in
     length (rows_bytes (raw_rows a.bytes.now i (a.count - i)))
     ≡ 2 + body_length a.bytes.now i + length (rows_bytes (raw_rows a.bytes.now (i + 1) (a.count - (i + 1))))
 size c =

@@ -9,10 +9,10 @@ pub returns-in-Refused : goal.returns-in-Refused
 returns-in-Refused c =
     let a = c.before.args in let i = c.loop.i in
     c.loop.invariant.1 _
-    (subst⁻¹ (λ rows. Judged (rows_questions a.edition i rows []) (Refused c.number-1.given.0.0))
+    (subst⁻¹ (λ rows. Judged (rows_questions a.edition i rows []) (Refused c.in-Refused.number))
     (rows_left a.bytes.now i a.count (omega arith))
     (rows_refused a.edition i _ (raw_rows a.bytes.now (i + 1) (a.count - (i + 1))) [] _ (omega (arith, c.before.requires.room))
-    (rw c.row_at.ensures at (rw c.number-1.given.1 at c.validate_values.ensures))))
+    (rw c.row_at.ensures at (rw c.in-Refused.is at c.validate_values.ensures))))
 
 pub loop-i-preserved : goal.loop-i-preserved
 loop-i-preserved c =
@@ -23,7 +23,7 @@ loop-i-preserved c =
           (subst⁻¹ (λ rows. Judged (rows_questions a.edition i rows []) answer) (rows_left a.bytes.now i a.count (omega arith))
           (rows_taken a.edition i _ (raw_rows a.bytes.now (i + 1) (a.count - (i + 1))) [] answer
           (omega (arith, c.before.requires.room))
-          (rw c.row_at.ensures at (rw c.enum_told-1.given.1 at c.validate_values.ensures)) later)),
+          (rw c.row_at.ensures at (rw c.in-Taken.is at c.validate_values.ensures)) later)),
     )
 
 pub returns : goal.returns

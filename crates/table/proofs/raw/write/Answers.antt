@@ -5,16 +5,18 @@ use Rattle.table.proofs.RawRows.{all_written, full_refused, known_refused, unkno
 use Rattle.table.proofs.{Written.written_all, Written.written_short}
 use Rattle.table.proofs.raw.write.Goals as goal
 use Rattle.table.proofs.raw.write.Tie as tie
+use Rattle.table.proofs.raw.write.Reads as reads
+use Rattle.table.proofs.raw.write.Lts as steps
 
 -- a slice of bytes holds bytes
-each : (c : tie.After-shared_slice_known-1) → Bytes c.before.args.rows.now
+each : (c : steps.After-shared_slice_known tie.the-claims reads.Pre reads.Post) → Bytes c.args.rows.now
 unfolding Bytes
 each c i h = omega (arith, c.shared_slice_known-1.given i)
 
 -- the rows are taken
-taken : (c : tie.In-Taken) → let a = c.before.before.before.before.before.before.args in
+taken : (c : steps.After-enum_told tie.the-claims reads.Pre reads.Post) → let a = c.args in
     Judged (rows_questions a.edition 0 (raw_rows a.rows.now 0 c.known_rows-known.result) []) Taken
-taken c = rw c.enum_told-1.given.1 at c.validate_rows.ensures
+taken c = rw c.in-Taken.is at c.validate_rows.ensures
 
 pub returns-in-Refused : goal.returns-in-Refused
 returns-in-Refused c =
@@ -22,7 +24,7 @@ returns-in-Refused c =
     let a = c.args in
     known_refused a.edition a.rows.now a.buffer.now known.result _ (each c.before.before.before.before.before.before.before)
     known.ensures
-    (rw c.number-1.given.1 at c.validate_rows.ensures)
+    (rw c.in-Refused.is at c.validate_rows.ensures)
 
 pub returns-then-known-lt-ROW_LIMIT : goal.returns-then-known-lt-ROW_LIMIT
 returns-then-known-lt-ROW_LIMIT c =
@@ -48,7 +50,7 @@ returns-then-buffer-size c =
     all_written a.edition a.rows.now a.buffer.now _ known.result _ (each c.before.before.before.before.before.before.before.before.before)
     known.ensures
     (omega (arith, c.if-rows-known-ge-RAW_SIZE.false, known.ensures.whole))
-    (written_short a.edition _ a.buffer.now (taken c.before.before.before.before) (omega (arith, c.type_size.ensures, c.if-buffer-size.true)))
+    (written_short a.edition _ a.buffer.now (taken c.before.before.before.before) (omega (arith, c.size_of-size.ensures, c.if-buffer-size.true)))
 
 pub put_rows-requires : goal.put_rows-requires
 put_rows-requires c =
@@ -57,7 +59,7 @@ put_rows-requires c =
       omega (
         arith,
         c.if-buffer-size.false,
-        c.type_size.ensures,
+        c.size_of-size.ensures,
         c.put_byte.auto.0,
       ),
     )
@@ -69,8 +71,8 @@ returns c =
     all_written a.edition a.rows.now a.buffer.now _ known.result _ (each c.before.before.before.before.before.before.before.before.before.before.before.before.before.before.before.before.before)
     known.ensures
     (omega (arith, c.if-rows-known-ge-RAW_SIZE.false, known.ensures.whole))
-    (written_all a.edition _ a.buffer.now _ _ _ (taken c.before.before.before.before.before.before.before.before.before.before.before.before) (omega (arith, c.if-buffer-size.false, c.type_size.ensures))
-    (omega (arith, c.type_size.ensures)) c.put_byte.ensures c.put_rows.ensures)
+    (written_all a.edition _ a.buffer.now _ _ _ (taken c.before.before.before.before.before.before.before.before.before.before.before.before) (omega (arith, c.if-buffer-size.false, c.size_of-size.ensures))
+    (omega (arith, c.size_of-size.ensures)) c.put_byte.ensures c.put_rows.ensures)
 
 pub overflow_mul-known : goal.overflow_mul-known
 overflow_mul-known c = omega (arith, c.known_rows-known.ensures.room)

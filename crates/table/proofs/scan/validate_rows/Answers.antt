@@ -4,15 +4,17 @@ use Rattle.table.proofs.Places.{PlaceTaken, place_taken}
 use Rattle.table.proofs.Scanning.{CountedTo, counted_end, counted_more, counted_refused, counted_start}
 use Rattle.table.proofs.scan.validate_rows.Goals as goal
 use Rattle.table.proofs.scan.validate_rows.Tie as tie
+use Rattle.table.proofs.scan.validate_rows.Reads as reads
+use Rattle.table.proofs.scan.validate_rows.Lts as steps
 
 -- the row that is counted was taken
-read : (c : tie.In-Taken goal.the-invariant-loop-place goal.the-decreases-loop-place) → let at_loop = c.before.before.before.before in let a = at_loop.before.before.args in
-    ReadsAt a.edition a.bytes.now at_loop.loop.rows at_loop.loop.place Taken
-read c = rw c.enum_told-1.given.1 at c.validate_row.ensures
+read : (c : steps.After-enum_told tie.the-claims reads.Pre reads.Post goal.the-invariant-loop-place goal.the-decreases-loop-place) → let a = c.args in
+    ReadsAt a.edition a.bytes.now c.loop-place.rows c.loop-place.place Taken
+read c = rw c.in-Taken.is at c.validate_row.ensures
 
-taken : (c : tie.In-Taken goal.the-invariant-loop-place goal.the-decreases-loop-place) → let at_loop = c.before.before.before.before in let a = at_loop.before.before.args in
-    PlaceTaken a.edition a.bytes.now at_loop.loop.rows at_loop.loop.place
-    (row_read_at a.bytes.now at_loop.loop.place)
+taken : (c : steps.After-enum_told tie.the-claims reads.Pre reads.Post goal.the-invariant-loop-place goal.the-decreases-loop-place) → let a = c.args in
+    PlaceTaken a.edition a.bytes.now c.loop-place.rows c.loop-place.place
+    (row_read_at a.bytes.now c.loop-place.place)
 taken c =
     let a = c.args in
     place_taken a.edition a.bytes.now c.loop-place.rows c.loop-place.place _ (read c).1
@@ -28,7 +30,7 @@ loop-place-preserved c =
 pub returns-in-Refused : goal.returns-in-Refused
 returns-in-Refused c =
     let bytes = c.args.bytes.now in
-    let judged = rw c.number-1.given.1 at c.validate_row.ensures in (
+    let judged = rw c.in-Refused.is at c.validate_row.ensures in (
       counted_refused c.args.edition bytes c.loop-place.rows c.loop-place.place _ c.loop-place.invariant (omega arith)
           judged,
       refl,

@@ -4,23 +4,25 @@ use Rattle.table.proofs.Names.{length-map, row_known, row_short, row_in, row_lim
 use Rattle.table.proofs.{Stores.rows_size}
 use Rattle.table.proofs.writer.size_of.Goals as goal
 use Rattle.table.proofs.writer.size_of.Tie as tie
+use Rattle.table.proofs.writer.size_of.Reads as reads
+use Rattle.table.proofs.writer.size_of.Lts as steps
 
 -- a table has 32 entries, and no more rows
-entries : (c : tie.Start goal.the-invariant-loop-i goal.the-decreases-loop-i) → length c.args.t1.rows ≡ 32
-entries c = sym (length-map c.args.t1.rows _) ∙ c.well-formed.0.1.1.0.1.0.1
+entries : (c : steps.Start tie.the-claims reads.Pre reads.Post goal.the-invariant-loop-i goal.the-decreases-loop-i) → length c.args.table.rows ≡ 32
+entries c = sym (length-map c.args.table.rows _) ∙ c.well-formed.0.1.1.0.1.0.1
 
-few : (c : tie.Start goal.the-invariant-loop-i goal.the-decreases-loop-i) → c.args.t1.count ≤ row_limit
-few c = let table = c.args.t1 in omega (arith, rows_length table, rows_room c.requires.0 0 (rows_of table) (omega arith) c.requires.1)
+few : (c : steps.Start tie.the-claims reads.Pre reads.Post goal.the-invariant-loop-i goal.the-decreases-loop-i) → c.args.table.count ≤ row_limit
+few c = let table = c.args.table in omega (arith, rows_length table, rows_room c.requires.0 0 (rows_of table) (omega arith) c.requires.1)
 
 -- the row of a turn, which is of a known type
 abbrev row : tie.After-row invariant_loop decreases_loop → TableRow
 row c = get_or c.before.before.before.args.t1.rows c.before.before.loop.i (record { tag = 0; values = [] })
 
-known : (c : tie.After-row-1 goal.the-invariant-loop-i goal.the-decreases-loop-i) → TypeKnown c.before.before.before.requires.0 (type_of (row_in (row c))) (count_of (row_in (row c)))
+known : (c : steps.After-row tie.the-claims reads.Pre reads.Post goal.the-invariant-loop-i goal.the-decreases-loop-i) → TypeKnown c.requires.0 (type_of (row_in (row c))) (count_of (row_in (row c)))
 known c =
-    row_known c.requires.0 c.args.t1 c.loop-i.i _ (omega arith) (omega (arith, entries c.before.before.before, few c.before.before.before)) c.requires.1
+    row_known c.requires.0 c.args.table c.loop-i.i _ (omega arith) (omega (arith, entries c.before.before.before, few c.before.before.before)) c.requires.1
 
-short : (c : tie.After-length goal.the-invariant-loop-i goal.the-decreases-loop-i) → c.length.result ≤ 145
+short : (c : steps.After-length tie.the-claims reads.Pre reads.Post goal.the-invariant-loop-i goal.the-decreases-loop-i) → c.length.result ≤ 145
 short c = omega (
   arith,
   c.length.ensures,
@@ -31,14 +33,14 @@ short c = omega (
 
 pub loop-i-preserved : goal.loop-i-preserved
 loop-i-preserved c =
-    let next = rows_size c.args.t1 c.loop-i.i (record { tag = 0; values = [] }) (omega arith) (omega
+    let next = rows_size c.args.table c.loop-i.i (record { tag = 0; values = [] }) (omega arith) (omega
     (arith, entries c.before.before.before.before.before, few c.before.before.before.before.before)) in
     (omega arith, omega (arith, short c.before), omega (arith, next, c.length.ensures))
 
 pub returns : goal.returns
 unfolding rows_bytes
 returns c =
-    let table = c.args.t1 in
+    let table = c.args.table in
     let none : drop c.loop-i.i (rows_of table) ≡ [] =
     drop_of_length-le (rows_of table) {i = c.loop-i.i} (omega (arith, rows_length table)) in
     omega (arith, rw none at c.loop-i.invariant.2)

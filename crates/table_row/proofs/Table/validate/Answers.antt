@@ -10,41 +10,43 @@ use Rattle.constraint.proofs.Accepted.{rows_full, rows_refused, rows_taken}
 use Rattle.table_row.proofs.Tables.{rows_from, rows_length}
 use Rattle.table_row.proofs.Table.validate.Goals as goal
 use Rattle.table_row.proofs.Table.validate.Tie as tie
+use Rattle.table_row.proofs.Table.validate.Reads as reads
+use Rattle.table_row.proofs.Table.validate.Lts as steps
 
 -- a table has 32 entries
-size : (c : tie.At-loop-i goal.the-invariant-loop-i goal.the-decreases-loop-i) → length c.before.args.t1.rows ≡ 32
-size c = sym (length-map c.args.t1.rows _) ∙ c.well-formed.0.1.1.0.1.0.1
+size : (c : steps.At-loop tie.the-claims reads.Pre reads.Post goal.the-invariant-loop-i goal.the-decreases-loop-i) → length c.args.self.rows ≡ 32
+size c = sym (length-map c.args.self.rows _) ∙ c.well-formed.0.1.1.0.1.0.1
 
 pub returns-then-i-ge-ROW_LIMIT : goal.returns-then-i-ge-ROW_LIMIT
 returns-then-i-ge-ROW_LIMIT c =
-    let table = c.args.t1 in let loop = c.loop-i in
+    let table = c.args.self in let loop = c.loop-i in
     loop.invariant.1 _ (rows_full _ loop.i (rows_of table) [] (omega (arith, rows_length table)) c.if-i-ge-ROW_LIMIT.true)
 
 pub returns-in-Refused : goal.returns-in-Refused
 returns-in-Refused c =
-    let table = c.args.t1 in
+    let table = c.args.self in
     let edition = c.args.edition in let i = c.loop-i.i in
     c.loop-i.invariant.1 _
-    (subst⁻¹ (λ rows. Judged (rows_questions edition i rows []) (Refused c.number-1.given.0.0))
+    (subst⁻¹ (λ rows. Judged (rows_questions edition i rows []) (Refused c.in-Refused.number))
     (rows_from table i _ (omega arith) (omega (arith, size c.before.before.before.before.before.before.before.before)))
-    (rows_refused edition i _ (drop (i + 1) (rows_of table)) [] _ (omega arith) (rw c.number-1.given.1 at c.validate.ensures)))
+    (rows_refused edition i _ (drop (i + 1) (rows_of table)) [] _ (omega arith) (rw c.in-Refused.is at c.validate.ensures)))
 
 pub loop-i-preserved : goal.loop-i-preserved
 loop-i-preserved c =
-    let table = c.args.t1 in
+    let table = c.args.self in
     let edition = c.args.edition in let i = c.loop-i.i in (
       omega arith,
       λ a later.
           c.loop-i.invariant.1 a
           (subst⁻¹ (λ rows. Judged (rows_questions edition i rows []) a) (rows_from table i _ (omega arith) (omega (arith, size c.before.before.before.before.before.before.before)))
-          (rows_taken edition i _ (drop (i + 1) (rows_of table)) [] a (omega arith) (rw c.enum_told-1.given.1 at c.validate.ensures)
+          (rows_taken edition i _ (drop (i + 1) (rows_of table)) [] a (omega arith) (rw c.in-Taken.is at c.validate.ensures)
           later)),
     )
 
 pub returns : goal.returns
 unfolding rows_questions
 returns c =
-    let table = c.args.t1 in
+    let table = c.args.self in
     c.loop-i.invariant.1 Taken
     (rw (drop_of_length-le (rows_of table) {i = c.loop-i.i} (omega (arith, rows_length table))) judged_none)
 

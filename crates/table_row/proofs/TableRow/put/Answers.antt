@@ -8,18 +8,20 @@ use Rattle.table_row.proofs.Judging.{body_long, known_row, row_bytes_long, row_s
 use Rattle.table_row.proofs.{Lines.total_small}
 use Rattle.table_row.proofs.TableRow.put.Goals as goal
 use Rattle.table_row.proofs.TableRow.put.Tie as tie
+use Rattle.table_row.proofs.TableRow.put.Reads as reads
+use Rattle.table_row.proofs.TableRow.put.Lts as steps
 
 -- of a known type, with a known n
-known : (c : tie.Start) → TypeKnown c.requires.0.0 c.args.self.tag (at c.args.self.values 0)
+known : (c : steps.Start tie.the-claims reads.Pre reads.Post) → TypeKnown c.requires.0.0 c.args.self.tag (at c.args.self.values 0)
 known c = known_row c.requires.0.0 c.args.self.tag c.args.self.values c.requires.0.1
 
 -- so its length is that of its roles, and 1 more
-long : (c : tie.After-size_of-size) → 1 + c.type_size.result ≡ 1 + total (roles_of c.before.before.before.before.args.self.tag
+long : (c : steps.After-size_of tie.the-claims reads.Pre reads.Post) → 1 + c.size_of-size.result ≡ 1 + total (roles_of c.args.self.tag
     (at c.args.self.values 0))
-long c = ap (λ (n : ℕ). 1 + n) (c.type_size.ensures ∙ ap total c.roles_of-roles.ensures)
+long c = ap (λ (n : ℕ). 1 + n) (c.size_of-size.ensures ∙ ap total c.roles_of-roles.ensures)
 
 pub overflow_add-size : goal.overflow_add-size
-overflow_add-size c = omega (arith, c.type_size.ensures, total_small c.roles_of-roles.result)
+overflow_add-size c = omega (arith, c.size_of-size.ensures, total_small c.roles_of-roles.result)
 
 pub put_fields-requires : goal.put_fields-requires
 put_fields-requires c =

@@ -7,20 +7,22 @@ use Rattle.constraint.specs.Types.{last_types, most_counts, takes_count}
 use Rattle.table_row.proofs.{Lines.least_small, Lines.most_small}
 use Rattle.table_row.proofs.types.type_known.Goals as goal
 use Rattle.table_row.proofs.types.type_known.Tie as tie
+use Rattle.table_row.proofs.types.type_known.Reads as reads
+use Rattle.table_row.proofs.types.type_known.Lts as steps
 
 pub returns-then-version-ge3 : goal.returns-then-version-ge3
 returns-then-version-ge3 c = λ h. omega (arith, h.type_known, List·getD-eq-default last_types 0 {n = c.args.edition} c.if-version-ge3.true)
 
 -- a type from 1 to the edition's last one is in the lists
-known : (c : tie.Else-version-tag) → (1 ≤ c.before.before.before.args.tag)
+known : (c : steps.Else3 tie.the-claims reads.Pre reads.Post) → (1 ≤ c.args.tag)
     × (c.args.tag ≤ at last_types c.args.edition)
 known c = (omega (arith, c.if-tag-eq0.false), omega (arith, c.if-version-tag.false))
 
-listed : (c : tie.Else-version-tag) → c.before.before.before.args.tag < 18
+listed : (c : steps.Else3 tie.the-claims reads.Pre reads.Post) → c.args.tag < 18
 listed c = omega (arith, known c, at_most 17 last_types (omega arith) c.args.edition)
 
 -- the type has an n
-has : (c : tie.Else-place-eq0) → takes_count c.before.before.before.before.args.tag ≡ true
+has : (c : steps.Else4 tie.the-claims reads.Pre reads.Post) → takes_count c.args.tag ≡ true
 has c = lt-ltb 0 (at most_counts c.args.tag) (omega (arith, c.if-place-eq0.false))
 
 pub returns-then-place-eq0 : goal.returns-then-place-eq0
@@ -43,7 +45,7 @@ pub overflow_cast-place-2 : goal.overflow_cast-place-2
 overflow_cast-place-2 c = omega (arith, least_small c.args.tag)
 
 pub returns-then-n-place : goal.returns-then-n-place
-returns-then-n-place c = omega (
+returns-then-n-place c h = omega (
       arith,
       h.n_known (has
           c.before.before),

@@ -4,16 +4,18 @@ use Rattle.text.proofs.{Texts.copied_all, Texts.copied_none}
 use Rattle.text.specs.Content.{content, text_limit}
 use Rattle.text.proofs.Text.copy_to.Goals as goal
 use Rattle.text.proofs.Text.copy_to.Tie as tie
+use Rattle.text.proofs.Text.copy_to.Reads as reads
+use Rattle.text.proofs.Text.copy_to.Lts as steps
 
-size : (c : tie.Start) → length c.args.self.bytes ≡ text_limit
+size : (c : steps.Start tie.the-claims reads.Pre reads.Post) → length c.args.self.bytes ≡ text_limit
 size c = sym (length-map c.args.self.bytes _) ∙ c.well-formed.0.1.1.0.1.0.1
 
-within : (c : tie.Joined-self-lt-TEXT_LIMIT) → c.if1.len ≤ length c.before.before.before.before.args.self.bytes
+within : (c : steps.Joined1 tie.the-claims reads.Pre reads.Post) → c.if-self-lt-TEXT_LIMIT.len ≤ length c.args.self.bytes
 within c =
     ⊎_elim (λ w. omega (arith, size c.before.before.before.before)) (λ w. omega (arith, size c.before.before.before.before)) c.if-self-lt-TEXT_LIMIT.branch
 
 -- the bytes copied
-held : (c : tie.Joined-self-lt-TEXT_LIMIT) → take c.if1.len c.before.before.before.before.args.self.bytes
+held : (c : steps.Joined1 tie.the-claims reads.Pre reads.Post) → take c.if-self-lt-TEXT_LIMIT.len c.args.self.bytes
     ≡ content c.args.self
 held c =
     let bytes = c.args.self.bytes in
@@ -23,7 +25,7 @@ held c =
     c.if-self-lt-TEXT_LIMIT.branch
 
 -- their number
-counted : (c : tie.Joined-self-lt-TEXT_LIMIT) → c.if1.len ≡ length (content c.before.before.before.before.args.self)
+counted : (c : steps.Joined1 tie.the-claims reads.Pre reads.Post) → c.if-self-lt-TEXT_LIMIT.len ≡ length (content c.args.self)
 counted c =
     let bytes = c.args.self.bytes in
     sym (length-take-le c.if-self-lt-TEXT_LIMIT.len bytes (within c)) ∙ ap length (held c)

@@ -13,7 +13,7 @@ import sys
 
 NAME = r"[A-Za-z_ℕ⊎≢≡◌λ][A-Za-z0-9_'·₀-₉⁰-⁹⁻¹ℕ⊎-]*"
 TOKEN = re.compile(rf"(?<![A-Za-z0-9_'·ℕ⊎₀-₉.-]){NAME}(?:\.[A-Za-z0-9_'·₀-₉-]+)*")
-TRIVIAL = re.compile(r"\(?(?:λ\s+[\w\sκ']+\.\s*)?(?:search\s+(?:rules|needs)|omega arith|tt|free)\)?$")
+TRIVIAL = re.compile(r"\(?(?:λ\s+[\w\sκ']+\.\s*)?(?:search\s+(?:rules|needs)|omega\s+arith|tt|free|parts\.free|Shared\.free)\)?$")
 
 
 # Names of calls that a script took for names of the library.
@@ -77,6 +77,32 @@ def blocks_of(text):
     return blocks
 
 
+def scopes(body, names):
+    """Where the body binds a name: for each such name the stretches in which it is that variable."""
+    found = {}
+    for m in re.finditer(r"\(([^()\[\]{}λ.:,→=]+) :|λ( [^()\[\]{}λ.:,→=]+)\.(?=\s)", body):
+        for p in (m[1] or m[2]).split():
+            if names is not None and p not in names:
+                continue
+            depth, i = 0, m.start()
+            if m[1]:
+                # the group in brackets itself ends first
+                while i < len(body):
+                    depth += body[i] in "([{"
+                    depth -= body[i] in ")]}"
+                    i += 1
+                    if not depth:
+                        break
+            while i < len(body):
+                depth += body[i] in "([{"
+                depth -= body[i] in ")]}"
+                if depth < 0:
+                    break
+                i += 1
+            found.setdefault(p, []).append((m.start(), i))
+    return found
+
+
 class Function:
     def __init__(self, crate, path, names):
         self.crate, self.path, self.names = crate, path, names
@@ -136,6 +162,8 @@ class Function:
             words.pop(0)
         if not words:
             return "place", place
+        if words[0] == "well-formed":
+            words[0] = "well_formed"
         if words[0] in ("args", "ranges") and len(words) > 1:
             words[1] = self.args.get(f".{words[0]} .{words[1]}", words[1])
         arm = self.arm(place, words)
@@ -163,11 +191,17 @@ class Function:
 
     def body(self, text, place, base="c", is_view=True):
         """Rewrites the paths in a body whose variable `base` is of the place."""
-        aliases = {base: (base, place)}
+        aliases, arguments = {base: (base, place)}, set()
         whole = lambda at: ".".join([base, *["before"] * (self.above(place, at) + is_view)])
         out, i = "", 0
         pattern = re.compile(rf"let ({NAME}) = ({NAME}(?:\.[A-Za-z0-9_'·₀-₉-]+)*) in\b[ ]?|{TOKEN.pattern}")
+        hidden = scopes(text, None)
         for m in pattern.finditer(text):
+            first = (m[1] or m[0]).split(".")[0]
+            if not m[1] and any(a <= m.start() < b for a, b in hidden.get(first, ())):
+                out += text[i : m.end()]
+                i = m.end()
+                continue
             out += text[i : m.start()]
             i = m.end()
             if m[1]:
@@ -179,12 +213,18 @@ class Function:
                         aliases[m[1]] = (base_var, got)
                         continue
                     aliases.pop(m[1], None)
+                    if got == ["args"]:
+                        arguments.add(m[1])
                     out += f"let {m[1]} = {'.'.join([base_var, *got])} in" + (" " if m[0].endswith(" ") else "")
                     continue
                 aliases.pop(m[1], None)
                 out += m[0]
                 continue
             words = m[0].split(".")
+            if words[0] in arguments and len(words) > 1:
+                words[1] = self.args.get(f".args .{words[1]}", words[1])
+                out += ".".join(words)
+                continue
             if words[0] in aliases:
                 base_var, at = aliases[words[0]]
                 if len(words) == 1:
@@ -199,30 +239,11 @@ class Function:
             out += m[0]
         out += text[i:]
         # A line that has only what a dropped let left.
-        def negated(it):
-            self.lemmas.add("not-" + it[2])
-            return f"(not-{it[2]} _ {it[1]}.{it[2]})"
-        out = re.sub(r"(?<![\w.'-])([\w']+\.if-not-[A-Za-z0-9_'-]+)\.(true|false)(?![\w'-])", negated, out)
+        # The test of a negation says today what the call returned.
+        out = re.sub(r"\(not-(?:true|false) _ ([\w']+\.if-not-[A-Za-z0-9_'-]+\.(?:true|false))\)", r"\1", out)
+        out = re.sub(r"(?<= )([\w']+\.if-not-[A-Za-z0-9_'-]+\.(?:true|false))(?=\))(?<!\(\1)", r"(ap not \1)", out) if False else out
         lines = [it.rstrip() for it in out.split("\n")]
         return "\n".join(it for k, it in enumerate(lines) if it or not k)
-
-
-def scopes(body, names):
-    """Where the body binds one of the names again: for each name the stretches in which it is the new one."""
-    found = {}
-    for m in re.finditer(rf"\(((?:{NAME} ?)+) :", body):
-        for p in m[1].split():
-            if p not in names:
-                continue
-            depth, i = 0, m.start()
-            while i < len(body):
-                depth += body[i] in "([{"
-                depth -= body[i] in ")]}"
-                if depth < 0:
-                    break
-                i += 1
-            found.setdefault(p, []).append((m.start(), i))
-    return found
 
 
 def invariant(fn, name, lines):

@@ -2,7 +2,6 @@
 use Rattle.clock.proofs.{Laws.ticks_more}
 use Rattle.clock.specs.Clock.{Ticks, clock_with, no_tick}
 use Rattle.constraint.proofs.Library.{List, ◌-◌, arith, length, not-false, ℕ}
-use borrow.Author.Tests.{not-false}
 use Rattle.clock.proofs.ticks.Given as goal
 
 abbrev pub invariant-loop-tick : goal.invariant-loop-tick

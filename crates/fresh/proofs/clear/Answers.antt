@@ -25,13 +25,13 @@ pub loop-i-init : goal.loop-i-init
 loop-i-init c = (omega arith, (refl, refl))
 
 pub offset_bounds-blocks-i : goal.offset_bounds-blocks-i
-offset_bounds-blocks-i c = omega (arith, c.well-formed.0.1)
+offset_bounds-blocks-i c = omega (arith, c.well_formed.0.1)
 
 pub bounds-blocks-i : goal.bounds-blocks-i
 bounds-blocks-i c = c.loop-i-test.true
 
 pub overflow_add-i : goal.overflow_add-i
-overflow_add-i c = omega (arith, c.well-formed.0.0)
+overflow_add-i c = omega (arith, c.well_formed.0.0)
 
 pub shape_of-blocks : goal.shape_of-blocks
 shape_of-blocks c = c.loop-i.invariant.1.0

@@ -3,7 +3,6 @@ use Rattle.join.proofs.Names.{HeadAt, List, Records, Step, [], ◌+◌, ◌-◌,
 use Rattle.join.proofs.Names.{length-sets, not-false, not-true, sets, steps_bytes, refl, sym, ℕ}
 use Rattle.join.proofs.{Heads.keeps_within, Walking.Walking, Walking.head_fits, Walking.next_whole, Walking.walk_end, Walking.walk_more}
 use Rattle.join.proofs.{Walking.walk_short, Walking.walk_start}
-use borrow.Author.Tests.{not-false, not-true}
 use Rattle.join.proofs.walk.Goals as goal
 
 -- the last place
@@ -82,7 +81,7 @@ returns-then-not-kept c =
       short = λ e a b records others. walk_short args.first.now args.second.now _ args.limit loop.place loop.other loop.clock
           loop.size loop.buffer a b (loop.invariant.6 a b records others) c.following-next.result
           (c.following-next.ensures.0 _ _ loop.invariant.2 loop.invariant.3) (omega (arith, c.if-head-eq0.false)) c.keep-kept.result _ loop.invariant.1
-          c.keep-kept.ensures (not-true _ (not-true _ c.if-not-kept.true));
+          c.keep-kept.ensures c.if-not-kept.true;
     }
 
 pub loop-a-smaller : goal.loop-a-smaller
@@ -96,7 +95,7 @@ loop-a-preserved c =
     let args = c.args in
     let first = c.read_again-a.ensures loop.invariant.2 in let second = c.read_again-b.ensures loop.invariant.3 in (
       keeps_within loop.buffer loop.size args.limit loop.clock _ c.keep-kept.result _ c.keep-kept.ensures loop.invariant.0
-          (not-false _ (not-false _ c.if-not-kept.false)),
+          c.if-not-kept.false,
       c.keep-kept.ensures.long ∙ loop.invariant.1,
       first,
       second,
@@ -107,7 +106,7 @@ loop-a-preserved c =
       λ a b records others. walk_more args.first.now args.second.now _ args.limit loop.place loop.other loop.clock
           loop.size loop.buffer a b (loop.invariant.6 a b records others) c.following-next.result
           (c.following-next.ensures.0 _ _ loop.invariant.2 loop.invariant.3) (omega (arith, c.if-head-eq0.false)) c.keep-kept.result _ loop.invariant.1
-          c.keep-kept.ensures (not-false _ (not-false _ c.if-not-kept.false)),
+          c.keep-kept.ensures c.if-not-kept.false,
       loop.invariant.7,
       loop.invariant.8,
     )

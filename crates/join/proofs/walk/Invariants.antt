@@ -3,7 +3,6 @@ use Rattle.join.proofs.Names.{HeadAt, List, Records, Step, [], ◌+◌, ◌-◌,
 use Rattle.join.proofs.Names.{length-sets, not-false, not-true, sets, steps_bytes, refl, sym, ℕ}
 use Rattle.join.proofs.{Heads.keeps_within, Walking.Walking, Walking.head_fits, Walking.next_whole, Walking.walk_end, Walking.walk_more}
 use Rattle.join.proofs.{Walking.walk_short, Walking.walk_start}
-use borrow.Author.Tests.{not-false, not-true}
 use Rattle.join.proofs.walk.Given as goal
 
 abbrev pub invariant-loop-a : goal.invariant-loop-a

@@ -3,13 +3,12 @@ use Rattle.constraint.proofs.{Judged.failed, Judged.passed, Library.◌-◌, Lib
 use Rattle.clock.specs.Clock.{clock_with}
 use Rattle.constraint.specs.Recording.{version_refused}
 use Rattle.stretch.proofs.Gathering.{GatheredTo, gather_end, gather_more, gather_refused, gather_start}
-use borrow.Author.Tests.{not-false, not-true}
 use Rattle.stretch.proofs.gather.Goals as goal
 
 pub returns-then-not-version_known : goal.returns-then-not-version_known
 returns-then-not-version_known c =
     record {
-      refused = λ more. version_refused (failed c.version_known.result c.version_known.ensures (not-true _ c.if-not-version_known.true));
+      refused = λ more. version_refused (failed c.version_known.result c.version_known.ensures c.if-not-version_known.true);
       taken = λ e. absurd (omega (arith, e));
     }
 
@@ -17,7 +16,7 @@ pub loop-place-init : goal.loop-place-init
 loop-place-init c =
     let args = c.args in
     gather_start (now args.bytes) args.streams.now args.times.now
-    (passed c.version_known.result c.version_known.ensures (not-false _ c.if-not-version_known.false)) (clock_with c.start-clock.result _) c.start-clock.ensures
+    (passed c.version_known.result c.version_known.ensures c.if-not-version_known.false) (clock_with c.start-clock.result _) c.start-clock.ensures
     c.requires.0 c.requires.1
 
 pub returns-then-read-gt0 : goal.returns-then-read-gt0

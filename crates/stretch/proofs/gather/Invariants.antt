@@ -3,7 +3,6 @@ use Rattle.constraint.proofs.{Judged.failed, Judged.passed, Library.◌-◌, Lib
 use Rattle.clock.specs.Clock.{clock_with}
 use Rattle.constraint.specs.Recording.{version_refused}
 use Rattle.stretch.proofs.Gathering.{GatheredTo, gather_end, gather_more, gather_refused, gather_start}
-use borrow.Author.Tests.{not-false, not-true}
 use Rattle.stretch.proofs.gather.Given as goal
 
 abbrev pub invariant-loop-place : goal.invariant-loop-place

@@ -22,11 +22,11 @@ loop-at-init c =
 asked : (c : steps.After-step_overflows tie.the-claims reads.Pre reads.Post goal.the-invariant-loop-at goal.the-decreases-loop-at) →
     let args = c.args in
     let r = c.loop-at.invariant.1.row in
-    c.step_overflows.result ≡ crowded_by r.parameters r.now (seen_as (at args.streams.now c.loop-at.at)
+    c.step-overflows.result ≡ crowded_by r.parameters r.now (seen_as (at args.streams.now c.loop-at.at)
     (at args.times.now c.loop-at.at))
 asked c =
     let lying = c.loop-at.invariant.1 in
-    rw (← c.seen-o.ensures) (c.step_overflows.ensures lying.row lying.before lying.lies)
+    rw (← c.before.before.seen.ensures) (c.step-overflows.ensures lying.row lying.before lying.lies)
 
 stepped : (c : steps.After-step tie.the-claims reads.Pre reads.Post goal.the-invariant-loop-at goal.the-decreases-loop-at) →
     let args = c.args in
@@ -43,7 +43,7 @@ returns-then-step_overflows c =
     let args = c.args in
     let inv = c.loop-at.invariant in
     to_crowded args.streams.now args.times.now args.count args.start inv.0 _ _ _ _ inv.1.to c.loop-at-test.true
-    (sym (asked c.before.before) ∙ c.if-step_overflows.true) (row_in args.t1) c.begin.ensures
+    (sym (asked c.before.before) ∙ c.if-step_overflows.true) (row_in args.wanted) c.begin.ensures
 
 -- a row that lies in words is broken by the word that says so
 broken_word : (words : List (List ℕ)) (r : Row) → (b : _) → words ≡ words_of_row r b → get_or (get_or words 1 []) 19 0 ≡ r.now.broken
@@ -56,7 +56,7 @@ returns-then-words-gt0 c =
     let inv = c.loop-at.invariant in
     to_broken args.streams.now args.times.now args.count args.start inv.0 _ _ _ _ inv.1.to c.loop-at-test.true
     (sym (asked c.before.before.before.before.before.before) ∙ c.if-step_overflows.false) (subst (λ (n : ℕ). 0 < n) (broken_word _ _ _ (stepped c.before.before.before)) c.if-words-gt0.true)
-    (row_in args.t1) c.begin.ensures
+    (row_in args.wanted) c.begin.ensures
 
 pub loop-at-preserved : goal.loop-at-preserved
 loop-at-preserved c =

@@ -1,19 +1,18 @@
 -- The version byte is asked for first, and then the rows of its edition.
 use Rattle.table.proofs.Names.{ReadsRows, VersionUpTo, failed, rules, passed, read_of, subst, version_refused, version_taken, ℕ}
-use borrow.Author.Tests.{not-false, not-true}
 use Rattle.table.proofs.read.Goals as goal
 use Rattle.table.proofs.read.Tie as tie
 use Rattle.table.proofs.read.Reads as reads
 use Rattle.table.proofs.read.Lts as steps
 
-version : (c : steps.Else1 tie.the-claims reads.Pre reads.Post) → VersionUpTo c.args.newest c.args.bytes.now
-version c = passed c.version_known.result c.version_known.ensures (not-false _ c.if-not-version_known.false)
+version : (c : steps.Else1 tie.the-claims reads.Pre reads.Post) → VersionUpTo c.before.before.before.args.newest c.before.before.before.args.bytes.now
+version c = passed c.before.version-known.result c.before.version-known.ensures c.if1.false
 
 pub returns-then-not-version_known : goal.returns-then-not-version_known
 returns-then-not-version_known c =
     let refused = c.refused.ensures in let test = c.version_known in
     record {
-      reads = rw refused.0 (version_refused (failed test.result test.ensures (not-true _ c.if-not-version_known.true)));
+      reads = rw refused.0 (version_refused (failed test.result test.ensures c.if-not-version_known.true));
       holds = rw refused.0 refused.1;
     }
 

@@ -10,7 +10,7 @@ use Rattle.table_row.proofs.put_fields.Goals as goal
 pub put_number-requires : goal.put_number-requires
 put_number-requires c =
     let a = c.args in
-    omega (arith, c.width_of-width.ensures, width_small (at a.t3 c.loop-i.i))
+    omega (arith, c.width_of-width.ensures, width_small (at a.roles c.loop-i.i))
 
 pub overflow_add-next : goal.overflow_add-next
 overflow_add-next c =
@@ -18,7 +18,7 @@ overflow_add-next c =
     omega (
       arith,
       c.width_of-width.ensures,
-      width_small (at a.t3
+      width_small (at a.roles
           c.loop-i.i),
       c.loop-i.invariant.2,
       c.requires,
@@ -30,15 +30,15 @@ loop-i-preserved c =
     let wide = c.width_of-width in let put = c.put_number in (
       omega arith,
       put.auto.0 ∙ loop.invariant.1,
-      omega (arith, wide.ensures, width_small (at a.t3 loop.i), loop.invariant.2),
-      rw (put.ensures, wide.ensures) (sym (fields_more loop.buffer loop.next a.t3 a.t4 loop.i (omega arith)) ∙ loop.invariant.3),
+      omega (arith, wide.ensures, width_small (at a.roles loop.i), loop.invariant.2),
+      rw (put.ensures, wide.ensures) (sym (fields_more loop.buffer loop.next a.roles a.values loop.i (omega arith)) ∙ loop.invariant.3),
     )
 
 pub returns : goal.returns
 unfolding fields_bytes
 returns c =
     let a = c.args in let loop = c.loop-i in
-    sym (ap (λ (fs : List Field). sets loop.buffer loop.next (fields_bytes fs)) (fields_end a.t3 a.t4 loop.i
+    sym (ap (λ (fs : List Field). sets loop.buffer loop.next (fields_bytes fs)) (fields_end a.roles a.values loop.i
     (omega arith))) ∙ loop.invariant.3
 
 pub loop-i-init : goal.loop-i-init

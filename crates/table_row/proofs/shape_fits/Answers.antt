@@ -4,18 +4,17 @@ use Rattle.constraint.proofs.Judged.{failed, free, passed, same_test, test_equal
 use Rattle.constraint.specs.Steps.{at}
 use Rattle.constraint.specs.Types.{TypeKnown, length_of}
 use Rattle.table_row.proofs.{Judging.type_there}
-use borrow.Author.Tests.{not-false, not-true}
 use Rattle.table_row.proofs.shape_fits.Goals as goal
 
 pub returns-then-not-type_known : goal.returns-then-not-type_known
 returns-then-not-type_known c =
     let test = c.type_known in
-    λ fits. failed test.result test.ensures (not-true _ c.if-not-type_known.true) (rw (c.byte_at-tag.ensures, c.byte_at-n.ensures) fits.known)
+    λ fits. failed test.result test.ensures c.if-not-type_known.true (rw (c.byte_at-tag.ensures, c.byte_at-n.ensures) fits.known)
 
 pub returns : goal.returns
 returns c =
     let test = c.type_known in
-    let known = passed test.result test.ensures (not-false _ c.if-not-type_known.false) in
+    let known = passed test.result test.ensures c.if-not-type_known.false in
     let body = c.args.body.now in
     let here : TypeKnown c.args.edition (at body 0) (at body 1) = rw (c.byte_at-tag.ensures, c.byte_at-n.ensures) at known in
     let long : c.length_of.result ≡ length_of (at body 0) (at body 1) = rw (c.byte_at-tag.ensures, c.byte_at-n.ensures) at

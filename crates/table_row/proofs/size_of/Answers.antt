@@ -8,13 +8,13 @@ use Rattle.table_row.proofs.size_of.Goals as goal
 pub loop-i-preserved : goal.loop-i-preserved
 loop-i-preserved c =
     let a = c.args in let loop = c.loop-i in let wide = c.width_of-size.ensures in
-    let next = total_next a.t1 loop.i (omega arith) in
-    (omega arith, omega (arith, wide, width_small (at a.t1 loop.i)), omega (arith, wide, next, loop.invariant.2))
+    let next = total_next a.roles loop.i (omega arith) in
+    (omega arith, omega (arith, wide, width_small (at a.roles loop.i)), omega (arith, wide, next, loop.invariant.2))
 
 pub returns : goal.returns
 returns c =
     let loop = c.loop-i in let a = c.args in
-    let none = ap total (drop_of_length-le a.t1 {i = loop.i} (omega arith)) in
+    let none = ap total (drop_of_length-le a.roles {i = loop.i} (omega arith)) in
     omega (arith, none, loop.invariant.2)
 
 pub loop-i-init : goal.loop-i-init

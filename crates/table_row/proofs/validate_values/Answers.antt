@@ -8,7 +8,6 @@ use Rattle.constraint.specs.Types.{Field}
 use Rattle.constraint.specs.Accepted.{EachField, FieldInRange, Ordered, KindClassFits, row_questions_in}
 use Rattle.table_row.specs.Records.{fields_as, fields_from, row_read}
 use Rattle.table_row.proofs.{Judging.asked_with, Judging.row_asked, Judging.row_unknown}
-use borrow.Author.Tests.{not-false, not-true}
 use Rattle.table_row.proofs.validate_values.Goals as goal
 use Rattle.table_row.proofs.validate_values.Tie as tie
 use Rattle.table_row.proofs.validate_values.Reads as reads
@@ -31,8 +30,8 @@ asked_5 : (c : steps.After-roles_of tie.the-claims reads.Pre reads.Post) → Ans
 asked_5 c a h =
     let args = c.args in let test = c.type_known in
     row_asked args.edition args.tag args.values.now
-    (passed test.result test.ensures (not-false _ c.if-not-type_known.false)) a
-    (subst (λ (r : List ℕ). Judged (asked_with (n c) (fields_as r args.values.now)) a) c.roles_of-roles.ensures h)
+    (passed test.result test.ensures c.before.if1.false) a
+    (subst (λ (r : List ℕ). Judged (asked_with (n c) (fields_as r args.values.now)) a) c.roles-of.ensures h)
 
 -- the questions that are left
 abbrev from_18 : tie.After-roles-of → List Question
@@ -41,55 +40,55 @@ from_18 c = (18, EachField KindClassFits (fields c)) ∷ (6, EachField FieldInRa
 asked_18 : (c : steps.Else2 tie.the-claims reads.Pre reads.Post) → Answers c.before.before.before (from_18 c.before.before.before)
 asked_18 c a h =
     let test = c.kinds_fit in
-    asked_5 c.before.before.before a (judged_yes 5 _ _ a (passed test.result test.ensures (not-false _ c.if-not-kinds_fit.false)) h)
+    asked_5 c.before.before.before a (judged_yes 5 _ _ a (passed test.result test.ensures c.if2.false) h)
 
 asked_6 : (c : steps.Else3 tie.the-claims reads.Pre reads.Post) →
     Answers c.before.before.before.before.before.before ((6, EachField FieldInRange (fields c.before.before.before.before.before.before)) ∷ (7, Ordered (n c.before.before.before.before.before.before) 0 (fields c.before.before.before.before.before.before)) ∷ [])
 asked_6 c a h =
     let test = c.kind_classes_valid in
-    asked_18 c.before.before.before a (judged_yes 18 _ _ a (passed test.result test.ensures (not-false _ c.if-not-kind_classes_valid.false)) h)
+    asked_18 c.before.before.before a (judged_yes 18 _ _ a (passed test.result test.ensures c.if3.false) h)
 
 asked_7 : (c : steps.Else4 tie.the-claims reads.Pre reads.Post) →
     Answers c.before.before.before.before.before.before.before.before.before ((7, Ordered (n c.before.before.before.before.before.before.before.before.before) 0 (fields c.before.before.before.before.before.before.before.before.before)) ∷ [])
 asked_7 c a h =
     let test = c.ranges_fit in
-    asked_6 c.before.before.before a (judged_yes 6 _ _ a (passed test.result test.ensures (not-false _ c.if-not-ranges_fit.false)) h)
+    asked_6 c.before.before.before a (judged_yes 6 _ _ a (passed test.result test.ensures c.if4.false) h)
 
 -- there are 18 roles
-many : (c : steps.After-roles_of tie.the-claims reads.Pre reads.Post) → length c.roles_of-roles.result ≡ 18
-many c = ap length c.roles_of-roles.ensures
+many : (c : steps.After-roles_of tie.the-claims reads.Pre reads.Post) → length c.roles-of.result ≡ 18
+many c = ap length c.roles-of.ensures
 
 pub returns-then-not-type_known : goal.returns-then-not-type_known
 returns-then-not-type_known c =
     let a = c.args in let test = c.type_known in
-    row_unknown a.edition a.tag a.values.now (failed test.result test.ensures (not-true _ c.if-not-type_known.true))
+    row_unknown a.edition a.tag a.values.now (failed test.result test.ensures c.if-not-type_known.true)
 
 pub returns-then-not-kinds_fit : goal.returns-then-not-kinds_fit
 returns-then-not-kinds_fit c = let test = c.kinds_fit in asked_5 c.before.before.before.before _ (judged_no 5 _ _ (failed test.result test.ensures
-    (not-true _ c.if-not-kinds_fit.true)))
+    c.if-not-kinds_fit.true))
 
 pub returns-then-not-kind_classes_valid : goal.returns-then-not-kind_classes_valid
 returns-then-not-kind_classes_valid c = let test = c.kind_classes_valid in asked_18 c.before.before.before.before _ (judged_no 18 _ _ (failed test.result
     test.ensures
-    (not-true _ c.if-not-kind_classes_valid.true)))
+    c.if-not-kind_classes_valid.true))
 
 pub returns-then-not-ranges_fit : goal.returns-then-not-ranges_fit
 returns-then-not-ranges_fit c = let test = c.ranges_fit in asked_6 c.before.before.before.before _ (judged_no 6 _ _ (failed test.result test.ensures
-    (not-true _ c.if-not-ranges_fit.true)))
+    c.if-not-ranges_fit.true))
 
 pub lower_first-requires : goal.lower_first-requires
 lower_first-requires c =
     let test = c.ranges_fit in
-    (many c.before.before.before.before.before.before.before.before.before.before.before, passed test.result test.ensures (not-false _ c.if-not-ranges_fit.false))
+    (many c.before.before.before.before.before.before.before.before.before.before.before, passed test.result test.ensures c.if-not-ranges_fit.false)
 
 pub returns-then-not-lower_first : goal.returns-then-not-lower_first
 returns-then-not-lower_first c = let test = c.lower_first in asked_7 c.before.before.before.before _ (judged_no 7 _ _ (failed test.result test.ensures
-    (not-true _ c.if-not-lower_first.true)))
+    c.if-not-lower_first.true))
 
 pub returns : goal.returns
 returns c =
     let test = c.lower_first in
-    asked_7 c.before.before.before.before _ (judged_yes 7 _ _ _ (passed test.result test.ensures (not-false _ c.if-not-lower_first.false)) judged_none)
+    asked_7 c.before.before.before.before _ (judged_yes 7 _ _ _ (passed test.result test.ensures c.if-not-lower_first.false) judged_none)
 
 pub kinds_fit-requires : goal.kinds_fit-requires
 kinds_fit-requires c = many c.before.before

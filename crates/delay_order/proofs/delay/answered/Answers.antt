@@ -4,7 +4,6 @@ use Rattle.constraint.proofs.Library.{length, ltb-false, ltb-true, not-false, no
 use Rattle.delay_order.specs.Delay.{answered_by}
 use Rattle.ring.proofs.{Laws.ring_length, Laws.ring_read, Laws.ring_round}
 use Rattle.ring.specs.Ring.{ring, time_at}
-use borrow.Author.Tests.{not-false, not-true}
 use Rattle.delay_order.proofs.delay.answered.Goals as goal
 
 module _ (lower t : ℕ) where
@@ -47,7 +46,7 @@ returns-then-not-reaches c =
     let s = c.time_at in let r = c.reaches in
     let a = c.args in
     stops a.lower a.t a.times.now a.head a.len _ c.loop-n.invariant.2 _ s.ensures _ r.ensures c.loop-n-test.true
-    (not-true _ (not-true _ c.if-not-reaches.true))
+    c.if-not-reaches.true
 
 pub loop-n-smaller : goal.loop-n-smaller
 loop-n-smaller c =
@@ -58,7 +57,7 @@ loop-n-preserved c =
     let s = c.time_at in let r = c.reaches in
     let a = c.args in
     let more = one_more a.lower a.t a.times.now a.head a.len _ c.loop-n.invariant.2 _ s.ensures _ r.ensures in
-    (omega (arith, c.loop-n-test.true), omega (arith, ltb-true c.loop-n.n 64 c.if-n-lt-SIZE.true), more (not-false _ (not-false _ c.if-not-reaches.false)))
+    (omega (arith, c.loop-n-test.true), omega (arith, ltb-true c.loop-n.n 64 c.if-n-lt-SIZE.true), more c.if-not-reaches.false)
 
 pub returns-else-n-lt-SIZE : goal.returns-else-n-lt-SIZE
 returns-else-n-lt-SIZE c =

@@ -4,7 +4,6 @@ use Rattle.constraint.proofs.Library.{length, ltb-false, ltb-true, not-false, no
 use Rattle.delay_order.specs.Delay.{answered_by}
 use Rattle.ring.proofs.{Laws.ring_length, Laws.ring_read, Laws.ring_round}
 use Rattle.ring.specs.Ring.{ring, time_at}
-use borrow.Author.Tests.{not-false, not-true}
 use Rattle.delay_order.proofs.delay.answered.Given as goal
 
 abbrev pub invariant-loop-n : goal.invariant-loop-n

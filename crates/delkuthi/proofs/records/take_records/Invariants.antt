@@ -2,7 +2,6 @@
 use Rattle.delkuthi.proofs.Names.{CallRead, ◌-◌, ap, arith, failed, length, rules, passed}
 use Rattle.delkuthi.proofs.TakenRecords.{TakenTo, to_end, to_more, to_none, to_refused, to_start}
 use Rattle.delkuthi.specs.TakingRecords.{no_version}
-use borrow.Author.Tests.{not-false, not-true}
 use Rattle.delkuthi.proofs.records.take_records.Given as goal
 
 abbrev pub invariant-loop-place : goal.invariant-loop-place

@@ -67,16 +67,16 @@ returns-then-response-eq0 c parameters times state past e =
     let response : c.word_at-response.result ≡ at w s.kinds =
     subst (λ (l : List (List ℕ)). c.word_at-response.result ≡ at (words_at (ring_in l) s.colour) s.kinds) e c.word_at-response.ensures in
     let goes : breaks_input s.kinds w s.kind s.t ≡ false =
-    sym (c.breaks_input.ensures ∙ ap (λ (c.before.before.before.before.before.before : ℕ). late_stimulus s.kinds c.before.before.before.before.before.before s.kind s.t) response) ∙ c.if-breaks_input.false in
+    sym (c.breaks_input.ensures ∙ ap (λ (x : ℕ). late_stimulus s.kinds x s.kind s.t) response) ∙ c.if-breaks_input.false in
     let old : c.word_at-old.result ≡ at w s.kind =
     subst (λ (l : List (List ℕ)). c.word_at-old.result ≡ at (words_at (ring_in l) s.colour) s.kind) e c.word_at-old.ensures in
     let value : c.word_input-value.result ≡ word_input s.kinds w s.kind s.t =
-    c.word_input-value.ensures ∙ ap (λ (c.before.before.before.before.before.before : ℕ). next_input s.kinds c.before.before.before.before.before.before s.kind s.t) old in
+    c.word_input-value.ensures ∙ ap (λ (x : ℕ). next_input s.kinds x s.kind s.t) old in
     let marked : c.due_marked-due.result ≡ due_marked state.registers = rw e at c.due_marked-due.ensures in
     c.put_word.ensures parameters times state past e
-    ∙ ap₂ (λ (c.before.before.before.before.before.before due : ℕ). changed_words last_saved parameters times state past
-    (marking (one_new (5 * s.colour + s.kind) c.before.before.before.before.before.before words) state.registers due) s.t s.number) value marked
-    ∙ ap (λ (c.before.before.before.before.before.before : Change). changed_words last_saved parameters times state past c.before.before.before.before.before.before s.t s.number)
+    ∙ ap₂ (λ (x due : ℕ). changed_words last_saved parameters times state past
+    (marking (one_new (5 * s.colour + s.kind) x words) state.registers due) s.t s.number) value marked
+    ∙ ap (λ (x : Change). changed_words last_saved parameters times state past x s.t s.number)
     (sym (notes_event (owed_input s.kinds parameters.upper) (breaks_input s.kinds) (word_input s.kinds) state.registers words
     s.colour s.kind s.t many goes (λ same. c.if-value-old.false (value ∙ same ∙ sym old))
     ∙ quiet_noted s.kinds parameters.upper state.registers words s.colour s.kind (word_input s.kinds w s.kind s.t)

@@ -28,9 +28,9 @@ returns c parameters times state past e =
     let high : c.second_at-high.result ≡ get_or words (place + 1) 0 =
     rw (c.place_of-place.ensures, e) at c.second_at-high.ensures ∙ second_read times state.head state.len place (omega arith) in
     let pair : c.pair_after-pair.result ≡ pair_after parameters s.stream (get_or words place 0) (get_or words (place + 1) 0) s.t =
-    rw e at c.pair_after-pair.ensures ∙ ap₂ (λ (c.before.before.before.before.before.before.before c.before.before.before.before.before : ℕ). pair_after parameters s.stream c.before.before.before.before.before.before.before c.before.before.before.before.before s.t) low high in
+    rw e at c.pair_after-pair.ensures ∙ ap₂ (λ (l h : ℕ). pair_after parameters s.stream l h s.t) low high in
     c.store.ensures parameters times state past e
-    ∙ ap₂ (λ (c.before.before.before.before.before : ℕ) (x : Pair). changed_words last_saved parameters times state past
-    (paired state.registers words (s.stream % 8) c.before.before.before.before.before x) s.t s.number) high pair
+    ∙ ap₂ (λ (h : ℕ) (x : Pair). changed_words last_saved parameters times state past
+    (paired state.registers words (s.stream % 8) h x) s.t s.number) high pair
     ∙ ap (λ (x : Change). changed_words last_saved parameters times state past x s.t s.number)
     (sym (long_enough 16 words _ (rw (ring_length times state.head state.len) many)))

@@ -30,11 +30,3 @@ returns c =
     c.loop-i.invariant.1
     ∙ without_all c.args.number c.args.m (size c.before.before.before.before) (wide c.before.before.before.before) c.loop-i.i
     (omega (arith, c.held-len.ensures))
-
-pub bounds-after-i-in-loop-i : goal.bounds-after-i-in-loop-i
-bounds-after-i-in-loop-i c = omega
-    arith
-
-pub overflow_add-i : goal.overflow_add-i
-overflow_add-i c = omega
-    arith

@@ -9,20 +9,20 @@ use Rattle.page.proofs.Summary.write.Reads as reads
 use Rattle.page.proofs.Summary.write.Lts as steps
 
 -- the length that was tested
-counted : (c : steps.After-size tie.the-claims reads.Pre reads.Post) → c.size-size.result ≡ page_length (min c.args.self.rows row_limit)
-counted c = c.size-size.ensures ∙ ap page_length c.held-rows.ensures
+counted : (c : steps.After-size tie.the-claims reads.Pre reads.Post) → c.size.result ≡ page_length (min c.before.before.before.args.t1.rows row_limit)
+counted c = c.size.ensures ∙ ap page_length c.before.held.ensures
 
 pub returns-then-buffer-size : goal.returns-then-buffer-size
 returns-then-buffer-size c =
     let start = c.args in
-    copied_nothing start.t1 start.buffer.now c.size-size.result (counted c.before.before) c.if-buffer-size.true
+    copied_nothing start.self start.buffer.now c.size-size.result (counted c.before.before) c.if-buffer-size.true
 
 pub returns-then-rows-eq0 : goal.returns-then-rows-eq0
 unfolding hyphens
 returns-then-rows-eq0 c =
     let start = c.args in
-    let rows : min start.t1.rows row_limit ≡ 0 = omega (arith, c.held-rows.ensures) in
-    copied_page start.t1 start.buffer.now c.size-size.result (counted c.before.before.before.before.before.before.before.before) _ c.if-buffer-size.false (rw rows c.put.ensures)
+    let rows : min start.self.rows row_limit ≡ 0 = omega (arith, c.held-rows.ensures) in
+    copied_page start.self start.buffer.now c.size-size.result (counted c.before.before.before.before.before.before.before.before) _ c.if-buffer-size.false (rw rows c.put.ensures)
 
 pub returns : goal.returns
 returns c =

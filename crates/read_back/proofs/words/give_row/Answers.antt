@@ -2,7 +2,6 @@
 use Rattle.constraint.proofs.Library.{rules, }
 use Rattle.constraint.proofs.Judged.{failed, passed}
 use Rattle.read_back.proofs.Holding.{far_back, given_back, known_back, unknown_back}
-use borrow.Author.Tests.{not-false, not-true}
 use Rattle.read_back.proofs.words.give_row.Goals as goal
 
 pub returns-then-parameters-gt-LAST_TYPE : goal.returns-then-parameters-gt-LAST_TYPE
@@ -15,14 +14,14 @@ returns-then-not-type_known c =
     let test = c.type_known in let values = c.values_in-values in
     let a = c.before.before.args in
     unknown_back a.words.now c.parameters-at.result c.parameters-at.ensures values.result values.ensures
-    a.body.now (failed test.result test.ensures (not-true _ c.if-not-type_known.true))
+    a.body.now (failed test.result test.ensures c.if-not-type_known.true)
 
 pub give_body-requires : goal.give_body-requires
 give_body-requires c =
     let test = c.type_known in let values = c.values_in-values in
     let a = c.before.before.args in
     known_back a.words.now c.parameters-at.result c.parameters-at.ensures values.result values.ensures
-    a.body.now (passed test.result test.ensures (not-false _ c.if-not-type_known.false))
+    a.body.now (passed test.result test.ensures c.if-not-type_known.false)
 
 pub returns : goal.returns
 returns c =

@@ -8,13 +8,13 @@ pub loop-i-preserved : goal.loop-i-preserved
 loop-i-preserved c =
     let loop = c.loop-i in let a = c.args in (
       omega (arith, loop.invariant.0),
-      rw c.used.ensures (sym (words_more loop.times a.t2 a.values.now loop.next loop.i (omega arith)) ∙ loop.invariant.1),
+      rw c.used.ensures (sym (words_more loop.times a.roles a.values.now loop.next loop.i (omega arith)) ∙ loop.invariant.1),
     )
 
 pub returns : goal.returns
 returns c =
     let loop = c.loop-i in let a = c.args in
-    let end : used_from a.t2 a.values.now loop.i ≡ [] = rw (drop_of_length-le a.t2 {i = loop.i} (omega arith)) in
+    let end : used_from a.roles a.values.now loop.i ≡ [] = rw (drop_of_length-le a.roles {i = loop.i} (omega arith)) in
     sym (ap (sets loop.times loop.next) end) ∙ loop.invariant.1
 
 pub loop-i-init : goal.loop-i-init

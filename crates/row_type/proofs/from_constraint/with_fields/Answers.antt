@@ -10,13 +10,13 @@ use Rattle.row_type.proofs.from_constraint.with_fields.Goals as goal
 pub loop-i-init : goal.loop-i-init
 loop-i-init c =
     let a = c.args in
-    (omega arith, sym (ap (λ (fields : List Field). with_fields fields a.parameters) (fields_end a.t2 a.values.now 18 (omega arith))))
+    (omega arith, sym (ap (λ (fields : List Field). with_fields fields a.parameters) (fields_end a.roles a.values.now 18 (omega arith))))
 
 pub loop-i-preserved : goal.loop-i-preserved
 loop-i-preserved c =
     let loop = c.loop-i in let a = c.args in (
       omega arith,
-      field_before a.t2 a.values.now (loop.i - 1) loop.i (omega arith) (omega arith) a.parameters loop.next
+      field_before a.roles a.values.now (loop.i - 1) loop.i (omega arith) (omega arith) a.parameters loop.next
           c.with_field-next.result loop.invariant.1 c.with_field-next.ensures,
     )
 
@@ -24,4 +24,4 @@ pub returns : goal.returns
 returns c =
     let a = c.args in let loop = c.loop-i in
     let none : loop.i ≡ 0 = omega arith in
-    loop.invariant.1 ∙ ap (λ (i : ℕ). with_fields (fields_from a.t2 a.values.now i) a.parameters) none
+    loop.invariant.1 ∙ ap (λ (i : ℕ). with_fields (fields_from a.roles a.values.now i) a.parameters) none

@@ -5,7 +5,6 @@ use Rattle.synchronizations.specs.StrongSynchronization.{decide_strong_synchroni
 use Rattle.row_type.specs.Words.{changed_words, number_words, row_as_words}
 use Rattle.row_type.specs.Parts.{plus}
 use Rattle.ring.proofs.Laws.{ring_length}
-use borrow.Author.Tests.{not-false, not-true}
 use Rattle.synchronizations.proofs.strong_synchronization.apply.Goals as goal
 
 pub returns-then-not-count-row : goal.returns-then-not-count-row
@@ -17,7 +16,7 @@ returns-then-not-count-row c parameters times state past e =
     rw (
       c.one_more_waits.ensures parameters times _ _ words,
       ring_length,
-      not-true (ltb _ state.len) (rw (words, count) at (not-true _ c.if-not-count-row.true)),
+      not-true (ltb _ state.len) (rw (words, count) at c.if-not-count-row.true),
     ) refl
 
 pub returns-then-each_above : goal.returns-then-each_above
@@ -31,7 +30,7 @@ returns-then-each_above c parameters times state past e =
     rw (
       c.fewer_wait.ensures parameters times _ _ left,
       ring_length,
-      not-false (ltb _ state.len) (rw (words, count) at (not-false _ c.if-not-count-row.false)),
+      not-false (ltb _ state.len) (rw (words, count) at c.if-not-count-row.false),
       ← rw words at c.each_above.ensures,
       c.if-each_above.true,
     ) refl
@@ -45,7 +44,7 @@ returns c parameters times state past e =
     rw (
       c.fewer_wait-2.ensures parameters times _ _ words,
       ring_length,
-      not-false (ltb _ state.len) (rw (words, count) at (not-false _ c.if-not-count-row.false)),
+      not-false (ltb _ state.len) (rw (words, count) at c.if-not-count-row.false),
       ← rw words at c.each_above.ensures,
       c.if-each_above.false,
     ) refl

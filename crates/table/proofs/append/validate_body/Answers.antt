@@ -1,7 +1,6 @@
 -- The questions are put in their order, and question 4 has been asked where the row's own are.
 use Rattle.table.proofs.Names.{Bytes, Constraint, Judged, [], ap, arith, failed, judged_no, judged_yes, rules, passed}
 use Rattle.table.proofs.Names.{row_stands, row_from, row_in, row_questions, row_questions_in, skipped, stands_known, subst}
-use borrow.Author.Tests.{not-true}
 use Rattle.table.proofs.append.validate_body.Goals as goal
 
 pub returns-then-rows-ge-ROW_LIMIT : goal.returns-then-rows-ge-ROW_LIMIT
@@ -9,7 +8,7 @@ returns-then-rows-ge-ROW_LIMIT c = judged_no 3 _ _ (λ room. omega arith)
 
 pub returns-then-not-shape_fits : goal.returns-then-not-shape_fits
 returns-then-not-shape_fits c =
-    judged_yes 3 _ _ _ (omega arith) (judged_no 4 _ _ (failed c.shape_fits.result c.shape_fits.ensures (not-true _ c.if-not-shape_fits.true)))
+    judged_yes 3 _ _ _ (omega arith) (judged_no 4 _ _ (failed c.shape_fits.result c.shape_fits.ensures c.if-not-shape_fits.true))
 
 -- a slice of bytes holds bytes, so a body of fitting shape stands for the row that it is read as
 pub returns : goal.returns

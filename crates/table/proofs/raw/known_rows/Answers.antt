@@ -2,7 +2,6 @@
 use Rattle.table.proofs.Names.{Decides, KnownAt, KnownFrom, ◌*◌, ◌-◌, ◌<◌, ◌≡◌, ◌≤◌, arith, failed, length, passed, raw_size, row_limit}
 use Rattle.table.proofs.Names.{subst, ℕ}
 use Rattle.table.proofs.{RawRows.known_more}
-use borrow.Author.Tests.{not-false, not-true}
 use Rattle.table.proofs.raw.known_rows.Goals as goal
 use Rattle.table.proofs.raw.known_rows.Tie as tie
 use Rattle.table.proofs.raw.known_rows.Reads as reads
@@ -19,8 +18,8 @@ returns-then-bytes-start-lt-RAW_SIZE c =
     }
 
 -- the test is that of the row
-test : (c : steps.After-known_at tie.the-claims reads.Pre reads.Post goal.the-invariant-loop-i goal.the-decreases-loop-i) → Decides (KnownAt c.args.edition
-    c.args.bytes.now c.loop-i.i) c.known_at.result
+test : (c : steps.After-known_at tie.the-claims reads.Pre reads.Post goal.the-invariant-loop-i goal.the-decreases-loop-i) → Decides (KnownAt c.before.before.before.before.before.args.edition
+    c.before.before.before.before.before.args.bytes.now c.before.before.before.loop.i) c.known_at.result
 test c =
     let a = c.args in
     subst (λ (start : ℕ). Decides (KnownFrom a.edition a.bytes.now start) c.known_at.result) c.loop-i.invariant.1
@@ -33,7 +32,7 @@ returns-then-not-known_at c =
       room = loop.invariant.0;
       whole = omega (arith, loop.invariant);
       known = loop.invariant.3;
-      last = λ room whole. failed c.known_at.result (test c.before.before) (not-true _ c.if-not-known_at.true);
+      last = λ room whole. failed c.known_at.result (test c.before.before) c.if-not-known_at.true;
     }
 
 pub loop-i-preserved : goal.loop-i-preserved
@@ -43,7 +42,7 @@ loop-i-preserved c =
       omega (arith, loop.invariant.1),
       omega arith,
       known_more c.args.edition c.args.bytes.now loop.i loop.invariant.3
-          (passed c.known_at.result (test c.before.before) (not-false _ c.if-not-known_at.false)),
+          (passed c.known_at.result (test c.before.before) c.if-not-known_at.false),
     )
 
 pub returns : goal.returns

@@ -2,7 +2,6 @@
 use Rattle.table.proofs.Names.{Decides, KnownAt, KnownFrom, ◌*◌, ◌-◌, ◌<◌, ◌≡◌, ◌≤◌, arith, failed, length, passed, raw_size, row_limit}
 use Rattle.table.proofs.Names.{subst, ℕ}
 use Rattle.table.proofs.{RawRows.known_more}
-use borrow.Author.Tests.{not-false, not-true}
 use Rattle.table.proofs.raw.known_rows.Given as goal
 
 abbrev pub invariant-loop-i : goal.invariant-loop-i

@@ -1,7 +1,6 @@
 -- The loop asks row after row, and stops at the first that is not taken.
 use Rattle.table.proofs.Names.{RowTaken, ◌*◌, ◌-◌, ◌<◌, ◌≡◌, ◌≤◌, arith, failed, length, passed, raw_size, row_limit, ℕ}
 use Rattle.table.proofs.{RawRows.taken_more}
-use borrow.Author.Tests.{not-false, not-true}
 use Rattle.table.proofs.raw.refused_row.Given as goal
 
 abbrev pub invariant-loop-i : goal.invariant-loop-i

@@ -4,20 +4,19 @@ use Rattle.table.proofs.Names.{loaded_row, rules, number_behind}
 use Rattle.table.proofs.Names.{passed, refl, replicate, roles_of, row_from, row_in, row_read, row_read_at, sets_all, subst⁻¹, sym, take}
 use Rattle.table.proofs.Names.{values_at, ℕ}
 use Rattle.table.proofs.{Places.part_body, Places.row_at}
-use borrow.Author.Tests.{not-false, not-true}
 use Rattle.table.proofs.scan.load_at.Goals as goal
 use Rattle.table.proofs.scan.load_at.Tie as tie
 use Rattle.table.proofs.scan.load_at.Reads as reads
 use Rattle.table.proofs.scan.load_at.Lts as steps
 
-whole : (c : steps.Else1 tie.the-claims reads.Pre reads.Post) → WholeAt c.args.bytes.now c.args.place
-whole c = passed c.whole_at.result c.whole_at.ensures (not-false _ c.if-not-whole_at.false)
+whole : (c : steps.Else1 tie.the-claims reads.Pre reads.Post) → WholeAt c.before.before.before.args.bytes.now c.before.before.before.args.place
+whole c = passed c.before.whole-at.result c.before.whole-at.ensures c.if1.false
 
 -- a slice of bytes holds bytes, so the row at the place is the one that the body is read as
 row : (c : steps.After-shared_slice_known tie.the-claims reads.Pre reads.Post) (edition : ℕ)
-    → RowAt edition c.args.bytes.now c.args.place (row_read_at c.args.bytes.now c.args.place)
+    → RowAt edition c.before.args.bytes.now c.before.args.place (row_read_at c.before.args.bytes.now c.before.args.place)
 unfolding Bytes
-row c edition = let a = c.args in row_at edition a.bytes.now a.place (λ i h. omega (arith, c.shared_slice_known-1.given i))
+row c edition = let a = c.args in row_at edition a.bytes.now a.place (λ i h. omega (arith, c.shared-slice-known.given i))
 
 -- no role has a value
 none_read : (bytes : List ℕ) → values_at (replicate 18 0) bytes 1 ≡ replicate 18 0
@@ -31,7 +30,7 @@ filler_is = refl
 pub returns-then-not-whole_at : goal.returns-then-not-whole_at
 returns-then-not-whole_at c =
     let asked = c.whole_at in let a = c.args in
-    let not_whole = failed asked.result asked.ensures (not-true _ c.if-not-whole_at.true) in
+    let not_whole = failed asked.result asked.ensures c.if-not-whole_at.true in
     let zeros : c.fill.new.0 ≡ replicate 18 0 =
     c.fill.ensures ∙ sets_all a.values.now (values_at (replicate 18 0) a.bytes.now 1) (c.requires ∙ ap length (sym (none_read (now
     a.bytes))))

@@ -7,14 +7,14 @@ use Rattle.table_row.proofs.Table.with_row.Reads as reads
 use Rattle.table_row.proofs.Table.with_row.Lts as steps
 
 -- a table has 32 places for rows
-size : (c : steps.Start tie.the-claims reads.Pre reads.Post) → length c.args.self.rows ≡ 32
-size c = sym (length-map c.args.self.rows _) ∙ c.well-formed.0.1.1.0.1.0.1
+size : (c : steps.Start tie.the-claims reads.Pre reads.Post) → length c.args.t1.rows ≡ 32
+size c = sym (length-map c.args.t1.rows _) ∙ c.well-formed.0.1.1.0.1.0.1
 
 pub returns-then-i-lt-ROW_LIMIT : goal.returns-then-i-lt-ROW_LIMIT
 returns-then-i-lt-ROW_LIMIT c =
     let a = c.args in
     record {
-      room = λ h. rows_more a.t1.rows a.t1.count a.row (omega (arith, size c.before.before, c.if-i-lt-ROW_LIMIT.true));
+      room = λ h. rows_more a.self.rows a.self.count a.row (omega (arith, size c.before.before, c.if-i-lt-ROW_LIMIT.true));
       full = λ h. absurd (omega (arith, c.if-i-lt-ROW_LIMIT.true));
     }
 

@@ -5,20 +5,19 @@ use Rattle.constraint.specs.Records.{Decides}
 use Rattle.constraint.specs.Accepted.{EachField, KindClassFits}
 use Rattle.table_row.specs.Records.{fields_from}
 use Rattle.table_row.proofs.FieldByField.{field_here, field_parts, fields_end}
-use borrow.Author.Tests.{not-false, not-true}
 use Rattle.table_row.proofs.fields.kind_classes_valid.Goals as goal
 
 pub returns-then-not-kind_class_valid : goal.returns-then-not-kind_class_valid
 returns-then-not-kind_class_valid c =
     let a = c.args in let test = c.kind_class_valid in
     c.loop-i.invariant.1 false
-    (λ all. failed test.result test.ensures (not-true _ c.if-not-kind_class_valid.true)
+    (λ all. failed test.result test.ensures c.if-not-kind_class_valid.true
     (field_parts KindClassFits a.roles.now a.values.now c.loop-i.i (omega (arith, c.requires)) all).0)
 
 pub loop-i-preserved : goal.loop-i-preserved
 loop-i-preserved c =
     let a = c.args in let test = c.kind_class_valid in
-    let here = passed test.result test.ensures (not-false _ c.if-not-kind_class_valid.false) in (
+    let here = passed test.result test.ensures c.if-not-kind_class_valid.false in (
       omega arith,
       λ b later. c.loop-i.invariant.1 b (field_here KindClassFits a.roles.now a.values.now c.loop-i.i (omega
           (arith, c.requires)) here b later),

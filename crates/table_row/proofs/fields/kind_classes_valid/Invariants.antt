@@ -5,7 +5,6 @@ use Rattle.constraint.specs.Records.{Decides}
 use Rattle.constraint.specs.Accepted.{EachField, KindClassFits}
 use Rattle.table_row.specs.Records.{fields_from}
 use Rattle.table_row.proofs.FieldByField.{field_here, field_parts, fields_end}
-use borrow.Author.Tests.{not-false, not-true}
 use Rattle.table_row.proofs.fields.kind_classes_valid.Given as goal
 
 abbrev pub invariant-loop-i : goal.invariant-loop-i

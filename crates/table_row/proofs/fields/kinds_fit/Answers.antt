@@ -6,7 +6,6 @@ use Rattle.constraint.specs.{Accepted.KindsFit, Records.Decides, Steps.at}
 use Rattle.constraint.specs.Accepted.{kinds_in}
 use Rattle.table_row.specs.Records.{fields_from}
 use Rattle.table_row.proofs.FieldByField.{fields_end, kind_elsewhere, kind_here}
-use borrow.Author.Tests.{not-true}
 use Rattle.table_row.proofs.fields.kinds_fit.Goals as goal
 
 pub returns-then-kind-gt-LAST_KIND : goal.returns-then-kind-gt-LAST_KIND
@@ -23,7 +22,7 @@ returns-then-not-is_new c =
     let is = sym c.is_kind.ensures ∙ c.if-is_kind.true in
     let test = c.is_new in
     c.loop-i.invariant.1 false
-    (λ fit. failed test.result test.ensures (not-true _ c.if-not-is_new.true)
+    (λ fit. failed test.result test.ensures c.if-not-is_new.true
     (kinds_first _ _ (rw (kind_here a.roles.now a.values.now c.loop-i.i (omega (arith, c.requires)) is) at fit)).1)
 
 pub loop-i-preserved : goal.loop-i-preserved

@@ -6,7 +6,6 @@ use Rattle.constraint.specs.{Accepted.KindsFit, Records.Decides, Steps.at}
 use Rattle.constraint.specs.Accepted.{kinds_in}
 use Rattle.table_row.specs.Records.{fields_from}
 use Rattle.table_row.proofs.FieldByField.{fields_end, kind_elsewhere, kind_here}
-use borrow.Author.Tests.{not-true}
 use Rattle.table_row.proofs.fields.kinds_fit.Given as goal
 
 abbrev pub invariant-loop-i : goal.invariant-loop-i

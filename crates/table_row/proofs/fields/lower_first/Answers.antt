@@ -5,7 +5,6 @@ use Rattle.constraint.specs.Records.{Decides}
 use Rattle.constraint.specs.Accepted.{EachField, FieldInRange, Ordered}
 use Rattle.table_row.specs.Records.{fields_from}
 use Rattle.table_row.proofs.FieldByField.{bound_here, bound_missed, field_parts, fields_end}
-use borrow.Author.Tests.{not-false, not-true}
 use Rattle.table_row.proofs.fields.lower_first.Goals as goal
 
 pub returns-then-not-bound_fits : goal.returns-then-not-bound_fits
@@ -13,7 +12,7 @@ returns-then-not-bound_fits c =
     let a = c.args in let test = c.bound_fits in
     c.loop-i.invariant.2 false
     (bound_missed a.n c.loop-i.low a.roles.now a.values.now c.loop-i.i (omega (arith, c.requires.0))
-    (failed test.result test.ensures (not-true _ c.if-not-bound_fits.true)))
+    (failed test.result test.ensures c.if-not-bound_fits.true))
 
 pub bound_after-low-requires : goal.bound_after-low-requires
 bound_after-low-requires c =
@@ -24,7 +23,7 @@ pub loop-i-preserved : goal.loop-i-preserved
 loop-i-preserved c =
     let a = c.args in let i = c.loop-i.i in
     let test = c.bound_fits in
-    let here = passed test.result test.ensures (not-false _ c.if-not-bound_fits.false) in (
+    let here = passed test.result test.ensures c.if-not-bound_fits.false in (
       omega arith,
       (field_parts FieldInRange a.roles.now a.values.now i (omega (arith, c.requires.0)) c.loop-i.invariant.1).1,
       λ b later. c.loop-i.invariant.2 b

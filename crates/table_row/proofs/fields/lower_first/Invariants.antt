@@ -5,7 +5,6 @@ use Rattle.constraint.specs.Records.{Decides}
 use Rattle.constraint.specs.Accepted.{EachField, FieldInRange, Ordered}
 use Rattle.table_row.specs.Records.{fields_from}
 use Rattle.table_row.proofs.FieldByField.{bound_here, bound_missed, field_parts, fields_end}
-use borrow.Author.Tests.{not-false, not-true}
 use Rattle.table_row.proofs.fields.lower_first.Given as goal
 
 abbrev pub invariant-loop-i : goal.invariant-loop-i

@@ -5,20 +5,19 @@ use Rattle.constraint.specs.Records.{Decides}
 use Rattle.constraint.specs.Accepted.{EachField, FieldInRange}
 use Rattle.table_row.specs.Records.{fields_from}
 use Rattle.table_row.proofs.FieldByField.{field_here, field_parts, fields_end}
-use borrow.Author.Tests.{not-false, not-true}
 use Rattle.table_row.proofs.fields.ranges_fit.Goals as goal
 
 pub returns-then-not-range_fits : goal.returns-then-not-range_fits
 returns-then-not-range_fits c =
     let a = c.args in let test = c.range_fits in
     c.loop-i.invariant.1 false
-    (λ all. failed test.result test.ensures (not-true _ c.if-not-range_fits.true)
+    (λ all. failed test.result test.ensures c.if-not-range_fits.true
     (field_parts FieldInRange a.roles.now a.values.now c.loop-i.i (omega (arith, c.requires)) all).0)
 
 pub loop-i-preserved : goal.loop-i-preserved
 loop-i-preserved c =
     let a = c.args in let test = c.range_fits in
-    let here = passed test.result test.ensures (not-false _ c.if-not-range_fits.false) in (
+    let here = passed test.result test.ensures c.if-not-range_fits.false in (
       omega arith,
       λ b later. c.loop-i.invariant.1 b (field_here FieldInRange a.roles.now a.values.now c.loop-i.i (omega
           (arith, c.requires)) here b later),

@@ -1,6 +1,6 @@
 -- Laws of `ring`, the times of a list of 64 from a place on, and of what an edit makes of a ring.
 use Rattle.ring.proofs.Names.{Bool, Drop, Edit, List, Push, PushTwo, Ring, Store, [], ◌%◌, ◌++◌, ◌+◌, ◌-◌, ◌<◌, ◌∙◌, ◌∷◌, ◌≡◌, ◌≢◌, ◌≤◌, ◌⊎◌}
-use Rattle.ring.proofs.Names.{add_assoc, add-one, add-suc, add-zero, ap, append_assoc, arith, by_cases, changed, cond, drop, drop-cons}
+use Rattle.ring.proofs.Names.{add_assoc, add-one, add-suc, add-zero, ap, ap₂, append_assoc, arith, by_cases, changed, cond, drop, drop-cons}
 use Rattle.ring.proofs.Names.{drop_of_length-le, drop_ring, edit_place, edited, eqb, eqb-true, ext_get_or, false, get_or, get_or-set_other, get_or-take}
 use Rattle.ring.proofs.Names.{get_or-set_same, head_after, inl, inr, items, le-ltb, length, length-append, length-drop, length-set}
 use Rattle.ring.proofs.Names.{length-take-le, lt-ltb, ltb}
@@ -95,18 +95,14 @@ ring_put : (l : List ℕ) (f n i t : ℕ) → length l ≡ 64 → n ≤ 64 → i
 unfolding ring
 ring_put l f zero i t size few h = absurd (omega arith)
 ring_put l f (suc n) zero t size few h =
-    rw (
-      add-zero,
-      get_or-set_same l (f % 64) t 0 (omega arith),
-      ring_set l (suc f) n (f % 64) t (λ i k. omega arith),
-    )
+    let first : f % 64 ≡ (f + 0) % 64 = omega arith in
+    subst (λ (p : ℕ). ring (set l p t) f (suc n) ≡ set (ring l f (suc n)) 0 t) first
+    (ap₂ (λ (x : ℕ) (rest : List ℕ). x ∷ rest) (get_or-set_same l (f % 64) t 0 (omega arith)) (ring_set l (suc f) n (f % 64) t (λ i k. omega arith)))
 ring_put l f (suc n) (suc i) t size few h =
-    rw (
-      add-suc,
-      ← suc-add,
-      get_or-set_other l ((suc f + i) % 64) (f % 64) t 0 (λ e. omega arith),
-      ring_put l (suc f) n i t size (omega arith) (omega arith),
-    )
+    let next : (suc f + i) % 64 ≡ (f + suc i) % 64 = omega arith in
+    subst (λ (p : ℕ). ring (set l p t) f (suc n) ≡ set (ring l f (suc n)) (suc i) t) next
+    (ap₂ (λ (x : ℕ) (rest : List ℕ). x ∷ rest) (get_or-set_other l ((suc f + i) % 64) (f % 64) t 0 (λ e. omega arith))
+    (ring_put l (suc f) n i t size (omega arith) (omega arith)))
 
 ring_push : (l : List ℕ) (f n p t : ℕ) → length l ≡ 64 → n < 64 → p ≡ (f + n) % 64 → ring (set l p t) f (n + 1) ≡ ring l f n ++ t ∷ []
 ring_push l f n p t size room e = rw (add-one, ring_snoc, ring_set l f n p t (λ i k. omega arith), ← e, get_or-set_same l p t 0 (omega arith))

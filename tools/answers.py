@@ -196,6 +196,8 @@ class Function:
         out, i = "", 0
         pattern = re.compile(rf"let ({NAME}) = ({NAME}(?:\.[A-Za-z0-9_'·₀-₉-]+)*) in\b[ ]?|{TOKEN.pattern}")
         hidden = scopes(text, None)
+        if not is_view:
+            hidden.pop(base, None)
         for m in pattern.finditer(text):
             first = (m[1] or m[0]).split(".")[0]
             if not m[1] and any(a <= m.start() < b for a, b in hidden.get(first, ())):
@@ -241,7 +243,6 @@ class Function:
         # A line that has only what a dropped let left.
         # The test of a negation says today what the call returned.
         out = re.sub(r"\(not-(?:true|false) _ ([\w']+\.if-not-[A-Za-z0-9_'-]+\.(?:true|false))\)", r"\1", out)
-        out = re.sub(r"(?<= )([\w']+\.if-not-[A-Za-z0-9_'-]+\.(?:true|false))(?=\))(?<!\(\1)", r"(ap not \1)", out) if False else out
         lines = [it.rstrip() for it in out.split("\n")]
         return "\n".join(it for k, it in enumerate(lines) if it or not k)
 

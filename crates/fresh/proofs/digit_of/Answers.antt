@@ -16,7 +16,7 @@ asked : (c : steps.After-concerns tie.the-claims reads.Pre reads.Post) (h : Lent
     → c.concerns.result ≡ is_of h.monitor a.kind a.i
 asked c h e s =
     let st = c.before in let a = st.args in
-    let parameters = c.before.parameters-at.ensures
+    let parameters = c.parameters_at.ensures
     ∙ ap (λ (w : List (List ℕ)). parameters_at (get_or w 1 [])) (row_lies h s a.m.now e a.i st.requires)
     ∙ parameters_read (row_at h.monitor a.i) (kept_at h.monitor a.i) in
     c.concerns.ensures ∙ ap (λ (r : Parameters). concerns r a.kind) parameters

@@ -36,7 +36,7 @@ returns c h e s =
     l.invariant.2 h e s ∙ ap₂ (set_from (is_of h.monitor a.kind)) at_end all
 
 -- there are at most 32 digits
-small : (c : steps.In-loop tie.the-claims reads.Pre reads.Post goal.the-invariant-loop-i goal.the-decreases-loop-i) → c.before.loop.rows < 4294967296
+small : (c : steps.In-loop tie.the-claims reads.Pre reads.Post goal.the-invariant-loop-i goal.the-decreases-loop-i) → c.loop-i.rows < 4294967296
 small c =
     let l = c.loop-i in
     let most : 2 ^ (c.args.n - l.i) ≤ 2 ^ 32 =

@@ -8,12 +8,12 @@ use Rattle.fresh.proofs.validate.Lts as steps
 
 -- the refusal that was read
 refusal : (c : steps.After-answer tie.the-claims reads.Pre reads.Post)
-    → ReadsTableUpTo c.before.before.before.before.args.newest c.before.before.before.before.args.table.now
-    (table_refused c.answer.given.0.0 c.answer.given.0.1.0)
-refusal c = (rw c.answer.given.1 at c.before.before.validate.ensures).0
+    → ReadsTableUpTo c.args.newest c.args.table.now
+    (table_refused c.in-Refused.number c.in-Refused.place)
+refusal c = (rw c.in-Refused.is at c.validate-scanned.ensures).0
 
-small : (c : steps.After-answer tie.the-claims reads.Pre reads.Post) → (0 < c.answer.given.0.0) × (c.answer.given.0.1.0 ≤ 5249)
-small c = refused_small c.before.before.before.before.args.table.now _ _ (refusal c)
+small : (c : steps.After-answer tie.the-claims reads.Pre reads.Post) → (0 < c.in-Refused.number) × (c.in-Refused.place ≤ 5249)
+small c = refused_small c.args.table.now _ _ (refusal c)
 
 pub returns-in-Accepted : goal.returns-in-Accepted
 returns-in-Accepted c = record { accepted = λ _. rw c.in-Accepted.is at c.validate-scanned.ensures; refused = λ other. absurd (other refl) }

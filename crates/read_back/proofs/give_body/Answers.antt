@@ -10,9 +10,9 @@ use Rattle.read_back.proofs.give_body.Tie as tie
 use Rattle.read_back.proofs.give_body.Reads as reads
 use Rattle.read_back.proofs.give_body.Lts as steps
 
-short : (c : steps.After-length tie.the-claims reads.Pre reads.Post) → c.length.result ≤ 145
+short : (c : steps.After-length tie.the-claims reads.Pre reads.Post) → c.length-size.result ≤ 145
 short c = let row = c.args.row in
-    omega (arith, c.length.ensures, row_short c.requires.0 row.tag row.values c.requires.1)
+    omega (arith, c.length-size.ensures, row_short c.requires.0 row.tag row.values c.requires.1)
 
 pub returns-then-body-size : goal.returns-then-body-size
 returns-then-body-size c = no_room (omega (arith, c.if-body-size.true, c.length-size.ensures))

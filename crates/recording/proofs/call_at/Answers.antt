@@ -19,18 +19,18 @@ returns-then-record-gt0 c =
 
 -- the record is whole
 whole : (c : steps.After-struct_known2 tie.the-claims reads.Pre reads.Post)
-    → (c.before.before.before.before.before.before.before.before.args.place + c.before.before.before.read-record.result.next
-    ≤ length c.before.before.before.before.before.before.before.before.args.bytes.now)
-    × ReadsCall c.before.before.before.before.before.before.before.before.args.bytes.now
-    c.before.before.before.before.before.before.before.before.args.place
+    → (c.args.place + c.read_record-record.result.next
+    ≤ length c.args.bytes.now)
+    × ReadsCall c.args.bytes.now
+    c.args.place
     (record {
       number = 0;
-      call = c.before.before.before.read-record.result.call;
-      next = c.before.before.before.before.before.before.before.before.args.place + c.before.before.before.read-record.result.next;
+      call = c.read_record-record.result.call;
+      next = c.args.place + c.read_record-record.result.next;
     })
 whole c =
     let args = c.args in
-    let read = c.read_record-record.ensures.whole (omega (arith, c.before.if2.false)) in
+    let read = c.read_record-record.ensures.whole (omega (arith, c.if-record-gt0.false)) in
     reads_whole args.bytes.now args.place _ _ read.0 (rw c.version.ensures at read.1) read.2
 
 pub overflow_add-result : goal.overflow_add-result

@@ -8,9 +8,9 @@ use Rattle.recording.proofs.read_record.Reads as reads
 use Rattle.recording.proofs.read_record.Lts as steps
 
 -- the record is whole
-whole : (c : steps.Else1 tie.the-claims reads.Pre reads.Post) → RecordAt c.before.before.before.args.stretch.now 0
-    × (c.before.type_size.result ≡ 2 + length_at c.before.before.before.args.stretch.now 0)
-whole c = c.before.type_size.ensures.whole (omega (arith, c.if1.false))
+whole : (c : steps.Else1 tie.the-claims reads.Pre reads.Post) → RecordAt c.args.stretch.now 0
+    × (c.size_of-size.result ≡ 2 + length_at c.args.stretch.now 0)
+whole c = c.size_of-size.ensures.whole (omega (arith, c.if-size-eq0.false))
 
 pub returns-then-size-eq0 : goal.returns-then-size-eq0
 returns-then-size-eq0 c =

@@ -9,7 +9,7 @@ use Rattle.recording.proofs.tick_at.Reads as reads
 use Rattle.recording.proofs.tick_at.Lts as steps
 
 there : (c : steps.Then1 tie.the-claims reads.Pre reads.Post) → let args = c.args in TickAt args.bytes.now args.place
-there c = c.before.is-tick.ensures c.if1.true
+there c = c.is_tick.ensures c.if-is_tick.true
 
 pub returns-then-is_tick : goal.returns-then-is_tick
 returns-then-is_tick c e =

@@ -22,11 +22,11 @@ loop-at-init c =
 asked : (c : steps.After-step_overflows tie.the-claims reads.Pre reads.Post goal.the-invariant-loop-at goal.the-decreases-loop-at) →
     let args = c.args in
     let r = c.loop-at.invariant.1.row in
-    c.step-overflows.result ≡ crowded_by r.parameters r.now (seen_as (at args.streams.now c.loop-at.at)
+    c.step_overflows.result ≡ crowded_by r.parameters r.now (seen_as (at args.streams.now c.loop-at.at)
     (at args.times.now c.loop-at.at))
 asked c =
     let lying = c.loop-at.invariant.1 in
-    rw (← c.before.before.seen.ensures) (c.step-overflows.ensures lying.row lying.before lying.lies)
+    rw (← c.seen-o.ensures) (c.step_overflows.ensures lying.row lying.before lying.lies)
 
 stepped : (c : steps.After-step tie.the-claims reads.Pre reads.Post goal.the-invariant-loop-at goal.the-decreases-loop-at) →
     let args = c.args in

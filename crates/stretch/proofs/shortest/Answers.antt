@@ -13,22 +13,22 @@ use Rattle.stretch.proofs.shortest.Reads as reads
 use Rattle.stretch.proofs.shortest.Lts as steps
 
 -- the refusal that was read
-refusal : (c : steps.After-answer tie.the-claims reads.Pre reads.Post) → ReadsTableUpTo c.before.before.before.before.before.before.args.newest
-    c.before.before.before.before.before.before.args.table.now (table_refused c.answer.given.0.0 c.answer.given.0.1.0)
-refusal c = (rw c.answer.given.1 at c.before.before.before.row-numbered.ensures.scans).0
+refusal : (c : steps.After-answer tie.the-claims reads.Pre reads.Post) → ReadsTableUpTo c.args.newest
+    c.args.table.now (table_refused c.in-Refused.number c.in-Refused.place)
+refusal c = (rw c.in-Refused.is at c.row_numbered-numbered.ensures.scans).0
 
 -- the rows that were counted, and the one of the number
 counted : (c : steps.After-enum_told tie.the-claims reads.Pre reads.Post) → let a = c.args in
-    Counted (at a.table.now 0) (ReadsTableUpTo a.newest a.table.now) c.before.before.before.row-numbered.result.scan.rows
-counted c = rw c.enum_told.given.1 at c.before.before.before.row-numbered.ensures.scans
+    Counted (at a.table.now 0) (ReadsTableUpTo a.newest a.table.now) c.row_numbered-numbered.result.scan.rows
+counted c = rw c.in_default.is at c.row_numbered-numbered.ensures.scans
 
 row_is : (c : steps.After-enum_told tie.the-claims reads.Pre reads.Post) → let found = c.row_numbered-numbered in
-    RowIs found.result.scan.rows c.before.before.before.before.before.before.args.row (row_in found.result.row) (counted c).rows
-row_is c = c.before.before.before.row-numbered.ensures.found (counted c).rows (counted c).reads
+    RowIs found.result.scan.rows c.args.row (row_in found.result.row) (counted c).rows
+row_is c = c.row_numbered-numbered.ensures.found (counted c).rows (counted c).reads
 
 -- a row of the table is of a known type
 row_known : (c : steps.After-enum_told tie.the-claims reads.Pre reads.Post) → let found = c.row_numbered-numbered in
-    c.before.before.before.before.before.before.args.row < found.result.scan.rows → Known (row_in found.result.row)
+    c.args.row < found.result.scan.rows → Known (row_in found.result.row)
 row_known c there =
     let is = row_is c in
     let accepted = (counted c).accepted in

@@ -8,11 +8,11 @@ use Rattle.table.proofs.write.Reads as reads
 use Rattle.table.proofs.write.Lts as steps
 
 taken : (c : steps.After-enum_told tie.the-claims reads.Pre reads.Post)
-    → Judged (rows_questions c.before.before.before.before.args.edition 0 (rows_of c.before.before.before.before.args.table) []) Taken
-taken c = rw c.enum_told.given.1 at c.before.before.validate.ensures
+    → Judged (rows_questions c.args.edition 0 (rows_of c.args.table) []) Taken
+taken c = rw c.in-Taken.is at c.validate.ensures
 
-accepted : (c : steps.After-enum_told tie.the-claims reads.Pre reads.Post) → Accepted (rows_of c.before.before.before.before.args.table)
-accepted c = (c.before.before.before.before.args.edition, taken c)
+accepted : (c : steps.After-enum_told tie.the-claims reads.Pre reads.Post) → Accepted (rows_of c.args.table)
+accepted c = (c.args.edition, taken c)
 
 pub returns-in-Refused : goal.returns-in-Refused
 returns-in-Refused c =

@@ -30,8 +30,8 @@ asked_5 : (c : steps.After-roles_of tie.the-claims reads.Pre reads.Post) → Ans
 asked_5 c a h =
     let args = c.args in let test = c.type_known in
     row_asked args.edition args.tag args.values.now
-    (passed test.result test.ensures c.before.if1.false) a
-    (subst (λ (r : List ℕ). Judged (asked_with (n c) (fields_as r args.values.now)) a) c.roles-of.ensures h)
+    (passed test.result test.ensures c.if-not-type_known.false) a
+    (subst (λ (r : List ℕ). Judged (asked_with (n c) (fields_as r args.values.now)) a) c.roles_of-roles.ensures h)
 
 -- the questions that are left
 abbrev from_18 : tie.After-roles-of → List Question
@@ -40,23 +40,23 @@ from_18 c = (18, EachField KindClassFits (fields c)) ∷ (6, EachField FieldInRa
 asked_18 : (c : steps.Else2 tie.the-claims reads.Pre reads.Post) → Answers c.before.before.before (from_18 c.before.before.before)
 asked_18 c a h =
     let test = c.kinds_fit in
-    asked_5 c.before.before.before a (judged_yes 5 _ _ a (passed test.result test.ensures c.if2.false) h)
+    asked_5 c.before.before.before a (judged_yes 5 _ _ a (passed test.result test.ensures c.if-not-kinds_fit.false) h)
 
 asked_6 : (c : steps.Else3 tie.the-claims reads.Pre reads.Post) →
     Answers c.before.before.before.before.before.before ((6, EachField FieldInRange (fields c.before.before.before.before.before.before)) ∷ (7, Ordered (n c.before.before.before.before.before.before) 0 (fields c.before.before.before.before.before.before)) ∷ [])
 asked_6 c a h =
     let test = c.kind_classes_valid in
-    asked_18 c.before.before.before a (judged_yes 18 _ _ a (passed test.result test.ensures c.if3.false) h)
+    asked_18 c.before.before.before a (judged_yes 18 _ _ a (passed test.result test.ensures c.if-not-kind_classes_valid.false) h)
 
 asked_7 : (c : steps.Else4 tie.the-claims reads.Pre reads.Post) →
     Answers c.before.before.before.before.before.before.before.before.before ((7, Ordered (n c.before.before.before.before.before.before.before.before.before) 0 (fields c.before.before.before.before.before.before.before.before.before)) ∷ [])
 asked_7 c a h =
     let test = c.ranges_fit in
-    asked_6 c.before.before.before a (judged_yes 6 _ _ a (passed test.result test.ensures c.if4.false) h)
+    asked_6 c.before.before.before a (judged_yes 6 _ _ a (passed test.result test.ensures c.if-not-ranges_fit.false) h)
 
 -- there are 18 roles
-many : (c : steps.After-roles_of tie.the-claims reads.Pre reads.Post) → length c.roles-of.result ≡ 18
-many c = ap length c.roles-of.ensures
+many : (c : steps.After-roles_of tie.the-claims reads.Pre reads.Post) → length c.roles_of-roles.result ≡ 18
+many c = ap length c.roles_of-roles.ensures
 
 pub returns-then-not-type_known : goal.returns-then-not-type_known
 returns-then-not-type_known c =

@@ -10,8 +10,8 @@ use Rattle.clock.proofs.Clock.take.Lts as steps
 
 -- what is asked
 number_is : (c : steps.After-refusal tie.the-claims reads.Pre reads.Post) →
-    let args = c.args in c.refusal.result ≡ refusal_of (clock_with args.self args.next.now) args.call
-number_is c = rw c.before.before.place.ensures at c.refusal.ensures
+    let args = c.args in c.refusal-number.result ≡ refusal_of (clock_with args.self args.next.now) args.call
+number_is c = rw c.place-at.ensures at c.refusal-number.ensures
 
 pub returns-then-number-gt0 : goal.returns-then-number-gt0
 returns-then-number-gt0 c =

@@ -7,10 +7,10 @@ use Rattle.delkuthi.proofs.joining.delkuthi_join.Reads as reads
 use Rattle.delkuthi.proofs.joining.delkuthi_join.Lts as steps
 
 -- what the join answered
-answered : (c : steps.After-join tie.the-claims reads.Pre reads.Post) (answer : JoinAnswer) → c.join.result ≡ answer
-    → AnswersJoin c.before.before.before.before.before.args.first.now c.before.before.before.before.before.args.second.now
-    c.before.before.before.before.before.args.joined.now answer c.join.new.1.1.0
-answered c answer e = rw e at c.join.ensures
+answered : (c : steps.After-join tie.the-claims reads.Pre reads.Post) (answer : JoinAnswer) → c.join-answer.result ≡ answer
+    → AnswersJoin c.args.first.now c.args.second.now
+    c.args.joined.now answer c.join-answer.new.1.1.0
+answered c answer e = rw e at c.join-answer.ensures
 
 pub overflow_add-result-in-SecondRefused-2 : goal.overflow_add-result-in-SecondRefused-2
 overflow_add-result-in-SecondRefused-2 c =

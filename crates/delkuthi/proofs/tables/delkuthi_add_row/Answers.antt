@@ -7,16 +7,16 @@ use Rattle.delkuthi.proofs.tables.delkuthi_add_row.Reads as reads
 use Rattle.delkuthi.proofs.tables.delkuthi_add_row.Lts as steps
 
 -- what was added, and where it was refused
-count : (c : steps.After-count tie.the-claims reads.Pre reads.Post) → c.count.given.0.0 ≤ 5413
+count : (c : steps.After-count tie.the-claims reads.Pre reads.Post) → c.in-Added.count ≤ 5413
 count c =
     let w = c.add_row in let a = c.args in
-    small_added a.table.now a.length a.body.now w.new.0 w.result w.ensures c.count.given.0.0 c.count.given.1
+    small_added a.table.now a.length a.body.now w.new.0 w.result w.ensures c.in-Added.count c.in-Added.is
 
-refusal : (c : steps.After-number tie.the-claims reads.Pre reads.Post) → (0 < c.number.given.0.0) × (c.number.given.0.1.0 ≤ 5249)
+refusal : (c : steps.After-number tie.the-claims reads.Pre reads.Post) → (0 < c.in-Refused.number) × (c.in-Refused.place ≤ 5249)
 refusal c =
     let w = c.add_row in let a = c.args in
-    small_refused a.table.now a.length a.body.now w.new.0 w.result w.ensures c.number.given.0.0
-    c.number.given.0.1.0 c.number.given.1
+    small_refused a.table.now a.length a.body.now w.new.0 w.result w.ensures c.in-Refused.number
+    c.in-Refused.place c.in-Refused.is
 
 pub returns-in-Added : goal.returns-in-Added
 returns-in-Added c =

@@ -36,7 +36,7 @@ loop-left-init c = (
 
 -- the lowest row that is left
 low : (c : steps.In-loop tie.the-claims reads.Pre reads.Post goal.the-invariant-loop-left goal.the-decreases-loop-left) → let left = c.loop-left.left in Lowest 32 left (count_trailing_zeros 32 left)
-low c = lowest 32 c.before.loop.left (omega (arith, c.loop-test.true)) c.before.loop.invariant.0
+low c = lowest 32 c.loop-left.left (omega (arith, c.loop-left-test.true)) c.loop-left.invariant.0
 
 pub loop-left-preserved : goal.loop-left-preserved
 unfolding Stored.words_of_row row_as_words number_words

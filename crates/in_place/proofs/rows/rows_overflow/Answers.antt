@@ -14,22 +14,22 @@ loop-left-init c = (omega arith, λ h e s. refl)
 
 -- the lowest row that is left
 low : (c : steps.In-loop tie.the-claims reads.Pre reads.Post goal.the-invariant-loop-left goal.the-decreases-loop-left) → let left = c.loop-left.left in Lowest 32 left (count_trailing_zeros 32 left)
-low c = lowest 32 c.before.loop.left (omega (arith, c.loop-test.true)) c.before.loop.invariant.0
+low c = lowest 32 c.loop-left.left (omega (arith, c.loop-left-test.true)) c.loop-left.invariant.0
 
 -- whether it is crowded
 asked : (c : steps.After-event_overflows tie.the-claims reads.Pre reads.Post goal.the-invariant-loop-left goal.the-decreases-loop-left) (h : Lent) →
     let a = c.before.args in
     a.m.now ≡ words_of_lent h → Shaped h
-    → c.event-overflows.result ≡ crowded_at h (count_trailing_zeros 32 c.loop.left) a.stream a.t
+    → c.event_overflows.result ≡ crowded_at h (count_trailing_zeros 32 c.loop.left) a.stream a.t
 asked c h e s =
     let a = c.before.args in let i = count_trailing_zeros 32 c.loop.left in
-    c.event-overflows.ensures (row_at h.monitor i) (kept_at h.monitor i) (row_lies h s a.m.now e i (low c.before.before).below)
+    c.event_overflows.ensures (row_at h.monitor i) (kept_at h.monitor i) (row_lies h s a.m.now e i (low c.before.before).below)
 
 -- it is asked, and then the others
 next : (c : steps.After-event_overflows tie.the-claims reads.Pre reads.Post goal.the-invariant-loop-left goal.the-decreases-loop-left) (h : Lent) →
     let a = c.before.args in let left = c.loop.left in
     a.m.now ≡ words_of_lent h → Shaped h
-    → crowded h (rows_in a.rows) a.stream a.t ≡ (c.event-overflows.result || crowded h (rows_in (bit_and left (left - 1))) a.stream a.t)
+    → crowded h (rows_in a.rows) a.stream a.t ≡ (c.event_overflows.result || crowded h (rows_in (bit_and left (left - 1))) a.stream a.t)
 next c h e s =
     let a = c.before.args in let left = c.loop.left in
     c.loop.invariant.1 h e s

@@ -7,8 +7,8 @@ use Rattle.monitor.proofs.Monitor.fresh_in.Reads as reads
 use Rattle.monitor.proofs.Monitor.fresh_in.Lts as steps
 
 -- the answer is "taken"
-taken : (c : steps.After-enum_told tie.the-claims reads.Pre reads.Post) → AcceptedIn c.before.before.before.args.edition (rows_of c.before.before.before.args.table)
-taken c = rw c.enum_told.given.1 at c.before.before.validate.ensures
+taken : (c : steps.After-enum_told tie.the-claims reads.Pre reads.Post) → AcceptedIn c.args.edition (rows_of c.args.table)
+taken c = rw c.in-Taken.is at c.validate.ensures
 
 pub over-requires-in-Taken : goal.over-requires-in-Taken
 over-requires-in-Taken c =

@@ -11,14 +11,14 @@ use Rattle.monitor.proofs.Monitor.step.Lts as steps
 module _ (c : steps.After-refusal tie.the-claims reads.Pre reads.Post) where
   abbrev start : tie.Start
   start = c.before.before.before
-  by_number : stepped_by start.args.t1 start.args.call c.refusal.result ≡ step_of start.args.t1 start.args.call
+  by_number : stepped_by start.args.t1 start.args.call c.refusal-number.result ≡ step_of start.args.t1 start.args.call
   unfolding step_of
-  by_number = ap (stepped_by start.args.t1 start.args.call) (rw c.before.before.place.ensures at c.refusal.ensures)
+  by_number = ap (stepped_by start.args.t1 start.args.call) (rw c.place-at.ensures at c.refusal-number.ensures)
 module _ (c : steps.After-refusal tie.the-claims reads.Pre reads.Post) where
   abbrev asked : tie.After-refusal
-  asked = c.before.before.before.before
+  asked = c.before
   crowds_is : crowds (start asked).args.t1 (start asked).args.call ≡ c.step.result.crowded
-  crowds_is = rw (c.before.plus.ensures, c.before.before.step-input.ensures) at (sym c.step.ensures.crowded_is)
+  crowds_is = rw (c.plus.ensures, c.step-input.ensures) at (sym c.step.ensures.crowded_is)
 
 pub returns-then-number-gt0 : goal.returns-then-number-gt0
 returns-then-number-gt0 c =

@@ -7,8 +7,8 @@ use Rattle.monitor.proofs.Monitor.verdict.Reads as reads
 use Rattle.monitor.proofs.Monitor.verdict.Lts as steps
 
 -- a monitor has 32 rows
-size : (c : steps.Start tie.the-claims reads.Pre reads.Post) → length c.args.t1.rows ≡ 32
-size c = sym (length-map c.args.t1.rows _) ∙ c.well-formed.0.1.1.0.1.0.1
+size : (c : steps.Start tie.the-claims reads.Pre reads.Post) → length c.args.self.rows ≡ 32
+size c = sym (length-map c.args.self.rows _) ∙ c.well_formed.0.1.1.0.1.0.1
 
 pub returns : goal.returns
 returns c =

@@ -9,8 +9,8 @@ use Rattle.monitor.proofs.rows.over.Reads as reads
 use Rattle.monitor.proofs.rows.over.Lts as steps
 
 -- a table has 32 entries
-size : (c : steps.Start tie.the-claims reads.Pre reads.Post goal.the-invariant-loop-i goal.the-decreases-loop-i) → length c.args.t1.rows ≡ 32
-size c = sym (length-map c.args.t1.rows _) ∙ c.well-formed.0.1.1.0.1.0.1
+size : (c : steps.Start tie.the-claims reads.Pre reads.Post goal.the-invariant-loop-i goal.the-decreases-loop-i) → length c.args.table.rows ≡ 32
+size c = sym (length-map c.args.table.rows _) ∙ c.well_formed.0.1.1.0.1.0.1
 
 -- the row of an entry
 row_at : (table : Table) (i : ℕ) (other : TableRow) → i < table.count → i < length table.rows → get_or (rows_of table) i filler

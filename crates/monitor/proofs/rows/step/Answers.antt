@@ -8,11 +8,11 @@ use Rattle.monitor.proofs.rows.step.Lts as steps
 
 -- a monitor has 32 rows
 size : (c : steps.Start tie.the-claims reads.Pre reads.Post goal.the-invariant-loop-i goal.the-decreases-loop-i) → length c.args.m.rows ≡ 32
-size c = sym (length-map c.args.m.rows _) ∙ c.well-formed.0.1.1.0.1.0.1
+size c = sym (length-map c.args.m.rows _) ∙ c.well_formed.0.1.1.0.1.0.1
 
 -- and keeps 32 beside them
 wide : (c : steps.Start tie.the-claims reads.Pre reads.Post goal.the-invariant-loop-i goal.the-decreases-loop-i) → length c.args.m.before ≡ 32
-wide c = sym (length-map c.args.m.before _) ∙ c.well-formed.0.1.1.1.1.1.1.1.1.0.1.0.1
+wide c = sym (length-map c.args.m.before _) ∙ c.well_formed.0.1.1.1.1.1.1.1.1.0.1.0.1
 
 pub returns-then-stepped : goal.returns-then-stepped
 returns-then-stepped c =

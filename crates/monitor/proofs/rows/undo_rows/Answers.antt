@@ -8,10 +8,10 @@ use Rattle.monitor.proofs.rows.undo_rows.Lts as steps
 
 -- a monitor has 32 rows, and keeps 32 beside them
 size : (c : steps.Start tie.the-claims reads.Pre reads.Post goal.the-invariant-loop-i goal.the-decreases-loop-i) → length c.args.m.rows ≡ 32
-size c = sym (length-map c.args.m.rows _) ∙ c.well-formed.0.1.1.0.1.0.1
+size c = sym (length-map c.args.m.rows _) ∙ c.well_formed.0.1.1.0.1.0.1
 
 wide : (c : steps.Start tie.the-claims reads.Pre reads.Post goal.the-invariant-loop-i goal.the-decreases-loop-i) → length c.args.m.before ≡ 32
-wide c = sym (length-map c.args.m.before _) ∙ c.well-formed.0.1.1.1.1.1.1.1.1.0.1.0.1
+wide c = sym (length-map c.args.m.before _) ∙ c.well_formed.0.1.1.1.1.1.1.1.1.0.1.0.1
 
 pub loop-i-init : goal.loop-i-init
 loop-i-init c = (omega arith, sym (without_none c.args.number c.args.m (size c.before.before) (wide c.before.before)))

@@ -9,8 +9,8 @@ use Rattle.page.proofs.Summary.write.Reads as reads
 use Rattle.page.proofs.Summary.write.Lts as steps
 
 -- the length that was tested
-counted : (c : steps.After-size tie.the-claims reads.Pre reads.Post) → c.size.result ≡ page_length (min c.before.before.before.args.t1.rows row_limit)
-counted c = c.size.ensures ∙ ap page_length c.before.held.ensures
+counted : (c : steps.After-size tie.the-claims reads.Pre reads.Post) → c.size-size.result ≡ page_length (min c.args.self.rows row_limit)
+counted c = c.size-size.ensures ∙ ap page_length c.held-rows.ensures
 
 pub returns-then-buffer-size : goal.returns-then-buffer-size
 returns-then-buffer-size c =

@@ -12,16 +12,16 @@ abbrev test : StepInput → Row → Bool
 test o r = crowded_by r.parameters r.now o
 
 -- the test of row i, and what is found from there on
-found : (c : steps.After-step_overflows tie.the-claims reads.Pre reads.Post goal.the-invariant-loop-i goal.the-decreases-loop-i) (n : Monitor) → HoldsMonitor c.before.before.before.before.args.m.now n
-    → first_marked c.before.before.before.before.args.rows (test c.before.before.before.before.args.o) 0 n.rows
-    ≡ cond c.step-overflows.result c.before.before.before.loop.i (first_marked
-    (c.before.before.before.before.args.rows - (c.before.before.before.loop.i + 1)) (test c.before.before.before.before.args.o)
-    (c.before.before.before.loop.i + 1) (drop (c.before.before.before.loop.i + 1) n.rows))
+found : (c : steps.After-step_overflows tie.the-claims reads.Pre reads.Post goal.the-invariant-loop-i goal.the-decreases-loop-i) (n : Monitor) → HoldsMonitor c.before.args.m.now n
+    → first_marked c.before.args.rows (test c.before.args.o) 0 n.rows
+    ≡ cond c.step_overflows.result c.loop.i (first_marked
+    (c.before.args.rows - (c.loop.i + 1)) (test c.before.args.o)
+    (c.loop.i + 1) (drop (c.loop.i + 1) n.rows))
 found c n holds =
     let a = c.before.args in let i = c.loop.i in
     let m = a.m.now in
     let there : i < 32 = omega arith in
-    rw (c.step-overflows.ensures (row_at n i) (kept_at n i) (block_lies m n holds i there))
+    rw (c.step_overflows.ensures (row_at n i) (kept_at n i) (block_lies m n holds i there))
     (c.loop.invariant.1 n holds ∙ first_here (test a.o) a.rows i n.rows (omega arith) (omega (arith, rows_there m n holds)))
 
 pub returns : goal.returns

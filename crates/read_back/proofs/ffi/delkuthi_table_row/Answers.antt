@@ -10,11 +10,11 @@ use Rattle.read_back.proofs.ffi.delkuthi_table_row.Reads as reads
 use Rattle.read_back.proofs.ffi.delkuthi_table_row.Lts as steps
 
 -- what is read where the table is refused, and that the refusal is close to the start
-reads : (c : steps.After-answer tie.the-claims reads.Pre reads.Post) → ReadsTableUpTo 2 c.before.before.before.before.before.before.args.table.now
-    (table_refused c.answer.given.0.0 c.answer.given.0.1.0)
-reads c = (rw c.answer.given.1 at c.before.before.before.row-numbered.ensures.scans).0
+reads : (c : steps.After-answer tie.the-claims reads.Pre reads.Post) → ReadsTableUpTo 2 c.args.table.now
+    (table_refused c.in-Refused.number c.in-Refused.place)
+reads c = (rw c.in-Refused.is at c.row_numbered-found.ensures.scans).0
 
-small : (c : steps.After-answer tie.the-claims reads.Pre reads.Post) → (0 < c.answer.given.0.0) × (c.answer.given.0.1.0 ≤ 5249)
+small : (c : steps.After-answer tie.the-claims reads.Pre reads.Post) → (0 < c.in-Refused.number) × (c.in-Refused.place ≤ 5249)
 small c = refused_small _ _ _ (reads c)
 
 pub returns-then-rows-row : goal.returns-then-rows-row

@@ -6,11 +6,11 @@ use Rattle.read_back.proofs.words.field_in.Tie as tie
 use Rattle.read_back.proofs.words.field_in.Reads as reads
 use Rattle.read_back.proofs.words.field_in.Lts as steps
 
-no_kind : (c : steps.Else1 tie.the-claims reads.Pre reads.Post) → is_kind c.before.before.args.role ≡ false
-no_kind c = sym c.before.is-kind.ensures ∙ c.if1.false
+no_kind : (c : steps.Else1 tie.the-claims reads.Pre reads.Post) → is_kind c.args.role ≡ false
+no_kind c = sym c.is_kind.ensures ∙ c.if-is_kind.false
 
-no_byte : (c : steps.Else2 tie.the-claims reads.Pre reads.Post) → ltb 96 c.before.before.before.args.role ≡ false
-no_byte c = le-ltb 96 c.before.before.before.args.role (omega (arith, c.if2.false))
+no_byte : (c : steps.Else2 tie.the-claims reads.Pre reads.Post) → ltb 96 c.args.role ≡ false
+no_byte c = le-ltb 96 c.args.role (omega (arith, c.if-role-ge-FIRST_BYTE.false))
 
 pub returns-then-role-ge-FIRST_BYTE : goal.returns-then-role-ge-FIRST_BYTE
 returns-then-role-ge-FIRST_BYTE c = rw (no_kind c.before.before, lt-ltb 96 c.args.role (omega (arith, c.if-role-ge-FIRST_BYTE.true)))

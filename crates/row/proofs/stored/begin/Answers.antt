@@ -14,12 +14,12 @@ use Rattle.row.proofs.stored.begin.Lts as steps
 empty : Parameters → List (List ℕ)
 empty p = words_of_row (row_from p (replicate 64 0) (fresh_state p)) no_row_undo
 
-blank_words : (c : steps.After-encode_row tie.the-claims reads.Pre reads.Post) → c.encode-row.result
-    ≡ empty (parameters_of (row_read c.before.before.before.before.args.tag c.before.before.before.before.args.values.now))
+blank_words : (c : steps.After-encode_row tie.the-claims reads.Pre reads.Post) → c.encode_row.result
+    ≡ empty (parameters_of (row_read c.args.tag c.args.values.now))
 unfolding empty
 blank_words c =
     let none = c.none in let blank = c.blank in let numbers = c.parameters_of-parameters in
-    c.encode-row.ensures
+    c.encode_row.ensures
     ∙ ap₂ words_of_row (blank.ensures ∙ ap (λ (p : Parameters). row_from p (replicate 64 0) (fresh_state p)) numbers.ensures) none.ensures
 
 -- its ring is empty

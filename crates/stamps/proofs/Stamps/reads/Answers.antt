@@ -8,11 +8,11 @@ use Rattle.stamps.proofs.Stamps.reads.Lts as steps
 -- the first test, and the second
 each_is : (c : steps.After-both tie.the-claims reads.Pre reads.Post) → let args = c.args in
     c.both.result ≡ (args.self.each && leb args.now (plus args.self.earliest args.asked.upper))
-each_is c = rw c.before.in_time.ensures at c.both.ensures
+each_is c = rw c.in_time.ensures at c.both.ensures
 
 some_is : (c : steps.After-both2 tie.the-claims reads.Pre reads.Post) → let args = c.args in
-    c.both2.result ≡ (args.self.some && leb args.now (plus args.self.high args.asked.upper))
-some_is c = rw c.before.in-time2.ensures at c.both2.ensures
+    c.both-2.result ≡ (args.self.some && leb args.now (plus args.self.high args.asked.upper))
+some_is c = rw c.in_time-2.ensures at c.both-2.ensures
 
 pub returns-then-both : goal.returns-then-both
 unfolding close_verdict

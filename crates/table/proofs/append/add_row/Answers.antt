@@ -7,9 +7,9 @@ use Rattle.table.proofs.append.add_row.Reads as reads
 use Rattle.table.proofs.append.add_row.Lts as steps
 
 -- a slice of bytes holds bytes
-each : (c : steps.After-slice_known tie.the-claims reads.Pre reads.Post) → Bytes c.before.args.buffer.now
+each : (c : steps.After-slice_known tie.the-claims reads.Pre reads.Post) → Bytes c.args.buffer.now
 unfolding Bytes
-each c i h = omega (arith, c.slice-known.given i)
+each c i h = omega (arith, c.slice_known-1.given i)
 
 pub slice_bounds-answer-end-2 : goal.slice_bounds-answer-end-2
 slice_bounds-answer-end-2 c =

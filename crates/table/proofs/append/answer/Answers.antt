@@ -8,9 +8,9 @@ use Rattle.table.proofs.append.answer.Reads as reads
 use Rattle.table.proofs.append.answer.Lts as steps
 
 -- a slice of bytes holds bytes
-each : (c : steps.After-shared_slice_known2 tie.the-claims reads.Pre reads.Post) → Bytes c.before.before.args.body.now
+each : (c : steps.After-shared_slice_known2 tie.the-claims reads.Pre reads.Post) → Bytes c.args.body.now
 unfolding Bytes
-each c i h = omega (arith, c.shared-slice-known2.given i)
+each c i h = omega (arith, c.shared_slice_known-2-1.given i)
 
 pub returns-in-Refused : goal.returns-in-Refused
 returns-in-Refused c = table_wrong _ _ (rw c.in-Refused.is at c.validate-scanned.ensures).0

@@ -7,11 +7,11 @@ use Rattle.table.proofs.raw.body_end.Reads as reads
 use Rattle.table.proofs.raw.body_end.Lts as steps
 
 -- the length is that of the row's body
-size : (c : steps.After-length_of tie.the-claims reads.Pre reads.Post) → let a = c.args in c.length-of.result ≡ body_length a.bytes.now a.i
-size c = rw (c.length-of.ensures, c.before.before.byte_at.ensures, c.before.byte-at2.ensures)
+size : (c : steps.After-length_of tie.the-claims reads.Pre reads.Post) → let a = c.args in c.length_of.result ≡ body_length a.bytes.now a.i
+size c = rw (c.length_of.ensures, c.byte_at-tag.ensures, c.byte_at-n.ensures)
 
 ends : (c : steps.After-length_of tie.the-claims reads.Pre reads.Post) → let a = c.args in
-    a.i * raw_size + c.length-of.result ≤ length a.bytes.now
+    a.i * raw_size + c.length_of.result ≤ length a.bytes.now
 ends c =
     let a = c.args in
     rw (size c) (body_within a.edition a.bytes.now a.i c.requires.0 c.requires.1)

@@ -18,8 +18,8 @@ returns-then-bytes-start-lt-RAW_SIZE c =
     }
 
 -- the test is that of the row
-test : (c : steps.After-known_at tie.the-claims reads.Pre reads.Post goal.the-invariant-loop-i goal.the-decreases-loop-i) → Decides (KnownAt c.before.before.before.before.before.args.edition
-    c.before.before.before.before.before.args.bytes.now c.before.before.before.loop.i) c.known_at.result
+test : (c : steps.After-known_at tie.the-claims reads.Pre reads.Post goal.the-invariant-loop-i goal.the-decreases-loop-i) → Decides (KnownAt c.args.edition
+    c.args.bytes.now c.loop-i.i) c.known_at.result
 test c =
     let a = c.args in
     subst (λ (start : ℕ). Decides (KnownFrom a.edition a.bytes.now start) c.known_at.result) c.loop-i.invariant.1

@@ -8,9 +8,9 @@ use Rattle.table.proofs.raw.put_row.Reads as reads
 use Rattle.table.proofs.raw.put_row.Lts as steps
 
 -- a slice of bytes holds bytes
-each : (c : steps.After-shared_slice_known tie.the-claims reads.Pre reads.Post) → Bytes c.before.before.args.bytes.now
+each : (c : steps.After-shared_slice_known tie.the-claims reads.Pre reads.Post) → Bytes c.args.bytes.now
 unfolding Bytes
-each c i h = omega (arith, c.shared-slice-known.given i)
+each c i h = omega (arith, c.shared_slice_known-1.given i)
 
 pub returns : goal.returns
 returns c =

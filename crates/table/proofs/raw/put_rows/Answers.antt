@@ -7,9 +7,9 @@ use Rattle.table.proofs.raw.put_rows.Reads as reads
 use Rattle.table.proofs.raw.put_rows.Lts as steps
 
 -- a slice of bytes holds bytes
-each : (c : steps.After-shared_slice_known tie.the-claims reads.Pre reads.Post goal.the-invariant-loop-i goal.the-decreases-loop-i) → Bytes c.before.before.args.bytes.now
+each : (c : steps.After-shared_slice_known tie.the-claims reads.Pre reads.Post goal.the-invariant-loop-i goal.the-decreases-loop-i) → Bytes c.args.bytes.now
 unfolding Bytes
-each c i h = omega (arith, c.shared-slice-known.given i)
+each c i h = omega (arith, c.shared_slice_known-1.given i)
 
 pub loop-i-init : goal.loop-i-init
 loop-i-init c =

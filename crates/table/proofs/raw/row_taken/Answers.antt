@@ -12,15 +12,15 @@ never_taken : (n : ℕ) → Refused n ≡ Taken → ⊥
 never_taken n e = never (cc)
 
 -- a slice of bytes holds bytes
-each : (c : steps.After-shared_slice_known tie.the-claims reads.Pre reads.Post) → Bytes c.before.args.bytes.now
+each : (c : steps.After-shared_slice_known tie.the-claims reads.Pre reads.Post) → Bytes c.args.bytes.now
 unfolding Bytes
-each c i h = omega (arith, c.shared-slice-known.given i)
+each c i h = omega (arith, c.shared_slice_known-1.given i)
 
 known : (c : steps.Else1 tie.the-claims reads.Pre reads.Post) → let a = c.args in KnownAt a.edition a.bytes.now a.i
-known c = passed c.before.known_at.result c.before.known_at.ensures c.if1.false
+known c = passed c.known_at.result c.known_at.ensures c.if-not-known_at.false
 
 -- what the row's own questions answer, where its type is known
-own : (c : steps.After-validate_values tie.the-claims reads.Pre reads.Post) (a : Answer) → c.validate-values.result ≡ a
+own : (c : steps.After-validate_values tie.the-claims reads.Pre reads.Post) (a : Answer) → c.validate_values.result ≡ a
     → let start = c.before.args in Judged (row_questions (raw_row start.bytes.now start.i)) a
 own c a e =
     let start = c.before in
@@ -28,7 +28,7 @@ own c a e =
     skipped [] (row_questions (raw_row bytes start.args.i)) 4 _
     (raw_known start.args.edition bytes start.args.i known start.requires (each c.before.before.before.before.before.before)) a
     (subst (λ (row : Constraint). Judged (row_questions_in start.args.edition row) a) (ap row_in c.row_at.ensures)
-    (rw e at c.validate-values.ensures))
+    (rw e at c.validate_values.ensures))
 
 pub returns-in-Refused : goal.returns-in-Refused
 returns-in-Refused c = λ taken. never_taken _ (judged_once _ _ Taken (own c.before.before.before _ c.in-Refused.is) taken.1)

@@ -7,16 +7,16 @@ use Rattle.table.proofs.raw.size_of.Reads as reads
 use Rattle.table.proofs.raw.size_of.Lts as steps
 
 -- a slice of bytes holds bytes
-each : (c : steps.After-shared_slice_known tie.the-claims reads.Pre reads.Post goal.the-invariant-loop-i goal.the-decreases-loop-i) → Bytes c.before.args.bytes.now
+each : (c : steps.After-shared_slice_known tie.the-claims reads.Pre reads.Post goal.the-invariant-loop-i goal.the-decreases-loop-i) → Bytes c.args.bytes.now
 unfolding Bytes
-each c i h = omega (arith, c.shared-slice-known.given i)
+each c i h = omega (arith, c.shared_slice_known-1.given i)
 
 -- a body has at most as many bytes as a row is given
-short : (c : steps.After-body_end tie.the-claims reads.Pre reads.Post goal.the-invariant-loop-i goal.the-decreases-loop-i) → c.body-end.result ≤ c.before.before.loop.i * raw_size + raw_size
+short : (c : steps.After-body_end tie.the-claims reads.Pre reads.Post goal.the-invariant-loop-i goal.the-decreases-loop-i) → c.body_end.result ≤ c.loop-i.i * raw_size + raw_size
 short c =
     omega (
       arith,
-      c.body-end.ensures.0,
+      c.body_end.ensures.0,
       (c.requires.known c.loop-i.i (omega arith)).1,
     )
 

@@ -9,14 +9,14 @@ use Rattle.table.proofs.raw.write.Reads as reads
 use Rattle.table.proofs.raw.write.Lts as steps
 
 -- a slice of bytes holds bytes
-each : (c : steps.After-shared_slice_known tie.the-claims reads.Pre reads.Post) → Bytes c.before.args.rows.now
+each : (c : steps.After-shared_slice_known tie.the-claims reads.Pre reads.Post) → Bytes c.args.rows.now
 unfolding Bytes
-each c i h = omega (arith, c.shared-slice-known.given i)
+each c i h = omega (arith, c.shared_slice_known-1.given i)
 
 -- the rows are taken
 taken : (c : steps.After-enum_told tie.the-claims reads.Pre reads.Post) → let a = c.args in
-    Judged (rows_questions a.edition 0 (raw_rows a.rows.now 0 c.before.before.before.known-rows.result) []) Taken
-taken c = rw c.enum_told.given.1 at c.before.before.validate-rows.ensures
+    Judged (rows_questions a.edition 0 (raw_rows a.rows.now 0 c.known_rows-known.result) []) Taken
+taken c = rw c.in-Taken.is at c.validate_rows.ensures
 
 pub returns-in-Refused : goal.returns-in-Refused
 returns-in-Refused c =

@@ -10,7 +10,7 @@ use Rattle.table.proofs.reader.read_rows.Lts as steps
 -- the row that is put in the record was taken
 read : (c : steps.After-enum_told tie.the-claims reads.Pre reads.Post goal.the-invariant-loop-place goal.the-decreases-loop-place) → let a = c.args in
     ReadsAt a.edition a.bytes.now c.loop-place.table.count c.loop-place.place Taken
-read c = rw c.enum_told.given.1 at c.before.before.validate-row.ensures
+read c = rw c.in-Taken.is at c.validate_row.ensures
 
 taken : (c : steps.After-enum_told tie.the-claims reads.Pre reads.Post goal.the-invariant-loop-place goal.the-decreases-loop-place) →
     let a = c.args in

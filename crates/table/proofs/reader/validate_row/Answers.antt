@@ -10,23 +10,23 @@ use Rattle.table.proofs.reader.validate_row.Reads as reads
 use Rattle.table.proofs.reader.validate_row.Lts as steps
 
 -- the row passed question 2
-whole : (c : steps.Else1 tie.the-claims reads.Pre reads.Post) → WholeAt c.before.before.before.args.bytes.now c.before.before.before.args.place
-whole c = passed c.before.whole-at.result c.before.whole-at.ensures c.if1.false
+whole : (c : steps.Else1 tie.the-claims reads.Pre reads.Post) → WholeAt c.args.bytes.now c.args.place
+whole c = passed c.whole_at.result c.whole_at.ensures c.if-not-whole_at.false
 
 -- the shape that is tested is that of the body at the place
-shape : (c : steps.After-shape_fits tie.the-claims reads.Pre reads.Post) → Decides (ShapeFits c.before.before.before.before.before.before.before.args.edition
-    (body_at c.before.before.before.before.before.before.before.args.bytes.now
-    c.before.before.before.before.before.before.before.args.place)) c.shape_fits.result
+shape : (c : steps.After-shape_fits tie.the-claims reads.Pre reads.Post) → Decides (ShapeFits c.args.edition
+    (body_at c.args.bytes.now
+    c.args.place)) c.shape_fits.result
 shape c =
     let a = c.args in let size = c.two_at-size in
     subst (λ (body : List ℕ). Decides (ShapeFits a.edition body) c.shape_fits.result)
     (part_body a.bytes.now a.place size.result size.ensures) c.shape_fits.ensures
 
 -- a slice of bytes holds bytes, so the row at the place is the one that the body is read as
-row : (c : steps.After-shared_slice_known tie.the-claims reads.Pre reads.Post) → RowAt c.before.args.edition c.before.args.bytes.now c.before.args.place
-    (row_read_at c.before.args.bytes.now c.before.args.place)
+row : (c : steps.After-shared_slice_known tie.the-claims reads.Pre reads.Post) → RowAt c.args.edition c.args.bytes.now c.args.place
+    (row_read_at c.args.bytes.now c.args.place)
 unfolding Bytes
-row c = let a = c.args in row_at a.edition a.bytes.now a.place (λ i h. omega (arith, c.shared-slice-known.given i))
+row c = let a = c.args in row_at a.edition a.bytes.now a.place (λ i h. omega (arith, c.shared_slice_known-1.given i))
 
 pub returns-then-not-whole_at : goal.returns-then-not-whole_at
 returns-then-not-whole_at c =

@@ -9,14 +9,14 @@ use Rattle.table.proofs.scan.load_at.Tie as tie
 use Rattle.table.proofs.scan.load_at.Reads as reads
 use Rattle.table.proofs.scan.load_at.Lts as steps
 
-whole : (c : steps.Else1 tie.the-claims reads.Pre reads.Post) → WholeAt c.before.before.before.args.bytes.now c.before.before.before.args.place
-whole c = passed c.before.whole-at.result c.before.whole-at.ensures c.if1.false
+whole : (c : steps.Else1 tie.the-claims reads.Pre reads.Post) → WholeAt c.args.bytes.now c.args.place
+whole c = passed c.whole_at.result c.whole_at.ensures c.if-not-whole_at.false
 
 -- a slice of bytes holds bytes, so the row at the place is the one that the body is read as
 row : (c : steps.After-shared_slice_known tie.the-claims reads.Pre reads.Post) (edition : ℕ)
-    → RowAt edition c.before.args.bytes.now c.before.args.place (row_read_at c.before.args.bytes.now c.before.args.place)
+    → RowAt edition c.args.bytes.now c.args.place (row_read_at c.args.bytes.now c.args.place)
 unfolding Bytes
-row c edition = let a = c.args in row_at edition a.bytes.now a.place (λ i h. omega (arith, c.shared-slice-known.given i))
+row c edition = let a = c.args in row_at edition a.bytes.now a.place (λ i h. omega (arith, c.shared_slice_known-1.given i))
 
 -- no role has a value
 none_read : (bytes : List ℕ) → values_at (replicate 18 0) bytes 1 ≡ replicate 18 0

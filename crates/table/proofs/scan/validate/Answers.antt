@@ -6,8 +6,8 @@ use Rattle.table.proofs.scan.validate.Tie as tie
 use Rattle.table.proofs.scan.validate.Reads as reads
 use Rattle.table.proofs.scan.validate.Lts as steps
 
-version : (c : steps.Else1 tie.the-claims reads.Pre reads.Post) → VersionUpTo c.before.before.before.args.newest c.before.before.before.args.bytes.now
-version c = passed c.before.version-known.result c.before.version-known.ensures c.if1.false
+version : (c : steps.Else1 tie.the-claims reads.Pre reads.Post) → VersionUpTo c.args.newest c.args.bytes.now
+version c = passed c.version_known.result c.version_known.ensures c.if-not-version_known.false
 
 pub returns-then-not-version_known : goal.returns-then-not-version_known
 returns-then-not-version_known c =

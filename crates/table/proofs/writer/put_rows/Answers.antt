@@ -9,11 +9,11 @@ use Rattle.table.proofs.writer.put_rows.Tie as tie
 use Rattle.table.proofs.writer.put_rows.Reads as reads
 use Rattle.table.proofs.writer.put_rows.Lts as steps
 
-few : (c : steps.Start tie.the-claims reads.Pre reads.Post goal.the-invariant-loop-i goal.the-decreases-loop-i) → c.args.t2.count ≤ row_limit
+few : (c : steps.Start tie.the-claims reads.Pre reads.Post goal.the-invariant-loop-i goal.the-decreases-loop-i) → c.args.table.count ≤ row_limit
 few c = let table = c.args.table in omega (arith, rows_length table, rows_room c.requires.0.0 0 (rows_of table) (omega arith) c.requires.0.1)
 
 -- there is an entry for each row
-entries : (c : steps.In-loop tie.the-claims reads.Pre reads.Post goal.the-invariant-loop-i goal.the-decreases-loop-i) → c.before.loop.i < length c.before.before.before.args.t2.rows
+entries : (c : steps.In-loop tie.the-claims reads.Pre reads.Post goal.the-invariant-loop-i goal.the-decreases-loop-i) → c.loop-i.i < length c.args.table.rows
 entries c =
     let long : length c.args.table.rows ≡ 32 = sym (length-map c.args.table.rows _) ∙ c.well_formed.1.0.1.1.0.1.0.1 in
     omega (arith, long, few c.before.before.before)
@@ -25,17 +25,17 @@ entry c = get_or c.before.before.before.args.t2.rows c.before.loop.i (record { t
 abbrev row : tie.In-loop invariant_loop decreases_loop → Constraint
 row c = row_in (entry c)
 
-known : (c : steps.In-loop tie.the-claims reads.Pre reads.Post goal.the-invariant-loop-i goal.the-decreases-loop-i) → TypeKnown c.before.before.before.requires.0.0 (type_of (row c)) (count_of (row c))
+known : (c : steps.In-loop tie.the-claims reads.Pre reads.Post goal.the-invariant-loop-i goal.the-decreases-loop-i) → TypeKnown c.requires.0.0 (type_of (row c)) (count_of (row c))
 known c =
-    row_known c.requires.0.0 c.args.table c.before.loop.i _ (omega arith) (entries c) c.requires.0.1
+    row_known c.requires.0.0 c.args.table c.loop-i.i _ (omega arith) (entries c) c.requires.0.1
 
-size : (c : steps.In-loop tie.the-claims reads.Pre reads.Post goal.the-invariant-loop-i goal.the-decreases-loop-i) → length (rows_bytes (drop c.before.loop.i (rows_of c.before.before.before.args.t2)))
-    ≡ 2 + length (row_body (row c)) + length (rows_bytes (drop (c.before.loop.i + 1) (rows_of c.before.before.before.args.t2)))
-size c = rows_size c.before.before.before.args.t2 c.before.loop.i _ (omega arith) (entries c)
+size : (c : steps.In-loop tie.the-claims reads.Pre reads.Post goal.the-invariant-loop-i goal.the-decreases-loop-i) → length (rows_bytes (drop c.loop-i.i (rows_of c.args.table)))
+    ≡ 2 + length (row_body (row c)) + length (rows_bytes (drop (c.loop-i.i + 1) (rows_of c.args.table)))
+size c = rows_size c.args.table c.loop-i.i _ (omega arith) (entries c)
 
 -- the row ends within the buffer
-fits : (c : steps.In-loop tie.the-claims reads.Pre reads.Post goal.the-invariant-loop-i goal.the-decreases-loop-i) → c.before.loop.place + (2 + length (row_body (row c))) < 2 ^ 63
-fits c = omega (arith, size c, c.before.before.before.requires, c.before.before.before.well-formed)
+fits : (c : steps.In-loop tie.the-claims reads.Pre reads.Post goal.the-invariant-loop-i goal.the-decreases-loop-i) → c.loop-i.place + (2 + length (row_body (row c))) < 2 ^ 63
+fits c = omega (arith, size c, c.requires, c.well_formed)
 
 pub put-requires : goal.put-requires
 put-requires c =

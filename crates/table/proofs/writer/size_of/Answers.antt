@@ -8,25 +8,25 @@ use Rattle.table.proofs.writer.size_of.Reads as reads
 use Rattle.table.proofs.writer.size_of.Lts as steps
 
 -- a table has 32 entries, and no more rows
-entries : (c : steps.Start tie.the-claims reads.Pre reads.Post goal.the-invariant-loop-i goal.the-decreases-loop-i) → length c.args.t1.rows ≡ 32
-entries c = sym (length-map c.args.t1.rows _) ∙ c.well-formed.0.1.1.0.1.0.1
+entries : (c : steps.Start tie.the-claims reads.Pre reads.Post goal.the-invariant-loop-i goal.the-decreases-loop-i) → length c.args.table.rows ≡ 32
+entries c = sym (length-map c.args.table.rows _) ∙ c.well_formed.0.1.1.0.1.0.1
 
-few : (c : steps.Start tie.the-claims reads.Pre reads.Post goal.the-invariant-loop-i goal.the-decreases-loop-i) → c.args.t1.count ≤ row_limit
+few : (c : steps.Start tie.the-claims reads.Pre reads.Post goal.the-invariant-loop-i goal.the-decreases-loop-i) → c.args.table.count ≤ row_limit
 few c = let table = c.args.table in omega (arith, rows_length table, rows_room c.requires.0 0 (rows_of table) (omega arith) c.requires.1)
 
 -- the row of a turn, which is of a known type
 abbrev row : tie.After-row invariant_loop decreases_loop → TableRow
 row c = get_or c.before.before.before.args.t1.rows c.before.before.loop.i (record { tag = 0; values = [] })
 
-known : (c : steps.After-row tie.the-claims reads.Pre reads.Post goal.the-invariant-loop-i goal.the-decreases-loop-i) → TypeKnown c.before.before.before.requires.0 (type_of (row_in (row c))) (count_of (row_in (row c)))
+known : (c : steps.After-row tie.the-claims reads.Pre reads.Post goal.the-invariant-loop-i goal.the-decreases-loop-i) → TypeKnown c.requires.0 (type_of (row_in (row c))) (count_of (row_in (row c)))
 known c =
-    row_known c.requires.0 c.args.table c.before.before.loop.i _ (omega arith) (omega (arith, entries c.before.before.before, few c.before.before.before)) c.requires.1
+    row_known c.requires.0 c.args.table c.loop-i.i _ (omega arith) (omega (arith, entries c.before.before.before, few c.before.before.before)) c.requires.1
 
 short : (c : steps.After-length tie.the-claims reads.Pre reads.Post goal.the-invariant-loop-i goal.the-decreases-loop-i) → c.length.result ≤ 145
 short c = omega (
   arith,
   c.length.ensures,
-  row_short c.before.before.before.before.requires.0 (row c.before).tag (row c.before).values
+  row_short c.requires.0 (row c.before).tag (row c.before).values
       (known c.before),
 
 )

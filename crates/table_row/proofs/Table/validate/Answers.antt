@@ -14,8 +14,8 @@ use Rattle.table_row.proofs.Table.validate.Reads as reads
 use Rattle.table_row.proofs.Table.validate.Lts as steps
 
 -- a table has 32 entries
-size : (c : steps.At-loop tie.the-claims reads.Pre reads.Post goal.the-invariant-loop-i goal.the-decreases-loop-i) → length c.before.args.t1.rows ≡ 32
-size c = sym (length-map c.before.args.t1.rows _) ∙ c.before.well-formed.0.1.1.0.1.0.1
+size : (c : steps.At-loop tie.the-claims reads.Pre reads.Post goal.the-invariant-loop-i goal.the-decreases-loop-i) → length c.args.self.rows ≡ 32
+size c = sym (length-map c.args.self.rows _) ∙ c.well_formed.0.1.1.0.1.0.1
 
 pub returns-then-i-ge-ROW_LIMIT : goal.returns-then-i-ge-ROW_LIMIT
 returns-then-i-ge-ROW_LIMIT c =

@@ -16,9 +16,9 @@ known : (c : steps.Start tie.the-claims reads.Pre reads.Post) → TypeKnown c.re
 known c = known_row c.requires.0.0 c.args.self.tag c.args.self.values c.requires.0.1
 
 -- so its length is that of its roles, and 1 more
-long : (c : steps.After-size_of tie.the-claims reads.Pre reads.Post) → 1 + c.type_size.result ≡ 1 + total (roles_of c.before.before.before.before.args.self.tag
-    (at c.before.before.before.before.args.self.values 0))
-long c = ap (λ (n : ℕ). 1 + n) (c.type_size.ensures ∙ ap total c.before.roles-of.ensures)
+long : (c : steps.After-size_of tie.the-claims reads.Pre reads.Post) → 1 + c.size_of-size.result ≡ 1 + total (roles_of c.args.self.tag
+    (at c.args.self.values 0))
+long c = ap (λ (n : ℕ). 1 + n) (c.size_of-size.ensures ∙ ap total c.roles_of-roles.ensures)
 
 pub overflow_add-size : goal.overflow_add-size
 overflow_add-size c = omega (arith, c.size_of-size.ensures, total_small c.roles_of-roles.result)

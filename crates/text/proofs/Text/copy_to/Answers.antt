@@ -8,27 +8,27 @@ use Rattle.text.proofs.Text.copy_to.Reads as reads
 use Rattle.text.proofs.Text.copy_to.Lts as steps
 
 size : (c : steps.Start tie.the-claims reads.Pre reads.Post) → length c.args.self.bytes ≡ text_limit
-size c = sym (length-map c.args.self.bytes _) ∙ c.well-formed.0.1.1.0.1.0.1
+size c = sym (length-map c.args.self.bytes _) ∙ c.well_formed.0.1.1.0.1.0.1
 
-within : (c : steps.Joined1 tie.the-claims reads.Pre reads.Post) → c.if1.len ≤ length c.before.before.before.before.args.self.bytes
+within : (c : steps.Joined1 tie.the-claims reads.Pre reads.Post) → c.if-self-lt-TEXT_LIMIT.len ≤ length c.args.self.bytes
 within c =
-    ⊎_elim (λ w. omega (arith, size c.before.before.before.before)) (λ w. omega (arith, size c.before.before.before.before)) c.if1.branch
+    ⊎_elim (λ w. omega (arith, size c.before.before.before.before)) (λ w. omega (arith, size c.before.before.before.before)) c.if-self-lt-TEXT_LIMIT.branch
 
 -- the bytes copied
-held : (c : steps.Joined1 tie.the-claims reads.Pre reads.Post) → take c.if1.len c.before.before.before.before.args.self.bytes
-    ≡ content c.before.before.before.before.args.self
+held : (c : steps.Joined1 tie.the-claims reads.Pre reads.Post) → take c.if-self-lt-TEXT_LIMIT.len c.args.self.bytes
+    ≡ content c.args.self
 held c =
     let bytes = c.args.self.bytes in
     ⊎_elim (λ w. rw w.1)
     (λ w. rw w.1 (take_all text_limit bytes (omega (arith, size c.before.before.before.before))
     ∙ sym (take_all c.args.self.len bytes (omega (arith, size c.before.before.before.before)))))
-    c.if1.branch
+    c.if-self-lt-TEXT_LIMIT.branch
 
 -- their number
-counted : (c : steps.Joined1 tie.the-claims reads.Pre reads.Post) → c.if1.len ≡ length (content c.before.before.before.before.args.self)
+counted : (c : steps.Joined1 tie.the-claims reads.Pre reads.Post) → c.if-self-lt-TEXT_LIMIT.len ≡ length (content c.args.self)
 counted c =
     let bytes = c.args.self.bytes in
-    sym (length-take-le c.if1.len bytes (within c)) ∙ ap length (held c)
+    sym (length-take-le c.if-self-lt-TEXT_LIMIT.len bytes (within c)) ∙ ap length (held c)
 
 pub returns-then-buffer-len : goal.returns-then-buffer-len
 returns-then-buffer-len c =

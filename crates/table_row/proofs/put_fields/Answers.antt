@@ -29,7 +29,7 @@ loop-i-preserved c =
     let a = c.args in let loop = c.loop-i in
     let wide = c.width_of-width in let put = c.put_number in (
       omega arith,
-      put.auto.0 ∙ loop.invariant.1,
+      put.auto.buffer ∙ loop.invariant.1,
       omega (arith, wide.ensures, width_small (at a.roles loop.i), loop.invariant.2),
       rw (put.ensures, wide.ensures) (sym (fields_more loop.buffer loop.next a.roles a.values loop.i (omega arith)) ∙ loop.invariant.3),
     )

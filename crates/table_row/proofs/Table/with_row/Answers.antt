@@ -7,7 +7,7 @@ use Rattle.table_row.proofs.Table.with_row.Reads as reads
 use Rattle.table_row.proofs.Table.with_row.Lts as steps
 
 -- a table has 32 places for rows
-size : (c : steps.Start tie.the-claims reads.Pre reads.Post) → length c.args.self.rows ≡ 32
+size : (c : steps.Start reads.Pre reads.Post) → length c.args.self.rows ≡ 32
 size c = sym (length-map c.args.self.rows _) ∙ c.well_formed.0.1.1.0.1.0.1
 
 pub returns-then-i-lt-ROW_LIMIT : goal.returns-then-i-lt-ROW_LIMIT

@@ -42,5 +42,5 @@ returns c =
     (long c.before.before.before.before.before.before.before.before.before.before.before.before.before)
     c.put_two.ensures c.put_byte.ensures
     (c.put_fields.ensures
-    ∙ ap (λ (r : List ℕ). sets c.put_byte.new.0 (c.args.place + 3) (fields_bytes (fields_as r row.values)))
+    ∙ ap (λ (r : List ℕ). sets c.put_byte.new.buffer (c.args.place + 3) (fields_bytes (fields_as r row.values)))
     c.roles_of-roles.ensures)

@@ -14,15 +14,15 @@ pub returns-then-version-ge3 : goal.returns-then-version-ge3
 returns-then-version-ge3 c = λ h. omega (arith, h.type_known, List·getD-eq-default last_types 0 {n = c.args.edition} c.if-version-ge3.true)
 
 -- a type from 1 to the edition's last one is in the lists
-known : (c : steps.Else3 tie.the-claims reads.Pre reads.Post) → (1 ≤ c.args.tag)
+known : (c : steps.Else3 reads.Pre reads.Post) → (1 ≤ c.args.tag)
     × (c.args.tag ≤ at last_types c.args.edition)
 known c = (omega (arith, c.if-tag-eq0.false), omega (arith, c.if-version-tag.false))
 
-listed : (c : steps.Else3 tie.the-claims reads.Pre reads.Post) → c.args.tag < 18
+listed : (c : steps.Else3 reads.Pre reads.Post) → c.args.tag < 18
 listed c = omega (arith, known c, at_most 17 last_types (omega arith) c.args.edition)
 
 -- the type has an n
-has : (c : steps.Else4 tie.the-claims reads.Pre reads.Post) → takes_count c.args.tag ≡ true
+has : (c : steps.Else4 reads.Pre reads.Post) → takes_count c.args.tag ≡ true
 has c = lt-ltb 0 (at most_counts c.args.tag) (omega (arith, c.if-place-eq0.false))
 
 pub returns-then-place-eq0 : goal.returns-then-place-eq0

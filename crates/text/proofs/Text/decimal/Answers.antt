@@ -4,7 +4,7 @@ use Rattle.text.proofs.Text.decimal.Goals as goal
 
 pub returns : goal.returns
 returns c =
-    let digits = c.digits_of in
+    let digits = c.digits_of-digits in
     let bytes = drop digits.result.start digits.result.bytes in
     rw (
       c.word.ensures,
@@ -14,4 +14,4 @@ returns c =
     )
 
 pub slice_bounds-word-end : goal.slice_bounds-word-end
-slice_bounds-word-end c = omega (arith, c.digits_of.ensures.size)
+slice_bounds-word-end c = omega (arith, c.digits_of-digits.ensures.size)

@@ -25,7 +25,7 @@ PYTEST_FILE = re.compile(r"(\S*test_\w+\.py) .*\[ *\d+%\]$")
 def dependencies():
     """For each crate of crates.txt the crates that it uses."""
     lines = (line.partition("#")[0].partition(":") for line in (ROOT / "crates.txt").read_text(encoding="utf-8").splitlines())
-    return {name.strip(): used.split() for name, colon, used in lines if colon}
+    return {name.split()[0]: used.split() for name, colon, used in lines if colon}
 
 
 def number_of_crates(words):

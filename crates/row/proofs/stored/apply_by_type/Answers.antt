@@ -186,4 +186,4 @@ returns-in-0 c =
     by_type no_machine a.row.now c.break_at-in-0.new.row a.stream a.t a.number _ c.break_at-in-0.ensures refl none.0 none.1
 
 pub returns-in_default : goal.returns-in_default
-returns-in_default c = let rest = c.in_default.in_default-own.rest in absurd (omega (arith, rest))
+returns-in_default c = let rest = c.in_default.in_default-own.rest in absurd (grind (arith, rest))

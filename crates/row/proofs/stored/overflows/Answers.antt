@@ -101,4 +101,4 @@ returns-in-16 c = let a = c.args in
 
 pub returns-in_default : goal.returns-in_default
 returns-in_default c = let a = c.args in
-    by_type no_machine a.w.now a.stream a.t refl (none_of (get_or a.w.now 0 0) (λ other. omega (arith, other)))
+    by_type no_machine a.w.now a.stream a.t refl (none_of (get_or a.w.now 0 0) (λ other. grind (arith, other, c.in_default.in_default-own.rest)))

@@ -16,7 +16,7 @@ TAIL = 40
 PROVED = re.compile(r"rt: (\w+) proved \((?:(\d+) s|unchanged\b.*)\)$")
 EDIT_REFUSED = re.compile(r"rt: must-fail \S+: refused")
 FAILED = re.compile(r"rt: (?:\w+ NOT PROVED|must-fail \S+: (?:NOT REFUSED|BAD EDIT)|FAILED:|in no crate)")
-BUILT = re.compile(r"rt: (target/staticlib/\S+) has the functions")
+BUILT = re.compile(r"(target/staticlib/\S+) built$")
 CARGO_FILE = re.compile(r"\s+Running (?:unittests )?(\S+) \(")
 CARGO_RESULT = re.compile(r"test result: \w+\. (\d+) passed; (\d+) failed; .* finished in (\d+)\.\d+s$")
 PYTEST_FILE = re.compile(r"(\S*test_\w+\.py) .*\[ *\d+%\]$")
@@ -25,7 +25,7 @@ PYTEST_FILE = re.compile(r"(\S*test_\w+\.py) .*\[ *\d+%\]$")
 def dependencies():
     """For each crate of crates.txt the crates that it uses."""
     lines = (line.partition("#")[0].partition(":") for line in (ROOT / "crates.txt").read_text(encoding="utf-8").splitlines())
-    return {name.strip(): used.split() for name, colon, used in lines if colon}
+    return {name.split()[0]: used.split() for name, colon, used in lines if colon}
 
 
 def number_of_crates(words):

@@ -2,7 +2,7 @@
 use Rattle.constraint.proofs.Library.{List, List·getD-eq-default, [], ◌*◌, ◌+◌, ◌-◌, ◌<◌, ◌∷◌, ◌≡◌, ◌≤◌, add-one, arith, cond, drop}
 use Rattle.constraint.proofs.Library.{drop-cons}
 use Rattle.constraint.proofs.Library.{le-leb, leb, length, mul-le-mul_left, refl, set, sets, suc, sym, zero, ℕ}
-use Rattle.constraint.proofs.Library.{◌≢◌, get_or, ltb, ltb-false, replicate}
+use Rattle.constraint.proofs.Library.{get_or, ltb, ltb-false, replicate}
 use Rattle.constraint.proofs.Lengths.{at_most}
 use Rattle.constraint.proofs.Lists.{split}
 use Rattle.constraint.specs.Steps.{at}
@@ -12,15 +12,6 @@ use Rattle.table_row.specs.Records.{uses, role_at, roles_from, total, width}
 pub uses_leb : (m n : ℕ) → uses m n ≡ leb m n
 uses_leb zero n = sym (le-leb 0 n (omega arith))
 uses_leb (suc m) n = refl
-
--- what a match of the types 1, 2 and so on leaves: a number that is none of them is past them
-abbrev NoneUpTo : ℕ → ℕ → Type 0
-NoneUpTo zero t = Unit {0}
-NoneUpTo (suc k) t = NoneUpTo k t × (t ≢ suc k)
-
-pub past_all : (k t : ℕ) → NoneUpTo k t → 0 < t → k < t
-past_all zero t others some = some
-past_all (suc k) t others some = omega (arith, past_all k t others.0 some, others.1)
 
 -- a number that is no type's has the line of none
 pub other_line : (lines : List (List ℕ)) → length lines ≡ 18 → get_or lines 0 [] ≡ replicate 18 0 → (t : ℕ) → (0 < t → 18 ≤ t)

@@ -1,5 +1,5 @@
 -- The type and its n are asked for first, and then the length is compared with the list's.
-use Rattle.constraint.proofs.Library.{◌∙◌, ◌≡◌, eqb, rules, sym}
+use Rattle.constraint.proofs.Library.{◌∙◌, ◌≡◌, eqb, rules, sym, ap, not}
 use Rattle.constraint.proofs.Judged.{failed, free, passed, same_test, test_equal}
 use Rattle.constraint.specs.Steps.{at}
 use Rattle.constraint.specs.Types.{TypeKnown, length_of}
@@ -9,12 +9,12 @@ use Rattle.table_row.proofs.shape_fits.Goals as goal
 pub returns-then-not-type_known : goal.returns-then-not-type_known
 returns-then-not-type_known c =
     let test = c.type_known in
-    λ fits. failed test.result test.ensures c.if-not-type_known.true (rw (c.byte_at-tag.ensures, c.byte_at-n.ensures) fits.known)
+    λ fits. failed test.result test.ensures (ap not c.if-not-type_known.true) (rw (c.byte_at-tag.ensures, c.byte_at-n.ensures) fits.known)
 
 pub returns : goal.returns
 returns c =
     let test = c.type_known in
-    let known = passed test.result test.ensures c.if-not-type_known.false in
+    let known = passed test.result test.ensures (ap not c.if-not-type_known.false) in
     let body = c.args.body.now in
     let here : TypeKnown c.args.edition (at body 0) (at body 1) = rw (c.byte_at-tag.ensures, c.byte_at-n.ensures) at known in
     let long : c.length_of.result ≡ length_of (at body 0) (at body 1) = rw (c.byte_at-tag.ensures, c.byte_at-n.ensures) at

@@ -4,4 +4,5 @@ use Rattle.table_row.specs.Tables.{rows_of}
 use Rattle.table_row.proofs.Table.new.Goals as goal
 
 pub returns : goal.returns
+unfolding rows_of
 returns c = refl

@@ -9,13 +9,6 @@ use Rattle.constraint.specs.Accepted.{rows_questions}
 use Rattle.constraint.proofs.Accepted.{rows_full, rows_refused, rows_taken}
 use Rattle.table_row.proofs.Tables.{rows_from, rows_length}
 use Rattle.table_row.proofs.Table.validate.Goals as goal
-use Rattle.table_row.proofs.Table.validate.Tie as tie
-use Rattle.table_row.proofs.Table.validate.Reads as reads
-use Rattle.table_row.proofs.Table.validate.Lts as steps
-
--- a table has 32 entries
-size : (c : steps.At-loop tie.the-claims reads.Pre reads.Post goal.the-invariant-loop-i goal.the-decreases-loop-i) → length c.args.self.rows ≡ 32
-size c = sym (length-map c.args.self.rows _) ∙ c.well_formed.0.1.1.0.1.0.1
 
 pub returns-then-i-ge-ROW_LIMIT : goal.returns-then-i-ge-ROW_LIMIT
 returns-then-i-ge-ROW_LIMIT c =
@@ -28,7 +21,7 @@ returns-in-Refused c =
     let edition = c.args.edition in let i = c.loop-i.i in
     c.loop-i.invariant.1 _
     (subst⁻¹ (λ rows. Judged (rows_questions edition i rows []) (Refused c.in-Refused.number))
-    (rows_from table i _ (omega arith) (omega (arith, size c.before.before.before.before.before.before.before.before)))
+    (rows_from table i _ (omega arith) (omega arith))
     (rows_refused edition i _ (drop (i + 1) (rows_of table)) [] _ (omega arith) (rw c.in-Refused.is at c.validate.ensures)))
 
 pub loop-i-preserved : goal.loop-i-preserved
@@ -38,7 +31,7 @@ loop-i-preserved c =
       omega arith,
       λ a later.
           c.loop-i.invariant.1 a
-          (subst⁻¹ (λ rows. Judged (rows_questions edition i rows []) a) (rows_from table i _ (omega arith) (omega (arith, size c.before.before.before.before.before.before.before)))
+          (subst⁻¹ (λ rows. Judged (rows_questions edition i rows []) a) (rows_from table i _ (omega arith) (omega arith))
           (rows_taken edition i _ (drop (i + 1) (rows_of table)) [] a (omega arith) (rw c.in-Taken.is at c.validate.ensures)
           later)),
     )

@@ -7,18 +7,6 @@ use Rattle.table_row.specs.Records.{fields_as, roles_of, row_in, total}
 use Rattle.table_row.proofs.Judging.{body_long, known_row, row_bytes_long, row_stores}
 use Rattle.table_row.proofs.{Lines.total_small}
 use Rattle.table_row.proofs.TableRow.put.Goals as goal
-use Rattle.table_row.proofs.TableRow.put.Tie as tie
-use Rattle.table_row.proofs.TableRow.put.Reads as reads
-use Rattle.table_row.proofs.TableRow.put.Lts as steps
-
--- of a known type, with a known n
-known : (c : steps.Start tie.the-claims reads.Pre reads.Post) → TypeKnown c.requires.0.0 c.args.self.tag (at c.args.self.values 0)
-known c = known_row c.requires.0.0 c.args.self.tag c.args.self.values c.requires.0.1
-
--- so its length is that of its roles, and 1 more
-long : (c : steps.After-size_of tie.the-claims reads.Pre reads.Post) → 1 + c.size_of-size.result ≡ 1 + total (roles_of c.args.self.tag
-    (at c.args.self.values 0))
-long c = ap (λ (n : ℕ). 1 + n) (c.size_of-size.ensures ∙ ap total c.roles_of-roles.ensures)
 
 pub overflow_add-size : goal.overflow_add-size
 overflow_add-size c = omega (arith, c.size_of-size.ensures, total_small c.roles_of-roles.result)
@@ -30,16 +18,16 @@ put_fields-requires c =
       arith,
       c.requires.1,
       row_bytes_long (row_in row),
-      body_long c.requires.0.0 row.tag row.values (known c.before.before.before.before.before.before.before.before.before.before.before.before.before.before),
-      c.put_byte.auto.0,
-      c.put_two.auto.0,
+      body_long c.requires.0.0 row.tag row.values (known_row c.requires.0.0 row.tag row.values c.requires.0.1),
+      c.put_byte.auto.buffer,
+      c.put_two.auto.buffer,
     )
 
 pub returns : goal.returns
 returns c =
     let row = c.args.self in
-    row_stores c.requires.0.0 row.tag row.values (known c.before.before.before.before.before.before.before.before.before.before.before.before.before.before.before.before.before) c.args.buffer.now _ _ _ c.args.place _
-    (long c.before.before.before.before.before.before.before.before.before.before.before.before.before)
+    row_stores c.requires.0.0 row.tag row.values (known_row c.requires.0.0 row.tag row.values c.requires.0.1) c.args.buffer.now _ _ _ c.args.place _
+    (ap (λ (n : ℕ). 1 + n) (c.size_of-size.ensures ∙ ap total c.roles_of-roles.ensures))
     c.put_two.ensures c.put_byte.ensures
     (c.put_fields.ensures
     ∙ ap (λ (r : List ℕ). sets c.put_byte.new.buffer (c.args.place + 3) (fields_bytes (fields_as r row.values)))

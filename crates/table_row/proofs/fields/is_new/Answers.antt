@@ -6,6 +6,7 @@ use Rattle.constraint.specs.Accepted.{kinds_in}
 use Rattle.table_row.specs.Records.{fields_from}
 use Rattle.table_row.proofs.FieldByField.{fields_end, kind_elsewhere, kind_here}
 use Rattle.table_row.proofs.fields.is_new.Goals as goal
+use Rattle.table_row.proofs.fields.is_new.Goals.{then-is_kind+else-values-i, else-is_kind}
 
 pub returns-then-values-i : goal.returns-then-values-i
 returns-then-values-i c =
@@ -22,11 +23,11 @@ loop-i-preserved c =
     let i = c.loop-i.i in (
       omega arith,
       λ b later. c.loop-i.invariant.1 b
-          (⊎_elim
-          (λ came. rw (kind_here a.roles.now a.values.now i (omega (arith, c.requires.0)) (is ∙ came.0.taken))
-          (same_test (λ absent. (λ e. came.2.left (sym e), absent)) (λ absent. absent.1) b later))
-          (λ came. rw (kind_elsewhere a.roles.now a.values.now i (omega (arith, c.requires.0)) (is ∙ came.left)) later)
-          c.if-is_kind.branch),
+          (elim c.if-is_kind.branch [
+            then-is_kind+else-values-i w ↦ (rw (kind_here a.roles.now a.values.now i (omega (arith, c.requires.0)) (is ∙ w.if-is_kind.true))
+                (same_test (λ absent. (λ e. w.if-values-i.false (sym e), absent)) (λ absent. absent.1) b later))
+          | else-is_kind w ↦ (rw (kind_elsewhere a.roles.now a.values.now i (omega (arith, c.requires.0)) (is ∙ w.if-is_kind.false)) later)
+          ]),
     )
 
 pub returns : goal.returns

@@ -1,5 +1,5 @@
 -- The loop asks field after field: the answer to what is asked of those left is the answer to all.
-use Rattle.constraint.proofs.Library.{Bool, ◌-◌, ◌≤◌, arith, false, true}
+use Rattle.constraint.proofs.Library.{Bool, ◌-◌, ◌≤◌, arith, false, true, ap, not}
 use Rattle.constraint.proofs.Judged.{failed, free, passed}
 use Rattle.constraint.specs.Records.{Decides}
 use Rattle.constraint.specs.Accepted.{EachField, KindClassFits}
@@ -11,13 +11,13 @@ pub returns-then-not-kind_class_valid : goal.returns-then-not-kind_class_valid
 returns-then-not-kind_class_valid c =
     let a = c.args in let test = c.kind_class_valid in
     c.loop-i.invariant.1 false
-    (λ all. failed test.result test.ensures c.if-not-kind_class_valid.true
+    (λ all. failed test.result test.ensures (ap not c.if-not-kind_class_valid.true)
     (field_parts KindClassFits a.roles.now a.values.now c.loop-i.i (omega (arith, c.requires)) all).0)
 
 pub loop-i-preserved : goal.loop-i-preserved
 loop-i-preserved c =
     let a = c.args in let test = c.kind_class_valid in
-    let here = passed test.result test.ensures c.if-not-kind_class_valid.false in (
+    let here = passed test.result test.ensures (ap not c.if-not-kind_class_valid.false) in (
       omega arith,
       λ b later. c.loop-i.invariant.1 b (field_here KindClassFits a.roles.now a.values.now c.loop-i.i (omega
           (arith, c.requires)) here b later),

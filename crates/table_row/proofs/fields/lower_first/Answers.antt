@@ -1,5 +1,5 @@
 -- The loop keeps the bound that it passed: what is asked of the fields left, with that bound before them, is what is asked of all.
-use Rattle.constraint.proofs.Library.{Bool, ◌-◌, ◌≤◌, arith, false, true}
+use Rattle.constraint.proofs.Library.{Bool, ◌-◌, ◌≤◌, arith, false, true, ap, not}
 use Rattle.constraint.proofs.Judged.{failed, free, passed}
 use Rattle.constraint.specs.Records.{Decides}
 use Rattle.constraint.specs.Accepted.{EachField, FieldInRange, Ordered}
@@ -12,7 +12,7 @@ returns-then-not-bound_fits c =
     let a = c.args in let test = c.bound_fits in
     c.loop-i.invariant.2 false
     (bound_missed a.n c.loop-i.low a.roles.now a.values.now c.loop-i.i (omega (arith, c.requires.0))
-    (failed test.result test.ensures c.if-not-bound_fits.true))
+    (failed test.result test.ensures (ap not c.if-not-bound_fits.true)))
 
 pub bound_after-low-requires : goal.bound_after-low-requires
 bound_after-low-requires c =
@@ -23,7 +23,7 @@ pub loop-i-preserved : goal.loop-i-preserved
 loop-i-preserved c =
     let a = c.args in let i = c.loop-i.i in
     let test = c.bound_fits in
-    let here = passed test.result test.ensures c.if-not-bound_fits.false in (
+    let here = passed test.result test.ensures (ap not c.if-not-bound_fits.false) in (
       omega arith,
       (field_parts FieldInRange a.roles.now a.values.now i (omega (arith, c.requires.0)) c.loop-i.invariant.1).1,
       λ b later. c.loop-i.invariant.2 b

@@ -1,5 +1,5 @@
 -- The loop asks field after field: the answer to what is asked of those left is the answer to all.
-use Rattle.constraint.proofs.Library.{Bool, ◌-◌, ◌≤◌, arith, false, true}
+use Rattle.constraint.proofs.Library.{Bool, ◌-◌, ◌≤◌, arith, false, true, ap, not}
 use Rattle.constraint.proofs.Judged.{failed, free, passed}
 use Rattle.constraint.specs.Records.{Decides}
 use Rattle.constraint.specs.Accepted.{EachField, FieldInRange}
@@ -11,13 +11,13 @@ pub returns-then-not-range_fits : goal.returns-then-not-range_fits
 returns-then-not-range_fits c =
     let a = c.args in let test = c.range_fits in
     c.loop-i.invariant.1 false
-    (λ all. failed test.result test.ensures c.if-not-range_fits.true
+    (λ all. failed test.result test.ensures (ap not c.if-not-range_fits.true)
     (field_parts FieldInRange a.roles.now a.values.now c.loop-i.i (omega (arith, c.requires)) all).0)
 
 pub loop-i-preserved : goal.loop-i-preserved
 loop-i-preserved c =
     let a = c.args in let test = c.range_fits in
-    let here = passed test.result test.ensures c.if-not-range_fits.false in (
+    let here = passed test.result test.ensures (ap not c.if-not-range_fits.false) in (
       omega arith,
       λ b later. c.loop-i.invariant.1 b (field_here FieldInRange a.roles.now a.values.now c.loop-i.i (omega
           (arith, c.requires)) here b later),

@@ -1,8 +1,8 @@
 -- Each arm is the line of its type; no other number is a type.
-use Rattle.constraint.proofs.Library.{rules, refl}
+use Rattle.constraint.proofs.Library.{arith, refl}
 use Rattle.table_row.specs.Records.{need_lines}
-use Rattle.table_row.proofs.{Lines.other_line, Lines.past_all}
+use Rattle.table_row.proofs.{Lines.other_line}
 use Rattle.table_row.proofs.types.need_line.Goals as goal
 
 pub returns-in_default : goal.returns-in_default
-returns-in_default c = let t = c.args.tag in other_line need_lines refl refl t (past_all 17 t c.in_default.rest)
+returns-in_default c = let t = c.args.tag in other_line need_lines refl refl t (λ some. omega arith)

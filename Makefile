@@ -67,15 +67,11 @@ ARCHIVES := $(DELKUTHI_LIB)/libdelkuthi.a
 put_together = cp $(ARCHIVES) $@.new
 else
 ARCHIVES := $(patsubst %,target/staticlib/lib%.a,$(PARTS))
-CRATES   := crates.txt $(shell find crates -type f)
-BELOW    := $(sort $(PARTS) $(shell sed -nE 's/^(delkuthi|stretch_ffi|queries): *//p' crates.txt))
-# rt proves crates side by side here, and one after the other in rt staticlib.
-$(BUILD)/proved: $(CRATES)
+CRATES   := crates.txt $(shell find crates -name out -prune -o -type f -print)
+$(ARCHIVES): target/staticlib/lib%.a: $(CRATES)
 	@command -v rt >/dev/null || { echo "rt, of the Rattle kit, is not installed; set DELKUTHI_LIB to the folder of a libdelkuthi.a"; exit 1; }
-	@python3 release/progress.py $(LOG)/proofs.log rt check $(BELOW)
+	@python3 release/progress.py $(LOG)/$*.log bash release/archive $*
 	@touch $@
-$(ARCHIVES): target/staticlib/lib%.a: $(BUILD)/proved
-	@python3 release/progress.py $(LOG)/$*.log rt staticlib $*
 put_together = { echo "create $@.new"; for part in $(ARCHIVES); do echo "addlib $$part"; done; echo save; echo end; } | ar -M
 endif
 

@@ -4,8 +4,8 @@
     portable.py FOLDER CRATE ...
 
 FOLDER is replaced. It gets a module for each CRATE of crates.txt and for each crate that one of them uses, from the same
-sources without `ghost use` items and without the clauses `requires` and `ensures`. The program adds `derive(Clone, Copy)`,
-which every proved type has implicitly; for each exported function one with pointers and lengths, as include/delkuthi.h
+sources without `ghost use` items, without the words for the prover and without the clauses `requires` and `ensures`. The program
+adds `derive(Clone, Copy)` to every type that may be copied; for each exported function one with pointers and lengths, as include/delkuthi.h
 declares it; the headers; and a script of calls to play on the machine. Anything else that is not Rust stops the program: it
 guesses nothing.
 """
@@ -16,9 +16,11 @@ from pathlib import Path
 
 ROOT = Path(__file__).resolve().parent.parent
 GHOST_USE = re.compile(r"^(pub )?ghost use [^;]*;\n", re.M)
+# What is said to the prover, and the derives of the sources, for which the program writes its own.
+ATTRIBUTE = re.compile(r"^[ \t]*#!?\[(?:tactic\(.*\)|derive\([\w, ]*\))\]\n", re.M)
 CLAUSE = re.compile(r"\n[ \t]*(requires|ensures)(\s+\w+)?\s*\{")
 TYPE = re.compile(r"^(pub )?(struct|enum) \w+(<[^>]*>)? ?[{(][^})]*[})]", re.M)
-EXPORTED = re.compile(r'#\[no_mangle\]\npub extern "C" fn (\w+)\(([^)]*)\)( -> \w+)?')
+EXPORTED = re.compile(r'#\[unsafe\(no_mangle\)\]\npub extern "C" fn (\w+)\(([^)]*)\)( -> \w+)?')
 SLICE = re.compile(r"&(mut )?\[u8\]")
 # Only contracts have these outside of comments: letters that are not ASCII, and the word ghost.
 LEFT_OVER = re.compile(r"^(?![ \t]*//).*([^\x00-\x7f]|\bghost\b).*$", re.M)
@@ -71,12 +73,12 @@ def for_a_host(found):
 
 def rust(text, crate, used):
     """Returns a source file of a crate as a module of the portable one."""
-    text = without_clauses(GHOST_USE.sub("", text))
+    text = without_clauses(ATTRIBUTE.sub("", GHOST_USE.sub("", text)))
     left = LEFT_OVER.search(re.sub(r"//.*", "", text))
     if left:
         raise NotUnderstood(f"not understood: {left.group().strip()}")
     text = EXPORTED.sub(for_a_host, with_copies(text))
-    if "#[no_mangle]" in text:
+    if "no_mangle" in text:
         raise NotUnderstood("an exported function of another form")
     text = re.sub(r"\bcrate::", f"crate::{crate}::", text)
     named = [one for one in used if re.search(rf"(?<![:\w]){one}::", text)]
@@ -86,7 +88,7 @@ def rust(text, crate, used):
 def crates():
     """Returns the crates of crates.txt, each with those that it uses."""
     lines = (line.split("#")[0].strip() for line in (ROOT / "crates.txt").read_text().splitlines())
-    return {name.strip(): used.split() for name, used in (line.split(":") for line in lines if line)}
+    return {name.split()[0]: used.split() for name, used in (line.split(":") for line in lines if line)}
 
 
 def needed(listed, names):

@@ -33,6 +33,8 @@ IMPORT = re.compile(r"^(?P<before>(?:ghost |(?:unfoldable )?pub )?use )(?P<modul
 TOKENS = re.compile(r"\[\]|[^\s(){};,.\"⌜⌝⟦⟧@]+")
 # A declaration in a line of proofs. The proof of a function is named after the function.
 DECLARED = re.compile(r"^\s*(?:(?:pub|abbrev|unfoldable|opaque|data|record|private)\s+)*([^\s(){}.,;:]+)(?:\s+(?:\([^)]*\)|\{[^}]*\}))*\s+:(?:\s|$)")
+# The answer to a goal of a function, or an invariant of a loop: the prover takes it by its name.
+ANSWER = re.compile(r"^(?:abbrev )?pub \S+ : goal\.\S+$")
 # A module with parameters declares no name, and what stands in its line is used.
 MODULE = re.compile(r"\s*(?:pub )?module\b")
 COMMENT = re.compile(r"(?:^|\s)(?:--|//).*")
@@ -81,11 +83,11 @@ def tokens(text):
 
 
 def is_used(name, there):
-    """Does a name occur: by itself, before a dot, or, with places for arguments as `_≡_`, by its parts?"""
+    """Does a name occur: by itself, before a dot, or, with places for arguments as `◌≡◌`, by its parts?"""
     if name in there:
         return True
-    parts = [part for part in name.split("_") if part]
-    return "_" in name and parts != [] and all(part in there for part in parts)
+    parts = [part for part in name.split("◌") if part]
+    return "◌" in name and parts != [] and all(part in there for part in parts)
 
 
 def imported_by(line):
@@ -104,11 +106,11 @@ def spelling(item):
 
 
 def module_names(file):
-    """Returns the names of a file of definitions or proofs in imports of the same crate and of other crates."""
+    """Returns the name of a file of definitions or proofs in imports."""
     parts = file.relative_to(ROOT).with_suffix("").parts
     if len(parts) < 4 or parts[0] != "crates":
         return []
-    return [".".join([f"Rattle·{parts[1]}·{parts[2]}", *parts[2:]]), ".".join([f"Rattle·{parts[1]}", *parts[2:]])]
+    return [".".join(["Rattle", *parts[1:]])]
 
 
 def brought(texts):
@@ -184,7 +186,9 @@ def declarations(text):
             continue
         line = COMMENT.sub("", line)
         declared = DECLARED.match(line)
-        if declared:
+        if ANSWER.match(line):
+            found.append((None, number, set()))
+        elif declared:
             found.append((declared[1], number, set()))
             line = line[declared.end(1):]
         elif MODULE.match(line):
@@ -215,9 +219,9 @@ def idle(texts):
         return word in cited or bool(users.get(word, set()) - {(file, name)})
 
     def is_idle(file, name):
-        parts = [part for part in name.split("_") if part]
+        parts = [part for part in name.split("◌") if part]
         whole = has_other_users(name, file, name)
-        return not (whole or name.endswith("-spec") or ("_" in name and all(has_other_users(part, file, name) for part in parts)))
+        return not (whole or name.endswith("_spec") or ("◌" in name and all(has_other_users(part, file, name) for part in parts)))
 
     return {file: [(name, number) for name, number, _ in names if name and is_idle(file, name)] for file, names in declared.items()}
 

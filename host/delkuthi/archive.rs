@@ -55,13 +55,21 @@ fn put_together(parts: &[&str], archive: &Path) {
 fn built(name: &str) -> PathBuf {
     let root = Path::new(env!("CARGO_MANIFEST_DIR")).join("../..");
     changing(&root.join("crates.txt"));
-    changing(&root.join("crates"));
-    match Command::new("rt").args(["staticlib", name]).current_dir(&root).status() {
+    // What rt makes, in the folder out of a crate, is no source.
+    for folder in fs::read_dir(root.join("crates")).into_iter().flatten().flatten() {
+        for part in ["src", "specs", "proofs"] {
+            changing(&folder.path().join(part));
+        }
+    }
+    match Command::new("bash").args(["release/archive", name]).current_dir(&root).status() {
         Ok(status) if status.success() => root.join("target/staticlib"),
-        Ok(status) => give_up(&format!("rt staticlib {name} failed ({status}); its output is above")),
+        Ok(status) => give_up(&format!(
+            "release/archive {name} failed ({status}); its output is above. Without rt, of the Rattle kit, in the PATH, \
+             set DELKUTHI_LIB to the folder of lib{name}.a"
+        )),
         Err(error) => give_up(&format!(
-            "rt, of the Rattle kit, cannot be run ({error}): set DELKUTHI_LIB to the folder of lib{name}.a, \
-             or put rt in the PATH to have it proved and built"
+            "bash cannot be run ({error}): set DELKUTHI_LIB to the folder of lib{name}.a, \
+             or install it, and put rt in the PATH, to have it proved and built"
         )),
     }
 }

@@ -1,5 +1,5 @@
 -- What is read from the part that starts at the length field is the record of the whole at that place.
-use Rattle.constraint.proofs.Library.{◌+◌, ◌≤◌, arith, length, rules, }
+use Rattle.constraint.proofs.Library.{◌+◌, ◌≤◌, arith, length}
 use Rattle.recording.proofs.{Records.reads_none, Records.reads_refused, Records.reads_whole}
 use Rattle.recording.specs.Record.{ReadsCall}
 use Rattle.recording.proofs.call_at.Goals as goal

@@ -1,5 +1,5 @@
 -- The length decides which call it is, and the time stands in the last eight bytes whatever it is.
-use Rattle.constraint.proofs.Library.{◌≡◌, arith, length, rules, refl}
+use Rattle.constraint.proofs.Library.{◌≡◌, arith, length, refl}
 use Rattle.recording.proofs.call_of.Goals as goal
 
 pub returns-then-length-eq8 : goal.returns-then-length-eq8

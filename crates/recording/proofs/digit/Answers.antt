@@ -1,5 +1,5 @@
 -- A byte is at most 255, so that what it counts for fits wherever one counts for 256 ^ 7 at most.
-use Rattle.constraint.proofs.Library.{arith, rules, refl}
+use Rattle.constraint.proofs.Library.{arith, refl}
 use Rattle.constraint.specs.Steps.{at}
 use Rattle.recording.proofs.{Times.digit_most}
 use Rattle.recording.proofs.digit.Goals as goal

@@ -1,5 +1,5 @@
 -- Added up byte by byte, each in its place, eight bytes are their number.
-use Rattle.constraint.proofs.Library.{arith, rules, }
+use Rattle.constraint.proofs.Library.{arith}
 use Rattle.recording.proofs.{Times.number_of_eight}
 use Rattle.recording.proofs.eight_there.Goals as goal
 

@@ -1,5 +1,5 @@
 -- There is room for ten bytes, and the first two of them are the length field.
-use Rattle.constraint.proofs.Library.{◌∙◌, arith, eqb-true, rules, sym}
+use Rattle.constraint.proofs.Library.{◌∙◌, arith, eqb-true, sym}
 use Rattle.constraint.proofs.Lists.{both}
 use Rattle.recording.proofs.is_tick.Goals as goal
 

@@ -1,5 +1,5 @@
 -- The bytes behind the length field are the record's body, whose call is the record's.
-use Rattle.constraint.proofs.Library.{◌+◌, ◌≡◌, arith, rules, }
+use Rattle.constraint.proofs.Library.{◌+◌, ◌≡◌, arith}
 use Rattle.constraint.specs.{Recording.RecordAt, Table.length_at}
 use Rattle.recording.proofs.{Records.body_length_lem, Records.record_none, Records.record_whole}
 use Rattle.recording.proofs.read_record.Goals as goal

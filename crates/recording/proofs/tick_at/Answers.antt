@@ -1,5 +1,5 @@
 -- A whole record of length 8 is a tick, and its time stands behind the length field.
-use Rattle.constraint.proofs.Library.{arith, rules, sym}
+use Rattle.constraint.proofs.Library.{arith, sym}
 use Rattle.constraint.proofs.Lists.{both}
 use Rattle.recording.proofs.{Records.tick_whole}
 use Rattle.recording.specs.Record.{TickAt}

@@ -1,5 +1,5 @@
 -- Added up byte by byte, each in its place, two bytes are their number.
-use Rattle.constraint.proofs.Library.{arith, rules, }
+use Rattle.constraint.proofs.Library.{arith}
 use Rattle.recording.proofs.{Times.number_of_two}
 use Rattle.recording.proofs.two_there.Goals as goal
 

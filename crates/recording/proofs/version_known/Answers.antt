@@ -1,5 +1,5 @@
 -- The byte read past the end is 0, so a first byte of 1 or 2 is there.
-use Rattle.constraint.proofs.Library.{Bool, List, [], ◌∙◌, ◌∷◌, ◌≡◌, ◌≤◌, arith, eq-eqb, eqb, eqb-false, eqb-true, false, rules, refl, true, ℕ}
+use Rattle.constraint.proofs.Library.{Bool, List, [], ◌∙◌, ◌∷◌, ◌≡◌, ◌≤◌, arith, eq-eqb, eqb, eqb-false, eqb-true, false, refl, true, ℕ}
 use Rattle.constraint.specs.{Recording.VersionKnown, Records.Decides, Steps.at}
 use Rattle.recording.proofs.version_known.Goals as goal
 

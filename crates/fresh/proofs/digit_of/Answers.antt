@@ -12,7 +12,7 @@ parameters_read : (r : Row) (b : RowUndo) → parameters_at (get_or (Stored.word
 unfolding Stored.words_of_row row_as_words number_words
 parameters_read r b = refl
 
-asked : (c : steps.After-concerns tie.the-claims reads.Pre reads.Post) (h : Lent) → let a = c.before.args in a.m.now ≡ words_of_lent h → Shaped h
+asked : (c : steps.After-concerns tie.the-claims reads.Pre reads.Post) (h : Lent) → let a = c.args in a.m.now ≡ words_of_lent h → Shaped h
     → c.concerns.result ≡ is_of h.monitor a.kind a.i
 asked c h e s =
     let st = c.before in let a = st.args in

@@ -10,7 +10,7 @@ loop-kind-init c = (omega arith, λ h s lies. lies)
 
 pub loop-kind-preserved : goal.loop-kind-preserved
 loop-kind-preserved c =
-    let n = c.before.args.n in let kind = c.loop.kind in (
+    let n = c.args.n in let kind = c.loop.kind in (
       omega arith,
       λ h s lies.
           let m = h.monitor in
@@ -30,4 +30,4 @@ returns c h s lies =
     ∙ ap (λ (lists : List ℕ). words_of_lent (with_lists h lists)) (sets_whole h.monitor n)
 
 pub set_of-rows-requires : goal.set_of-rows-requires
-set_of-rows-requires c = c.before.requires
+set_of-rows-requires c = c.requires

@@ -50,19 +50,19 @@ returns-then-not-reaches c =
 
 pub loop-n-smaller : goal.loop-n-smaller
 loop-n-smaller c =
-    omega (arith, ltb-true c.loop-n.n 64 c.if-n-lt-SIZE.true)
+    omega arith
 
 pub loop-n-preserved : goal.loop-n-preserved
 loop-n-preserved c =
     let s = c.time_at in let r = c.reaches in
     let a = c.args in
     let more = one_more a.lower a.t a.times.now a.head a.len _ c.loop-n.invariant.2 _ s.ensures _ r.ensures in
-    (omega (arith, c.loop-n-test.true), omega (arith, ltb-true c.loop-n.n 64 c.if-n-lt-SIZE.true), more c.if-not-reaches.false)
+    (omega arith, omega arith, more c.if-not-reaches.false)
 
 pub returns-else-n-lt-SIZE : goal.returns-else-n-lt-SIZE
 returns-else-n-lt-SIZE c =
     let a = c.args in
-    ends a.lower a.t a.times.now a.head a.len _ c.loop-n.invariant.2 (inr (ltb-false _ _ c.if-n-lt-SIZE.false))
+    ends a.lower a.t a.times.now a.head a.len _ c.loop-n.invariant.2 (inr c.if-n-lt-SIZE.false)
 
 pub returns-after-loop-n : goal.returns-after-loop-n
 returns-after-loop-n c =

@@ -5,7 +5,7 @@ use Rattle.row_type.proofs.parts.front.Goals as goal
 
 pub returns-then-len-eq0 : goal.returns-then-len-eq0
 unfolding ring
-returns-then-len-eq0 c = search needs
+returns-then-len-eq0 c = search rules
 
 pub returns : goal.returns
 returns c =

@@ -7,4 +7,4 @@ unfolding row_as_words
 returns c parameters times state past e =
     let kept = c.save_undo_all.ensures parameters times state past e in
     let done = c.break_numbers.ensures parameters state (undo_of times state 0 c.args.number) (ap (λ m. get_or m 1 []) kept) in
-    ap (λ (w : List ℕ). set c.save_undo_all.new.0 1 w) done ∙ rw kept refl
+    ap (λ (w : List ℕ). set c.save_undo_all.new.row 1 w) done ∙ rw kept refl

@@ -9,7 +9,7 @@ returns-then-len-le-SIZE c parameters times state past e =
     let a = c.args in
     let left = drop 1 (ring times state.head state.len) in
     let some : 0 < state.len = rw e at c.if-len-gt0.true in
-    let few : state.len ≤ 64 = leb-true state.len 64 (rw e at c.if-len-le-SIZE.true) in
+    let few : state.len ≤ 64 = rw e at c.if-len-le-SIZE.true in
     let kept = c.save_undo.ensures parameters times state past e in
     rw (
       c.place_of.ensures,

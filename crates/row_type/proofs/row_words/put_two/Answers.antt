@@ -7,7 +7,7 @@ unfolding row_as_words number_words
 returns c parameters times state past e =
     let a = c.args in
     let kept = c.save_undo.ensures parameters times state past e in
-    let both : ring_of c.put_pair.new.0 state.head state.len
+    let both : ring_of c.put_pair.new.times state.head state.len
     ≡ put_ring (a.place + 1) a.second (put_ring a.place a.first (ring_of times state.head state.len)) =
     rw (e, kept) at c.put_pair.ensures in
     rw (← both, kept, c.place_of.ensures, e) refl

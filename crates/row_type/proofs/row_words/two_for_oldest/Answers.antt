@@ -8,10 +8,10 @@ unfolding row_as_words number_words
 returns-then-len-le-SIZE c parameters times state past e =
     let a = c.args in
     let some : 2 ≤ state.len = rw e at c.if-len-ge2.true in
-    let few : state.len ≤ 64 = leb-true state.len 64 (rw e at c.if-len-le-SIZE.true) in
+    let few : state.len ≤ 64 = rw e at c.if-len-le-SIZE.true in
     let kept = c.save_undo.ensures parameters times state past e in
     let renewed = two_renewed times state.head state.len a.first a.second some few in
     rw (c.place_of.ensures, kept, c.place_of-after.ensures, c.place_of-at.ensures, e, renewed, end_stays state.head state.len 2 some) refl
 
 pub returns : goal.returns
-returns c = search needs
+returns c = search rules

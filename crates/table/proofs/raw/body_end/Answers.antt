@@ -1,5 +1,5 @@
 -- A known type's body has at most 34 bytes, so it ends within those that the row is given.
-use Rattle.table.proofs.Names.{◌*◌, ◌+◌, ◌≡◌, ◌≤◌, ap, arith, body_length, free, length, raw_size, ℕ}
+use Rattle.table.proofs.Names.{◌*◌, ◌+◌, ◌≡◌, ◌≤◌, ap, arith, body_length, length, raw_size, ℕ}
 use Rattle.table.proofs.RawRows.{body_within}
 use Rattle.table.proofs.raw.body_end.Goals as goal
 use Rattle.table.proofs.raw.body_end.Tie as tie

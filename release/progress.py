@@ -3,7 +3,7 @@
 
     progress.py LOG COMMAND [WORD]..
 
-A part is a crate that rt has proved (`[7/31] lent 41 s`), the edits of a crate that rt has refused, a file of tests that cargo has run, or
+A part is a crate that rt has proved (`[7/31] lent`), the edits of a crate that rt has refused, a file of tests that cargo has run, or
 one that pytest has run. If the command fails, the end of the log is printed too. The exit status is the command's.
 """
 import re
@@ -13,9 +13,9 @@ from pathlib import Path
 
 ROOT = Path(__file__).resolve().parent.parent
 TAIL = 40
-PROVED = re.compile(r"rt: (\w+) proved \((?:(\d+) s|unchanged\b.*)\)$")
-EDIT_REFUSED = re.compile(r"rt: must-fail \S+: refused")
-FAILED = re.compile(r"rt: (?:\w+ NOT PROVED|must-fail \S+: (?:NOT REFUSED|BAD EDIT)|FAILED:|in no crate)")
+PROVED = re.compile(r"rt: (\w+) (?:proved()|proved \((?:(\d+) s|unchanged\b.*)\)|is kept: .*)$")
+EDIT_REFUSED = re.compile(r"rt: (?:must-fail )?\S+: refused, as it must be")
+FAILED = re.compile(r"rt: (?:\w+ NOT PROVED|(?:must-fail )?\S+: (?:NOT REFUSED|BAD EDIT)|FAILED:|in no crate)")
 BUILT = re.compile(r"(target/staticlib/\S+) built$")
 CARGO_FILE = re.compile(r"\s+Running (?:unittests )?(\S+) \(")
 CARGO_RESULT = re.compile(r"test result: \w+\. (\d+) passed; (\d+) failed; .* finished in (\d+)\.\d+s$")
@@ -52,7 +52,7 @@ class Progress:
     def short(self, line):
         """The line to print for a line of output, or none."""
         if found := PROVED.match(line):
-            return self.crate(found[1], found[2])
+            return self.crate(found[1], found[3] if found[2] is None else "")
         if EDIT_REFUSED.match(line):
             self.edits += 1
             return None
@@ -65,12 +65,12 @@ class Progress:
         return self.of_cargo(line)
 
     def crate(self, name, seconds):
-        """The line for a crate that is proved; a crate that has not changed is only counted."""
+        """The line for a crate that is proved, with the seconds if they are known; a crate that has not changed is only counted."""
         self.proved += 1
         if seconds is None:
             self.unchanged += 1
             return None
-        return f"[{self.proved}/{self.total}] {name} {seconds} s"
+        return f"[{self.proved}/{self.total}] {name}" + (f" {seconds} s" if seconds else "")
 
     def of_cargo(self, line):
         """The line for a file of tests that cargo has run."""

@@ -4,6 +4,7 @@ pub mod Blocks
 pub mod Parts
 pub mod Lists
 pub mod RowSets
+pub mod Midways
 pub mod RefusalOrder
 pub mod RowByRow
 pub mod Concerned

@@ -30,73 +30,16 @@ each_fits none_more n = fits_none
 each_fits (one_more one others) zero = one
 each_fits (one_more one others) (suc n) = each_fits others n
 
--- a number above another that is not the next is above that too
-next : (k n : ℕ) → k < n → n ≢ k + 1 → k + 1 < n
-next k n above other = omega (arith, above, other)
-
--- the numbers that the code does not name, which are those of no type
-abbrev pub NoneOf : Type 0 → ℕ → Type 0
-NoneOf A n =
-    ((((((((((((((A
-    × (n ≡ 1 → ⊥))
-    × (n ≡ 2 → ⊥))
-    × ((n ≡ 3) ⊎ (n ≡ 5) → ⊥))
-    × (n ≡ 4 → ⊥))
-    × (n ≡ 6 → ⊥))
-    × (n ≡ 7 → ⊥))
-    × (n ≡ 8 → ⊥))
-    × (n ≡ 9 → ⊥))
-    × (n ≡ 10 → ⊥))
-    × (n ≡ 11 → ⊥))
-    × (n ≡ 12 → ⊥))
-    × (n ≡ 13 → ⊥))
-    × (n ≡ 14 → ⊥))
-    × (n ≡ 15 → ⊥))
-    × (n ≡ 16 → ⊥)
-
-pub none_of : {A : Type 0} (n : ℕ) → NoneOf A n → machine_of n ≡ no_machine
-none_of zero is = refl
-none_of (suc n) is =
-    List·getD-eq-default machines no_machine {n = suc n}
-    (next 15 (suc n)
-    (next 14 (suc n)
-    (next 13 (suc n)
-    (next 12 (suc n)
-    (next 11 (suc n)
-    (next 10 (suc n)
-    (next 9 (suc n)
-    (next 8 (suc n)
-    (next 7 (suc n)
-    (next 6 (suc n)
-    (next 5 (suc n)
-    (next 4 (suc n)
-    (next 3 (suc n)
-    (next 2 (suc n)
-    (next 1 (suc n)
-    (next 0 (suc n)
-    (omega arith)
-    is.0.0.0.0.0.0.0.0.0.0.0.0.0.0.1)
-    is.0.0.0.0.0.0.0.0.0.0.0.0.0.1)
-    (λ e. is.0.0.0.0.0.0.0.0.0.0.0.0.1 (inl e)))
-    is.0.0.0.0.0.0.0.0.0.0.0.1)
-    (λ e. is.0.0.0.0.0.0.0.0.0.0.0.0.1 (inr e)))
-    is.0.0.0.0.0.0.0.0.0.0.1)
-    is.0.0.0.0.0.0.0.0.0.1)
-    is.0.0.0.0.0.0.0.0.1)
-    is.0.0.0.0.0.0.0.1)
-    is.0.0.0.0.0.0.1)
-    is.0.0.0.0.0.1)
-    is.0.0.0.0.1)
-    is.0.0.0.1)
-    is.0.0.1)
-    is.0.1)
-    is.1)
-
 -- ---- the word on which an event dispatches
 
 -- a number beyond those of the types
 pub beyond : (n : ℕ) → 16 < n → machine_of n ≡ no_machine
 beyond n h = List·getD-eq-default machines no_machine {n = n} h
+
+-- the numbers that the code does not name, which are those of no type
+pub none_of : (n : ℕ) → (n ≢ 0 → 16 < n) → machine_of n ≡ no_machine
+none_of zero _ = refl
+none_of (suc n) above = beyond (suc n) (above (λ z. absurd (omega (arith, z))))
 
 -- it names the machine of the row's type
 same_machine : (tag : ℕ) → machine_of tag ≡ machine_of (min tag 30 % 32)

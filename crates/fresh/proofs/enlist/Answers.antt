@@ -10,11 +10,11 @@ loop-kind-init c = (omega arith, λ h s lies. lies)
 
 pub loop-kind-preserved : goal.loop-kind-preserved
 loop-kind-preserved c =
-    let n = c.before.args.n in let kind = c.loop.kind in (
+    let n = c.args.n in let kind = c.loop-kind.kind in (
       omega arith,
       λ h s lies.
           let m = h.monitor in
-          let so_far = c.loop.invariant.1 h s lies in
+          let so_far = c.loop-kind.invariant.1 h s lies in
           let h' = with_lists h (padded 64 (sets_to m n kind)) in
           let wide = shaped_lists h s (sets_to m n kind) in
           c.put_set.ensures h' so_far wide
@@ -30,4 +30,4 @@ returns c h s lies =
     ∙ ap (λ (lists : List ℕ). words_of_lent (with_lists h lists)) (sets_whole h.monitor n)
 
 pub set_of-rows-requires : goal.set_of-rows-requires
-set_of-rows-requires c = c.before.requires
+set_of-rows-requires c = c.requires

@@ -1,18 +1,12 @@
 -- The version byte is asked for first, and then the rows of its edition.
-use Rattle.table.proofs.Names.{ReadsRows, VersionUpTo, failed, rules, passed, read_of, subst, version_refused, version_taken, ℕ}
+use Rattle.table.proofs.Names.{ReadsRows, ap, failed, not, yes_of, read_of, subst, version_refused, version_taken, ℕ}
 use Rattle.table.proofs.read.Goals as goal
-use Rattle.table.proofs.read.Tie as tie
-use Rattle.table.proofs.read.Reads as reads
-use Rattle.table.proofs.read.Lts as steps
-
-version : (c : steps.Else1 tie.the-claims reads.Pre reads.Post) → VersionUpTo c.args.newest c.args.bytes.now
-version c = passed c.version_known.result c.version_known.ensures c.if-not-version_known.false
 
 pub returns-then-not-version_known : goal.returns-then-not-version_known
 returns-then-not-version_known c =
     let refused = c.refused.ensures in let test = c.version_known in
     record {
-      reads = rw refused.0 (version_refused (failed test.result test.ensures c.if-not-version_known.true));
+      reads = rw refused.0 (version_refused (failed test.result test.ensures (ap not c.if-not-version_known.true)));
       holds = rw refused.0 refused.1;
     }
 
@@ -20,10 +14,10 @@ pub returns : goal.returns
 returns c =
     let edition = c.byte_at-edition in let a = c.args in let read = c.read_rows in
     record {
-      reads = version_taken (version c.before.before.before)
+      reads = version_taken (yes_of c.version_known.result c.version_known.ensures c.if-not-version_known.false)
           (subst (λ (e : ℕ). ReadsRows e a.bytes.now 0 1 (read_of read.result)) edition.ensures read.ensures.0);
       holds = read.ensures.1;
     }
 
 pub read_rows-requires : goal.read_rows-requires
-read_rows-requires c = (version c.before.before).0
+read_rows-requires c = (yes_of c.version_known.result c.version_known.ensures c.if-not-version_known.false).0

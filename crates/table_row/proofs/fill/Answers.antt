@@ -1,5 +1,5 @@
 -- The loop reads value after value: storing those left in what there is now gives the whole.
-use Rattle.constraint.proofs.Library.{List, ℕ, ◌*◌, ◌+◌, ◌-◌, ◌∙◌, ◌≡◌, ◌≤◌, ap, arith, drop, drop_of_length-le, refl}
+use Rattle.constraint.proofs.Library.{List, ℕ, ◌∙◌, ap, arith, drop_of_length-le, refl}
 use Rattle.constraint.proofs.Library.{sets, sym}
 use Rattle.constraint.specs.Steps.{at}
 use Rattle.table_row.specs.Records.{values_at}
@@ -12,7 +12,6 @@ number_at-requires c = let a = c.args in omega (
   c.width_of-width.ensures,
   width_small (at
       a.roles.now c.loop-i.i),
-
 )
 
 pub overflow_add-place : goal.overflow_add-place

@@ -1,9 +1,7 @@
 -- The loop reads value after value: storing those left in what there is now gives the whole.
-use Rattle.constraint.proofs.Library.{List, ℕ, ◌*◌, ◌+◌, ◌-◌, ◌∙◌, ◌≡◌, ◌≤◌, ap, arith, drop, drop_of_length-le, refl}
-use Rattle.constraint.proofs.Library.{sets, sym}
-use Rattle.constraint.specs.Steps.{at}
+use Rattle.constraint.proofs.Library.{◌*◌, ◌+◌, ◌-◌, ◌≡◌, ◌≤◌, drop}
+use Rattle.constraint.proofs.Library.{sets}
 use Rattle.table_row.specs.Records.{values_at}
-use Rattle.table_row.proofs.{Stores.values_more, Lines.width_small}
 use Rattle.table_row.proofs.fill.Given as goal
 
 abbrev pub invariant-loop-i : goal.invariant-loop-i

@@ -1,5 +1,5 @@
 -- The values are read where the definition reads them.
-use Rattle.constraint.proofs.Library.{List, ◌∙◌, ap, ap₂, length, rules, sets, ℕ}
+use Rattle.constraint.proofs.Library.{List, ◌∙◌, ap, ap₂, length, sets, ℕ}
 use Rattle.table_row.specs.Records.{roles_of, values_at}
 use Rattle.table_row.proofs.load.Goals as goal
 

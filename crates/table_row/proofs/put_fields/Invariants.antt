@@ -1,10 +1,7 @@
 -- The loop stores field after field: storing those left in what there is now gives the whole.
-use Rattle.constraint.proofs.Library.{◌*◌, ◌+◌, ◌-◌, ◌∙◌, ◌≡◌, ◌≤◌, ap, arith, length, refl, sets, sym, List}
-use Rattle.constraint.specs.Steps.{at}
-use Rattle.constraint.specs.Types.{Field}
+use Rattle.constraint.proofs.Library.{◌*◌, ◌+◌, ◌-◌, ◌≡◌, ◌≤◌, length, sets}
 use Rattle.constraint.specs.Table.{fields_bytes}
 use Rattle.table_row.specs.Records.{fields_from}
-use Rattle.table_row.proofs.{FieldByField.fields_end, Stores.fields_more, Lines.width_small}
 use Rattle.table_row.proofs.put_fields.Given as goal
 
 abbrev pub invariant-loop-i : goal.invariant-loop-i

@@ -1,6 +1,6 @@
 -- The type and its n are asked for first, and then the length is compared with the list's.
-use Rattle.constraint.proofs.Library.{◌∙◌, ◌≡◌, eqb, rules, sym, ap, not}
-use Rattle.constraint.proofs.Judged.{failed, free, passed, same_test, test_equal}
+use Rattle.constraint.proofs.Library.{◌∙◌, ◌≡◌, eqb, sym, ap, not}
+use Rattle.constraint.proofs.Judged.{failed, passed, same_test, test_equal}
 use Rattle.constraint.specs.Steps.{at}
 use Rattle.constraint.specs.Types.{TypeKnown, length_of}
 use Rattle.table_row.proofs.{Judging.type_there}

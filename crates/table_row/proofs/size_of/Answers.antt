@@ -1,5 +1,5 @@
 -- The loop adds width after width: what it has and what is left is the whole.
-use Rattle.constraint.proofs.Library.{◌*◌, ◌+◌, ◌-◌, ◌≡◌, ◌≤◌, ap, arith, drop, drop_of_length-le}
+use Rattle.constraint.proofs.Library.{ap, arith, drop_of_length-le}
 use Rattle.constraint.specs.Steps.{at}
 use Rattle.table_row.specs.Records.{total}
 use Rattle.table_row.proofs.{Lines.total_next, Lines.width_small}

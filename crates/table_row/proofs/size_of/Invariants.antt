@@ -1,8 +1,6 @@
 -- The loop adds width after width: what it has and what is left is the whole.
-use Rattle.constraint.proofs.Library.{◌*◌, ◌+◌, ◌-◌, ◌≡◌, ◌≤◌, ap, arith, drop, drop_of_length-le}
-use Rattle.constraint.specs.Steps.{at}
+use Rattle.constraint.proofs.Library.{◌*◌, ◌+◌, ◌-◌, ◌≡◌, ◌≤◌, drop}
 use Rattle.table_row.specs.Records.{total}
-use Rattle.table_row.proofs.{Lines.total_next, Lines.width_small}
 use Rattle.table_row.proofs.size_of.Given as goal
 
 abbrev pub invariant-loop-i : goal.invariant-loop-i

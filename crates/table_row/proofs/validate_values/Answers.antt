@@ -1,5 +1,5 @@
 -- EachField test answers its question of the record's fields, which are the constraint's.
-use Rattle.constraint.proofs.Library.{List, ◌∷◌, ◌≡◌, [], ap, length, rules, subst, ℕ, not}
+use Rattle.constraint.proofs.Library.{List, ◌∷◌, ◌≡◌, [], ap, length, subst, ℕ, not}
 use Rattle.constraint.proofs.Judged.{failed, judged_no, judged_none, judged_yes, passed}
 use Rattle.constraint.specs.Questions.{Judged, Question}
 use Rattle.constraint.specs.Steps.{at}

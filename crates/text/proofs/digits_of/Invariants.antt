@@ -1,8 +1,7 @@
 -- The loop takes off the last digit: those of what is left, and those stored, are those of the number. What is not yet stored is blank.
-use Rattle.constraint.proofs.Library.{◌%◌, ◌++◌, ◌+◌, ◌-◌, ◌<◌, ◌^◌, ◌∙◌, ◌≡◌, ◌≤◌, append-nil, arith, drop, get_or-replicate, get_or-set_other, length}
-use Rattle.constraint.proofs.Library.{length-set, refl, set, sym, ℕ}
+use Rattle.constraint.proofs.Library.{◌++◌, ◌<◌, ◌^◌, ◌≡◌, ◌≤◌, drop, length}
+use Rattle.constraint.proofs.Library.{ℕ}
 use Rattle.constraint.specs.{Report.blank, Report.decimal, Report.digits, Steps.at}
-use Rattle.text.proofs.Decimals.{aligned_right, digits_more, digits_one, digits_room, drop_stored}
 use Rattle.text.proofs.digits_of.Given as goal
 
 abbrev pub invariant-loop-left : goal.invariant-loop-left

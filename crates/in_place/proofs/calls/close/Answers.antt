@@ -7,20 +7,20 @@ use Rattle.in_place.proofs.calls.close.Goals as goal
 
 pub returns-then-refusal-gt0 : goal.returns-then-refusal-gt0
 returns-then-refusal-gt0 c =
-    let a = c.before.args in
+    let a = c.args in
     refused_stores a.m.now Call.Close _ (λ h e s. first_number h Call.Close _ (c.first_refusal-refusal.ensures h e s) c.if-refusal-gt0.true) c.if-refusal-gt0.true
 
 pub returns : goal.returns
 returns c =
-    let a = c.before.before.args in
+    let a = c.args in
     taken_stores a.m.now Call.Close 0
-    (λ h e s. own_number h Call.Close _ 0 (c.first-refusal.ensures h e s) (omega (arith, c.if1.false)) refl) 0 c.put_soonest.new.0
+    (λ h e s. own_number h Call.Close _ 0 (c.first_refusal-refusal.ensures h e s) (omega (arith, c.if-refusal-gt0.false)) refl) 0 c.put_soonest.new.m
     (omega arith) (λ some. absurd (some refl))
     (λ h e s going.
     let clock = number_at h s a.m.now e 0 in
-    let counted = c.record-tick.ensures h e s going ∙ ap (λ (x : ℕ). words_of_lent (recorded_to h x 0)) clock in
+    let counted = c.record_tick.ensures h e s going ∙ ap (λ (x : ℕ). words_of_lent (recorded_to h x 0)) clock in
     let h₁ = recorded_to h h.monitor.clock 1 in
-    let closed = c.mark-closed.ensures (recorded_to h h.monitor.clock 0) counted (shaped_to h h.monitor.clock 0 s) in
+    let closed = c.mark_closed.ensures (recorded_to h h.monitor.clock 0) counted (shaped_to h h.monitor.clock 0 s) in
     let wide = shaped_to h h.monitor.clock 1 s in
     let held = c.held.ensures.1 h₁ closed wide in
     let stopped = c.apply_clock_all.ensures h₁ closed wide

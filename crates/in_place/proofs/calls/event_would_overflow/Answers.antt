@@ -1,5 +1,5 @@
 -- A row that is not nearly full is not asked; where none of the others is crowded they lose their mark, and are looked at again after the event.
-use Rattle.in_place.proofs.Names.{Lent, List, Shaped, [], ◌-◌, ◌∙◌, ◌≡◌, ap, ap₂, arith, asked_of, bit_and, both, crowded, get_or, rules, }
+use Rattle.in_place.proofs.Names.{Lent, List, Shaped, [], ◌-◌, ◌∙◌, ◌≡◌, ap, ap₂, arith, asked_of, bit_and, both, crowded, get_or, rules}
 use Rattle.in_place.proofs.Names.{refl, rows_in}
 use Rattle.in_place.proofs.Names.{sym, with_full, words_of_lent, ℕ}
 use Rattle.in_place.proofs.Parts.{number_at, set_at}
@@ -23,7 +23,7 @@ returns-then-asked-eq0 c =
 
 pub returns-then-rows_overflow : goal.returns-then-rows_overflow
 returns-then-rows_overflow c =
-    let a = c.before.args in
+    let a = c.args in
     record {
       untouched = λ _. refl;
       asked = λ h e s. sym c.if-rows_overflow.true ∙ c.rows_overflow.ensures h e s
@@ -34,7 +34,7 @@ returns-then-rows_overflow c =
 
 pub returns : goal.returns
 returns c =
-    let a = c.before.args in
+    let a = c.args in
     record {
       untouched = λ full. both (sym full);
       asked = λ h e s. sym c.if-rows_overflow.false ∙ c.rows_overflow.ensures h e s
@@ -47,5 +47,5 @@ returns c =
 
 pub overflow_sub-full : goal.overflow_sub-full
 overflow_sub-full c =
-    let a = c.before.args in let b = get_or a.m.now 32 [] in
+    let a = c.args in let b = get_or a.m.now 32 [] in
     omega (arith, and_le_r (get_or (get_or b 1 []) a.kind 0) (get_or (get_or b 0 []) 11 0))

@@ -7,8 +7,8 @@ use Rattle.in_place.proofs.calls.expire_rows.Goals as goal
 
 pub returns-then-soonest-time : goal.returns-then-soonest-time
 returns-then-soonest-time c h e s =
-    let a = c.before.before.args in
-    let held = c.held.ensures.1 h e s in
+    let a = c.args in
+    let held = c.held-rows.ensures.1 h e s in
     let soon : c.soonest-soonest.result ≡ soonest_all h = c.soonest-soonest.ensures h e s
     ∙ ap (λ (n : ℕ). soonest_of h.monitor.rows (up_to_four n)) held in
     let past : ltb (soonest_all h) a.time ≡ true = ap (λ (x : ℕ). ltb x a.time) (sym soon) ∙ lt-ltb _ _ c.if-soonest-time.true in
@@ -19,8 +19,8 @@ returns-then-soonest-time c h e s =
 
 pub returns : goal.returns
 returns c h e s =
-    let a = c.before.before.args in
+    let a = c.args in
     let soon : c.soonest-soonest.result ≡ soonest_all h = c.soonest-soonest.ensures h e s
-    ∙ ap (λ (n : ℕ). soonest_of h.monitor.rows (up_to_four n)) (c.held.ensures.1 h e s) in
+    ∙ ap (λ (n : ℕ). soonest_of h.monitor.rows (up_to_four n)) (c.held-rows.ensures.1 h e s) in
     let not_past : ltb (soonest_all h) a.time ≡ false = ap (λ (x : ℕ). ltb x a.time) (sym soon) ∙ le-ltb _ _ c.if-soonest-time.false in
     rw not_past (c.put_soonest-2.ensures h e s ∙ ap (λ (x : ℕ). words_of_lent (with_soonest h x)) soon)

@@ -26,16 +26,16 @@ returns-then-m-eq0 c =
 
 pub put_free-requires : goal.put_free-requires
 put_free-requires c = rw c.place_in-place.ensures
-    (place_small (get_or (get_or (get_or c.undo_rows.new.0 32 []) 0 []) 6 0))
+    (place_small (get_or (get_or (get_or c.undo_rows.new.m 32 []) 0 []) 6 0))
 
 pub returns : goal.returns
 returns c =
-    let a = c.before.args in
+    let a = c.args in
     record {
       untouched = λ some. absurd (some refl);
       stores = λ h e s.
           let may = number_at h s a.m.now e 5 in
-          let some = lt-ltb 0 h.monitor.undo.may (above_zero h.monitor.undo.may (λ z. c.if1.false (may ∙ z))) in
+          let some = lt-ltb 0 h.monitor.undo.may (above_zero h.monitor.undo.may (λ z. c.if-m-eq0.false (may ∙ z))) in
           let x = all_rows_undone h in
           let wide = shaped_backed h (held_rows h.monitor) h.monitor.count s in
           let back = c.undo_rows.ensures h e s

@@ -6,7 +6,7 @@ use Rattle.in_place.proofs.numbers.record_event.Goals as goal
 
 pub returns : goal.returns
 returns c h e s going =
-    let a = c.before.args in
+    let a = c.args in
     let h₁ = with_next h (set h.monitor.next a.stream (plus a.time 1)) in
     let stored = c.put_free.ensures h e s ∙ ap (λ (t : ℕ). words_of_lent (with_next h (set h.monitor.next a.stream t))) c.plus.ensures in
     let wide = shaped_next h a.stream (plus a.time 1) s in

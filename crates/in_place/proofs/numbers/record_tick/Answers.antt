@@ -6,7 +6,7 @@ use Rattle.in_place.proofs.numbers.record_tick.Goals as goal
 
 pub returns : goal.returns
 returns c h e s going =
-    let a = c.before.args in
+    let a = c.args in
     let block = ap (λ m. get_or m 32 []) e ∙ numbers_read h s in
     let counted = c.record_step.ensures h.monitor h.soonest h.full (take 48 h.monitor.next) h.lists block going in
     let free = c.free_at-free.ensures h e s in

@@ -17,7 +17,7 @@ loop-i-preserved c =
           let b = kept_at h'.monitor i in
           let wide = shaped_ended h i a.o a.number s in
           let row = c.apply_clock.ensures r b (row_lies h' wide m so_far i there) in
-          row_stored h' wide m so_far i there c.apply_clock.new.0 (ended_row a.o a.number r) (ended_saves a.o a.number r b) row
+          row_stored h' wide m so_far i there c.apply_clock.new.row (ended_row a.o a.number r) (ended_saves a.o a.number r b) row
           ∙ ap (λ (k : ℕ). words_of_lent (clock_applied h k a.o a.number)) (sym (add-one i)),
     )
 

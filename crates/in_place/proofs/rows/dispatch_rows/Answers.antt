@@ -6,20 +6,10 @@ use Rattle.in_place.proofs.Names.{rows_in, row_as_words, set, sym, with_row, wit
 use Rattle.in_place.proofs.Parts.{number_at, shaped_full, shaped_row, shaped_soonest, soonest_written}
 use Rattle.in_place.proofs.{Blocks.row_lies, Blocks.row_stored, RowSets.Lowest, RowSets.lowest, RowSets.no_rows, RowSets.rows_first}
 use Rattle.row.specs.Stored as Stored
+use Rattle.in_place.proofs.Midways.{Midway}
 use lib.Bits.{and_le_r}
 use lib.Count.{count_trailing_zeros}
 use Rattle.in_place.proofs.rows.dispatch_rows.Goals as goal
-use Rattle.in_place.proofs.rows.dispatch_rows.Tie as tie
-use Rattle.in_place.proofs.rows.dispatch_rows.Reads as reads
-use Rattle.in_place.proofs.rows.dispatch_rows.Lts as steps
-
--- a monitor from which the rows that are left make what all rows make of the first; its soonest time is not stored yet
-pub record Midway (h : Lent) (rows stream t number soonest left : ℕ) (m : Words) : Type 0 where
-  pub lent : Lent
-  pub shaped : Shaped lent
-  pub words_are : m ≡ words_of_lent (with_soonest lent h.soonest)
-  pub soonest_is : soonest ≡ lent.soonest
-  pub same : dispatched h (rows_in rows) (event_at stream t) number ≡ dispatched lent (rows_in left) (event_at stream t) number
 
 pub loop-left-init : goal.loop-left-init
 loop-left-init c = (
@@ -31,19 +21,18 @@ loop-left-init c = (
     soonest_is = number_at h s _ e 4;
     same = refl;
   },
-
 )
 
 -- the lowest row that is left
-low : (c : steps.In-loop tie.the-claims reads.Pre reads.Post goal.the-invariant-loop-left goal.the-decreases-loop-left) → let left = c.loop-left.left in Lowest 32 left (count_trailing_zeros 32 left)
-low c = lowest 32 c.loop-left.left (omega (arith, c.loop-left-test.true)) c.loop-left.invariant.0
+low : (left : ℕ) → 0 < left → left < 4294967296 → Lowest 32 left (count_trailing_zeros 32 left)
+low left some few = lowest 32 left some few
 
 pub loop-left-preserved : goal.loop-left-preserved
 unfolding Stored.words_of_row row_as_words number_words
 loop-left-preserved c =
     let a = c.args in let left = c.loop-left.left in let i = count_trailing_zeros 32 left in
     let o = event_at a.stream a.t in
-    let there : i < 32 = (low c.before.before.before.before.before.before.before).below in (
+    let there : i < 32 = (low c.loop-left.left c.loop-left-test.true c.loop-left.invariant.0).below in (
       omega (arith, c.loop-left.invariant.0, and_le_r left (left - 1)),
       λ h e s.
           let mid = c.loop-left.invariant.1 h e s in
@@ -58,7 +47,7 @@ loop-left-preserved c =
           let zero_then = rest_zero_event r b o a.number zero_there in
           let taken = c.event.ensures r b (row_lies x₀ wide _ mid.words_are i there)
           ∙ ap (Stored.words_of_row row') (rest_zero_keeps r b o a.number zero_there) in
-          let stored = row_stored x₀ wide _ mid.words_are i there c.event.new.0 row' kept' taken in
+          let stored = row_stored x₀ wide _ mid.words_are i there c.event.new.row row' kept' taken in
           let y = with_row x₀ i row' kept' in
           let wide' = shaped_row x₀ i row' kept' (λ _. zero_then) wide in
           let due = ap (λ (w : List (List ℕ)). get_or (get_or w 1 []) 17 0) (row_lies y wide' _ stored i there) in
@@ -68,7 +57,7 @@ loop-left-preserved c =
             words_are = c.mark_full.ensures y stored wide';
             soonest_is = c.smaller-soonest.ensures ∙ ap₂ min mid.soonest_is due;
             same = mid.same ∙ ap (λ (rows : List ℕ). dispatched x rows o a.number)
-                (rows_first left (omega (arith, c.loop-left-test.true)) c.loop-left.invariant.0);
+                (rows_first left c.loop-left-test.true c.loop-left.invariant.0);
           },
     )
 
@@ -86,22 +75,22 @@ returns c h e s =
 
 pub mark_full-requires : goal.mark_full-requires
 mark_full-requires c =
-    ((low c.before.before.before.before.before.before).below, omega (arith, c.loop-left-test.true), (low c.before.before.before.before.before.before).apart)
+    ((low c.loop-left.left c.loop-left-test.true c.loop-left.invariant.0).below, c.loop-left-test.true, (low c.loop-left.left c.loop-left-test.true c.loop-left.invariant.0).apart)
 
 pub overflow_cast-i : goal.overflow_cast-i
-overflow_cast-i c = omega (arith, (low c.before).below)
+overflow_cast-i c = omega (arith, (low c.loop-left.left c.loop-left-test.true c.loop-left.invariant.0).below)
 
 pub offset_bounds-m-i : goal.offset_bounds-m-i
-offset_bounds-m-i c = omega (arith, (low c.before).below)
+offset_bounds-m-i c = omega (arith, (low c.loop-left.left c.loop-left-test.true c.loop-left.invariant.0).below)
 
 pub bounds-m-i : goal.bounds-m-i
-bounds-m-i c = omega (arith, (low c.before).below)
+bounds-m-i c = omega (arith, (low c.loop-left.left c.loop-left-test.true c.loop-left.invariant.0).below)
 
 pub offset_bounds-m-i-in-loop-left : goal.offset_bounds-m-i-in-loop-left
-offset_bounds-m-i-in-loop-left c = omega (arith, (low c.before.before.before).below)
+offset_bounds-m-i-in-loop-left c = omega (arith, (low c.loop-left.left c.loop-left-test.true c.loop-left.invariant.0).below)
 
 pub bounds-m-i-in-loop-left : goal.bounds-m-i-in-loop-left
-bounds-m-i-in-loop-left c = omega (arith, (low c.before.before.before).below)
+bounds-m-i-in-loop-left c = omega (arith, (low c.loop-left.left c.loop-left-test.true c.loop-left.invariant.0).below)
 
 pub loop-left-smaller : goal.loop-left-smaller
 loop-left-smaller c = let left = c.loop-left.left in omega (arith, and_le_r left (left - 1))

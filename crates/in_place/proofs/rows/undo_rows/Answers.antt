@@ -17,7 +17,7 @@ loop-i-preserved c =
           let b = kept_at h'.monitor i in
           let wide = shaped_backed h i a.number s in
           let row = c.undo_step.ensures r b (row_lies h' wide m so_far i there) in
-          row_stored h' wide m so_far i there c.undo_step.new.0 (row_without a.number r b) (kept_without a.number b) row
+          row_stored h' wide m so_far i there c.undo_step.new.row (row_without a.number r b) (kept_without a.number b) row
           ∙ ap (λ (k : ℕ). words_of_lent (rows_undone h k a.number)) (sym (add-one i)),
     )
 

@@ -13,6 +13,6 @@ with_times r times = record { parameters = r.parameters; times = times; now = r.
 pub returns : goal.returns
 unfolding row_of with_times
 returns c =
-    let blank = c.blank in let numbers = c.parameters-of in
+    let blank = c.blank-made in let numbers = c.parameters_of in
     ap₂ with_times (blank.ensures ∙ ap (λ (p : Parameters). row_from p (replicate 64 0) (fresh_state p)) numbers.ensures)
     (c.put_constants.ensures (ap (λ (r : Row). r.times) blank.ensures))

@@ -1,5 +1,5 @@
 -- A row that may move takes the step where it lies, its own state being its past before, and what is kept of it is read off there.
-use Rattle.row.proofs.Names.{RowUndo, StepInput, Row, ◌∙◌, ◌≡◌, ap, row_undo_of, moves_by, rules, not-false, not-true, refl, saved_by, sym, true}
+use Rattle.row.proofs.Names.{RowUndo, StepInput, Row, ◌∙◌, ◌≡◌, ap, row_undo_of, moves_by, rules, refl, saved_by, sym, true}
 use Rattle.row.proofs.Names.{words_of_row, ℕ}
 use Rattle.row.proofs.{UndoComplete.keeps_own, EncodedRow.step_keeps_all}
 use Rattle.row.proofs.Row.saved.Goals as goal
@@ -12,7 +12,7 @@ moved r b before o number e = rw e refl
 
 pub returns-then-not-moves : goal.returns-then-not-moves
 unfolding saved_by
-returns-then-not-moves c = rw (sym c.moves.ensures ∙ not-true _ c.if-not-moves.true)
+returns-then-not-moves c = rw (sym c.moves.ensures ∙ c.if-not-moves.true)
 
 pub returns : goal.returns
 returns c =
@@ -20,4 +20,4 @@ returns c =
     let own = row_undo_of a.self.now in
     c.undo_at.ensures _ _ (c.step.ensures a.self own (c.encode_row-words.ensures ∙ ap (words_of_row a.self) c.of.ensures))
     ∙ step_keeps_all a.self a.o a.number own (keeps_own a.self own refl)
-    ∙ moved a.self own a.before a.o a.number (sym c.moves.ensures ∙ not-false _ c.if-not-moves.false)
+    ∙ moved a.self own a.before a.o a.number (sym c.moves.ensures ∙ c.if-not-moves.false)

@@ -25,7 +25,7 @@ returns-then-row-o c w b e =
 
 pub returns : goal.returns
 returns c w b e =
-    let a = c.before.args in
+    let a = c.args in
     let asked : c.concerns.result ≡ applied_at a.row.now a.o =
-    rw (le-ltb _ _ c.if1.false, le-ltb _ _ c.if2.false) (c.concerns.ensures ∙ rw c.parameters_at.ensures) in
+    rw (le-ltb _ _ c.if-row-gt0.false, le-ltb _ _ c.if-row-o.false) (c.concerns.ensures ∙ rw c.parameters_at.ensures) in
     asked ∙ lies a.row.now w b a.o e

@@ -82,112 +82,108 @@ returns-in-31 c = let a = c.args in stays_broken a.row.now a.stream a.t a.number
 pub returns-in-1 : goal.returns-in-1
 returns-in-1 c =
     let a = c.args in
-    by_type machine_delay a.row.now c.apply.new.0 a.stream a.t a.number 1 c.apply.ensures
+    by_type machine_delay a.row.now c.apply.new.row a.stream a.t a.number 1 c.apply.ensures
     c.in-1.is (λ z. absurd (omega (arith, z))) refl
 
 pub returns-in-2 : goal.returns-in-2
 returns-in-2 c =
     let a = c.args in
-    by_type machine_strong_delay a.row.now c.apply-in-2.new.0 a.stream a.t a.number 2 c.apply-in-2.ensures
+    by_type machine_strong_delay a.row.now c.apply-in-2.new.row a.stream a.t a.number 2 c.apply-in-2.ensures
     c.in-2.is (λ z. absurd (omega (arith, z))) refl
 
 pub returns-in-3 : goal.returns-in-3
 returns-in-3 c =
     let a = c.args in
     ⊎_elim
-    (λ e. by_type machine_repeat a.row.now c.apply-in-3.new.0 a.stream a.t a.number 3 c.apply-in-3.ensures e
+    (λ e. by_type machine_repeat a.row.now c.apply-in-3.new.row a.stream a.t a.number 3 c.apply-in-3.ensures e
     (λ z. absurd (omega (arith, z))) refl)
-    (λ e. by_type machine_repeat a.row.now c.apply-in-3.new.0 a.stream a.t a.number 5 c.apply-in-3.ensures e
+    (λ e. by_type machine_repeat a.row.now c.apply-in-3.new.row a.stream a.t a.number 5 c.apply-in-3.ensures e
     (λ z. absurd (omega (arith, z))) refl)
     c.in-3.is
 
 pub returns-in-4 : goal.returns-in-4
 returns-in-4 c =
     let a = c.args in
-    by_type machine_sporadic a.row.now c.apply-in-4.new.0 a.stream a.t a.number 4 c.apply-in-4.ensures
+    by_type machine_sporadic a.row.now c.apply-in-4.new.row a.stream a.t a.number 4 c.apply-in-4.ensures
     c.in-4.is (λ z. absurd (omega (arith, z))) refl
 
 pub returns-in-6 : goal.returns-in-6
 returns-in-6 c =
     let a = c.args in
-    by_type machine_order a.row.now c.apply-in-6.new.0 a.stream a.t a.number 6 c.apply-in-6.ensures
+    by_type machine_order a.row.now c.apply-in-6.new.row a.stream a.t a.number 6 c.apply-in-6.ensures
     c.in-6.is (λ z. absurd (omega (arith, z))) refl
 
 pub returns-in-7 : goal.returns-in-7
 returns-in-7 c =
     let a = c.args in
-    by_type machine_strong_synchronization a.row.now c.apply-in-7.new.0 a.stream a.t a.number 7 c.apply-in-7.ensures
+    by_type machine_strong_synchronization a.row.now c.apply-in-7.new.row a.stream a.t a.number 7 c.apply-in-7.ensures
     c.in-7.is (λ z. absurd (omega (arith, z))) refl
 
 pub returns-in-8 : goal.returns-in-8
 returns-in-8 c =
     let a = c.args in
-    by_type machine_execution_time a.row.now c.apply-in-8.new.0 a.stream a.t a.number 8 c.apply-in-8.ensures
+    by_type machine_execution_time a.row.now c.apply-in-8.new.row a.stream a.t a.number 8 c.apply-in-8.ensures
     c.in-8.is (λ z. absurd (omega (arith, z))) refl
 
 pub returns-in-9 : goal.returns-in-9
 returns-in-9 c =
     let a = c.args in
-    by_type machine_reaction a.row.now c.apply-in-9.new.0 a.stream a.t a.number 9 c.apply-in-9.ensures
+    by_type machine_reaction a.row.now c.apply-in-9.new.row a.stream a.t a.number 9 c.apply-in-9.ensures
     c.in-9.is (λ z. absurd (omega (arith, z))) refl
 
 pub returns-in-10 : goal.returns-in-10
 returns-in-10 c =
     let a = c.args in
-    by_type machine_repetition a.row.now c.apply-in-10.new.0 a.stream a.t a.number 10 c.apply-in-10.ensures
+    by_type machine_repetition a.row.now c.apply-in-10.new.row a.stream a.t a.number 10 c.apply-in-10.ensures
     c.in-10.is (λ z. absurd (omega (arith, z))) refl
 
 pub returns-in-11 : goal.returns-in-11
 returns-in-11 c =
     let a = c.args in
-    by_type machine_synchronization a.row.now c.apply-in-11.new.0 a.stream a.t a.number 11 c.apply-in-11.ensures
+    by_type machine_synchronization a.row.now c.apply-in-11.new.row a.stream a.t a.number 11 c.apply-in-11.ensures
     c.in-11.is (λ z. absurd (omega (arith, z))) refl
 
 pub returns-in-12 : goal.returns-in-12
 returns-in-12 c =
     let a = c.args in
-    by_type machine_age a.row.now c.apply-in-12.new.0 a.stream a.t a.number 12 c.apply-in-12.ensures
+    by_type machine_age a.row.now c.apply-in-12.new.row a.stream a.t a.number 12 c.apply-in-12.ensures
     c.in-12.is (λ z. absurd (omega (arith, z))) refl
 
 pub returns-in-13 : goal.returns-in-13
 returns-in-13 c =
     let a = c.args in
-    by_type machine_output_synchronization a.row.now c.apply-in-13.new.0 a.stream a.t a.number 13 c.apply-in-13.ensures
+    by_type machine_output_synchronization a.row.now c.apply-in-13.new.row a.stream a.t a.number 13 c.apply-in-13.ensures
     c.in-13.is (λ z. absurd (omega (arith, z))) refl
 
 pub returns-in-14 : goal.returns-in-14
 returns-in-14 c =
     let a = c.args in
-    by_type machine_input_synchronization a.row.now c.apply-in-14.new.0 a.stream a.t a.number 14 c.apply-in-14.ensures
+    by_type machine_input_synchronization a.row.now c.apply-in-14.new.row a.stream a.t a.number 14 c.apply-in-14.ensures
     c.in-14.is (λ z. absurd (omega (arith, z))) refl
 
 pub returns-in-15 : goal.returns-in-15
 returns-in-15 c =
     let a = c.args in
-    by_type machine_pattern a.row.now c.apply-in-15.new.0 a.stream a.t a.number 15 c.apply-in-15.ensures
+    by_type machine_pattern a.row.now c.apply-in-15.new.row a.stream a.t a.number 15 c.apply-in-15.ensures
     c.in-15.is (λ z. absurd (omega (arith, z))) refl
 
 pub returns-in-16 : goal.returns-in-16
 returns-in-16 c =
     let a = c.args in
-    by_type machine_arbitrary a.row.now c.apply-in-16.new.0 a.stream a.t a.number 16 c.apply-in-16.ensures
+    by_type machine_arbitrary a.row.now c.apply-in-16.new.row a.stream a.t a.number 16 c.apply-in-16.ensures
     c.in-16.is (λ z. absurd (omega (arith, z))) refl
 
 pub returns-in-17 : goal.returns-in-17
 unfolding changed_words
 returns-in-17 c =
     let a = c.args in let none = odd _ c.in-17.is in
-    by_type no_machine a.row.now c.break_at.new.0 a.stream a.t a.number _ c.break_at.ensures refl none.0 none.1
+    by_type no_machine a.row.now c.break_at.new.row a.stream a.t a.number _ c.break_at.ensures refl none.0 none.1
 
 pub returns-in-0 : goal.returns-in-0
 unfolding changed_words
 returns-in-0 c =
     let a = c.args in let none = even _ c.in-0.is in
-    by_type no_machine a.row.now c.break_at-in-0.new.0 a.stream a.t a.number _ c.break_at-in-0.ensures refl none.0 none.1
+    by_type no_machine a.row.now c.break_at-in-0.new.row a.stream a.t a.number _ c.break_at-in-0.ensures refl none.0 none.1
 
 pub returns-in_default : goal.returns-in_default
-unfolding changed_words
-returns-in_default c =
-    let a = c.args in let rest = c.in_default.rest in
-    by_type no_machine a.row.now c.break_at-in_default.new.0 a.stream a.t a.number _ c.break_at-in_default.ensures refl
-    rest.0.0.0.0.0.0.0.0.0.0.0.0.0.0.0.0.0.1 (none_of _ rest.0.0)
+returns-in_default c = let rest = c.in_default.in_default-own.rest in absurd (grind (arith, rest))

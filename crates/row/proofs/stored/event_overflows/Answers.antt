@@ -38,7 +38,7 @@ returns-then-row-t c w b e =
 pub returns : goal.returns
 unfolding event_overflows
 returns c w b e =
-    let a = c.before.args in
+    let a = c.args in
     let asked : c.overflows.result ≡ full_at a.row.now a.stream a.t =
-    rw (le-ltb _ _ c.if1.false, le-ltb _ _ c.if2.false, le-ltb _ _ c.if3.false) c.overflows.ensures in
+    rw (le-ltb _ _ c.if-row-lt-NEARLY_FULL.false, le-ltb _ _ c.if-row-gt0.false, le-ltb _ _ c.if-row-t.false) c.overflows.ensures in
     asked ∙ lies a.row.now w b a.stream a.t e

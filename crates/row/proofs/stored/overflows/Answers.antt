@@ -1,5 +1,5 @@
 -- The code picks the type by its number, as `machine_of` does.
-use Rattle.row.proofs.Names.{Bool, List, Machine, ◌∙◌, ◌≡◌, ap, asked_of, overflows, free, get_or, machine_of, rules, no_machine, refl, sym, ℕ}
+use Rattle.row.proofs.Names.{arith, Bool, List, Machine, ◌∙◌, ◌≡◌, ap, asked_of, overflows, free, get_or, machine_of, rules, no_machine, refl, sym, ℕ}
 use Rattle.row.proofs.Names.{⊎_elim}
 use Rattle.row.proofs.{Machines.none_of}
 use Rattle.delay_order.specs.Delay.{machine_delay}
@@ -101,5 +101,4 @@ returns-in-16 c = let a = c.args in
 
 pub returns-in_default : goal.returns-in_default
 returns-in_default c = let a = c.args in
-    by_type no_machine a.w.now a.stream a.t refl
-    (none_of _ c.in_default.rest)
+    by_type no_machine a.w.now a.stream a.t refl (none_of (get_or a.w.now 0 0) (λ other. grind (arith, other, c.in_default.in_default-own.rest)))

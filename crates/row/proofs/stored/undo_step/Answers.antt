@@ -12,7 +12,7 @@ pub returns : goal.returns
 unfolding words_of_row row_as_words number_words row_without kept_without back_row
 returns c r b e =
     let a = c.args in
-    let x = c.put_back.new.0 in
+    let x = c.put_back.new.times in
     let numbers = c.restore.ensures r.parameters r.now (undo_record_of b) (ap (λ m. get_or (set m 0 x) 1 []) e) in
     rw (eq-eqb _ _ (sym (ap (λ m. get_or (get_or m 1 []) 33 0) e) ∙ c.if-row-number.false))
     (ap (λ (w : List ℕ). set (set a.row.now 0 x) 1 w) numbers ∙ rw (c.put_back.ensures, e) refl)

@@ -1,5 +1,5 @@
 -- The questions are put in their order, and question 4 has been asked where the row's own are.
-use Rattle.table.proofs.Names.{Bytes, Constraint, Judged, [], ap, arith, failed, judged_no, judged_yes, rules, passed}
+use Rattle.table.proofs.Names.{Bytes, Constraint, Judged, [], ap, arith, failed, judged_no, judged_yes, not, yes_of}
 use Rattle.table.proofs.Names.{row_stands, row_from, row_in, row_questions, row_questions_in, skipped, stands_known, subst}
 use Rattle.table.proofs.append.validate_body.Goals as goal
 
@@ -8,18 +8,17 @@ returns-then-rows-ge-ROW_LIMIT c = judged_no 3 _ _ (λ room. omega arith)
 
 pub returns-then-not-shape_fits : goal.returns-then-not-shape_fits
 returns-then-not-shape_fits c =
-    judged_yes 3 _ _ _ (omega arith) (judged_no 4 _ _ (failed c.shape_fits.result c.shape_fits.ensures c.if-not-shape_fits.true))
+    judged_yes 3 _ _ _ (omega arith) (judged_no 4 _ _ (failed c.shape_fits.result c.shape_fits.ensures (ap not c.if-not-shape_fits.true)))
 
 -- a slice of bytes holds bytes, so a body of fitting shape stands for the row that it is read as
 pub returns : goal.returns
 unfolding Bytes
 returns c =
-    let a = c.before.args in
-    let body = a.body.now in
-    let fits = passed c.shape_fits.result c.shape_fits.ensures c.if2.false in
-    let stands = row_stands {edition = 2} body (λ i h. omega (arith, c.shared-slice-known.given i)) fits in
+    let body = c.args.body.now in
+    let fits = yes_of c.shape_fits.result c.shape_fits.ensures c.if-not-shape_fits.false in
+    let stands = row_stands {edition = 2} body (λ i h. omega (arith, (c.type_inv.body i).fits)) fits in
     judged_yes 3 _ _ _ (omega arith)
     (judged_yes 4 _ _ _ fits
     (skipped [] (row_questions (row_in (row_from body))) 4 _ (stands_known {edition = 2} body _ fits stands) _
-    (subst (λ (found : Constraint). Judged (row_questions_in 2 found) c.validate_values.result) (ap row_in c.read.ensures)
+    (subst (λ (found : Constraint). Judged (row_questions_in 2 found) c.validate_values.result) (ap row_in c.read-row.ensures)
     c.validate_values.ensures)))

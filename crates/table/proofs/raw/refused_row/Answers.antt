@@ -1,5 +1,5 @@
 -- The loop asks row after row, and stops at the first that is not taken.
-use Rattle.table.proofs.Names.{RowTaken, ◌*◌, ◌-◌, ◌<◌, ◌≡◌, ◌≤◌, arith, failed, length, passed, raw_size, row_limit, ℕ}
+use Rattle.table.proofs.Names.{ap, arith, failed, not, yes_of}
 use Rattle.table.proofs.{RawRows.taken_more}
 use Rattle.table.proofs.raw.refused_row.Goals as goal
 
@@ -11,7 +11,7 @@ returns-then-bytes-start-lt-RAW_SIZE c =
 pub returns-then-not-row_taken : goal.returns-then-not-row_taken
 returns-then-not-row_taken c =
     let loop = c.loop-i in let test = c.row_taken in
-    record { room = loop.invariant.0; taken = loop.invariant.3; refused = λ room whole. failed test.result test.ensures c.if-not-row_taken.true }
+    record { room = loop.invariant.0; taken = loop.invariant.3; refused = λ room whole. failed test.result test.ensures (ap not c.if-not-row_taken.true) }
 
 pub loop-i-preserved : goal.loop-i-preserved
 loop-i-preserved c =
@@ -20,7 +20,7 @@ loop-i-preserved c =
       omega (arith, loop.invariant.1),
       omega (arith, c.if-bytes-start-lt-RAW_SIZE.false, loop.invariant.2),
       taken_more c.args.edition c.args.bytes.now loop.i loop.invariant.3
-          (passed test.result test.ensures c.if-not-row_taken.false),
+          (yes_of test.result test.ensures c.if-not-row_taken.false),
     )
 
 pub returns : goal.returns

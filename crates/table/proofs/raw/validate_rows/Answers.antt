@@ -1,5 +1,5 @@
 -- The loop puts to each row its questions in turn: the answer to those of the rows left is the answer to all.
-use Rattle.table.proofs.Names.{Answer, Judged, Refused, Taken, [], ◌+◌, ◌-◌, ◌≤◌, arith, judged_none, rules, raw_rows, rows_refused}
+use Rattle.table.proofs.Names.{Judged, Refused, Taken, [], ◌+◌, ◌-◌, arith, judged_none, raw_rows, rows_refused}
 use Rattle.table.proofs.Names.{rows_taken}
 use Rattle.table.proofs.Names.{rows_questions, subst⁻¹}
 use Rattle.table.proofs.RawRows.{rows_all, rows_end, rows_left}
@@ -7,23 +7,23 @@ use Rattle.table.proofs.raw.validate_rows.Goals as goal
 
 pub returns-in-Refused : goal.returns-in-Refused
 returns-in-Refused c =
-    let a = c.before.args in let i = c.loop.i in
-    c.loop.invariant.1 _
+    let a = c.args in let i = c.loop-i.i in
+    c.loop-i.invariant.1 _
     (subst⁻¹ (λ rows. Judged (rows_questions a.edition i rows []) (Refused c.in-Refused.number))
     (rows_left a.bytes.now i a.count (omega arith))
-    (rows_refused a.edition i _ (raw_rows a.bytes.now (i + 1) (a.count - (i + 1))) [] _ (omega (arith, c.before.requires.room))
-    (rw c.row_at.ensures at (rw c.in-Refused.is at c.validate_values.ensures))))
+    (rows_refused a.edition i _ (raw_rows a.bytes.now (i + 1) (a.count - (i + 1))) [] _ (omega (arith, c.requires.room))
+    (rw c.row_at-row.ensures at (rw c.in-Refused.is at c.validate_values.ensures))))
 
 pub loop-i-preserved : goal.loop-i-preserved
 loop-i-preserved c =
-    let a = c.before.args in let i = c.loop.i in (
+    let a = c.args in let i = c.loop-i.i in (
       omega arith,
       λ answer later.
-          c.loop.invariant.1 answer
+          c.loop-i.invariant.1 answer
           (subst⁻¹ (λ rows. Judged (rows_questions a.edition i rows []) answer) (rows_left a.bytes.now i a.count (omega arith))
           (rows_taken a.edition i _ (raw_rows a.bytes.now (i + 1) (a.count - (i + 1))) [] answer
-          (omega (arith, c.before.requires.room))
-          (rw c.row_at.ensures at (rw c.in-Taken.is at c.validate_values.ensures)) later)),
+          (omega (arith, c.requires.room))
+          (rw c.row_at-row.ensures at (rw c.in-Taken.is at c.validate_values.ensures)) later)),
     )
 
 pub returns : goal.returns

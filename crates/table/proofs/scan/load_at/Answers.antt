@@ -1,22 +1,10 @@
 -- Where a row is whole, its body is the part behind the length field, and it is read as the row that it stands for.
-use Rattle.table.proofs.Names.{Bytes, List, RowAt, WholeAt, ◌+◌, ◌-◌, ◌∙◌, ◌≡◌, ap, arith, at, drop, failed, filler, free, length, length-sets}
-use Rattle.table.proofs.Names.{loaded_row, rules, number_behind}
-use Rattle.table.proofs.Names.{passed, refl, replicate, roles_of, row_from, row_in, row_read, row_read_at, sets_all, subst⁻¹, sym, take}
+use Rattle.table.proofs.Names.{Bytes, List, RowAt, ◌+◌, ◌-◌, ◌∙◌, ◌≡◌, ap, arith, at, drop, failed, filler, length, length-sets}
+use Rattle.table.proofs.Names.{loaded_row, number_behind}
+use Rattle.table.proofs.Names.{not, yes_of, refl, replicate, roles_of, row_from, row_in, row_read, row_read_at, sets_all, subst⁻¹, sym, take}
 use Rattle.table.proofs.Names.{values_at, ℕ}
 use Rattle.table.proofs.{Places.part_body, Places.row_at}
 use Rattle.table.proofs.scan.load_at.Goals as goal
-use Rattle.table.proofs.scan.load_at.Tie as tie
-use Rattle.table.proofs.scan.load_at.Reads as reads
-use Rattle.table.proofs.scan.load_at.Lts as steps
-
-whole : (c : steps.Else1 tie.the-claims reads.Pre reads.Post) → WholeAt c.args.bytes.now c.args.place
-whole c = passed c.whole_at.result c.whole_at.ensures c.if-not-whole_at.false
-
--- a slice of bytes holds bytes, so the row at the place is the one that the body is read as
-row : (c : steps.After-shared_slice_known tie.the-claims reads.Pre reads.Post) (edition : ℕ)
-    → RowAt edition c.args.bytes.now c.args.place (row_read_at c.args.bytes.now c.args.place)
-unfolding Bytes
-row c edition = let a = c.args in row_at edition a.bytes.now a.place (λ i h. omega (arith, c.shared_slice_known-1.given i))
 
 -- no role has a value
 none_read : (bytes : List ℕ) → values_at (replicate 18 0) bytes 1 ≡ replicate 18 0
@@ -30,10 +18,9 @@ filler_is = refl
 pub returns-then-not-whole_at : goal.returns-then-not-whole_at
 returns-then-not-whole_at c =
     let asked = c.whole_at in let a = c.args in
-    let not_whole = failed asked.result asked.ensures c.if-not-whole_at.true in
-    let zeros : c.fill.new.0 ≡ replicate 18 0 =
-    c.fill.ensures ∙ sets_all a.values.now (values_at (replicate 18 0) a.bytes.now 1) (c.requires ∙ ap length (sym (none_read (now
-    a.bytes))))
+    let not_whole = failed asked.result asked.ensures (ap not c.if-not-whole_at.true) in
+    let zeros : c.fill.new.values ≡ replicate 18 0 =
+    c.fill.ensures ∙ sets_all a.values.now (values_at (replicate 18 0) a.bytes.now 1) (c.requires ∙ ap length (sym (none_read a.bytes.now)))
     ∙ none_read a.bytes.now in
     record {
       placed = record {
@@ -45,19 +32,21 @@ returns-then-not-whole_at c =
       many = ap length zeros;
     }
 
+-- a slice of bytes holds bytes, so the row at the place is the one that the body is read as
 pub returns : goal.returns
+unfolding Bytes
 returns c =
     let a = c.args in let bytes = a.bytes.now in let size = c.two_at in
     let body = take (a.place + 2 + size.result - (a.place + 2)) (drop (a.place + 2) bytes) in
-    let same : row_read c.load-tag.result c.load-tag.new.0 ≡ row_read_at bytes a.place =
-    loaded_row body a.values.now c.load-tag.new.0 c.load-tag.result c.requires c.load-tag.ensures
+    let same : row_read c.load-tag.result c.load-tag.new.values ≡ row_read_at bytes a.place =
+    loaded_row body a.values.now c.load-tag.new.values c.load-tag.result c.requires c.load-tag.ensures
     ∙ ap (λ (l : List ℕ). row_in (row_from l)) (part_body bytes a.place size.result size.ensures) in
     record {
       placed = record {
         read = λ there. same;
-        stands = λ there edition. subst⁻¹ (RowAt edition bytes a.place) same (row c.before.before.before.before.before.before.before edition);
+        stands = λ there edition. subst⁻¹ (RowAt edition bytes a.place) same (row_at edition bytes a.place (λ i h. omega (arith, (c.type_inv.bytes i).fits)));
         behind = λ there. omega (arith, size.ensures);
-        none = λ not_whole. absurd (not_whole (whole c.before.before.before.before.before));
+        none = λ not_whole. absurd (not_whole (yes_of c.whole_at.result c.whole_at.ensures c.if-not-whole_at.false));
       };
       many = ap length c.load-tag.ensures.1 ∙ length-sets a.values.now 0 (values_at (roles_of (at body 0) (at body 1)) body 1) ∙ c.requires;
     }
@@ -66,10 +55,10 @@ pub fill-requires : goal.fill-requires
 fill-requires c = refl
 
 pub overflow_add-start : goal.overflow_add-start
-overflow_add-start c = omega (arith, whole c.before)
+overflow_add-start c = omega (arith, yes_of c.whole_at.result c.whole_at.ensures c.if-not-whole_at.false)
 
 pub overflow_add-next : goal.overflow_add-next
-overflow_add-next c = omega (arith, whole c.before.before)
+overflow_add-next c = omega (arith, yes_of c.whole_at.result c.whole_at.ensures c.if-not-whole_at.false)
 
 pub slice_bounds-load-end : goal.slice_bounds-load-end
-slice_bounds-load-end c = omega (arith, whole c.before.before.before)
+slice_bounds-load-end c = omega (arith, yes_of c.whole_at.result c.whole_at.ensures c.if-not-whole_at.false)

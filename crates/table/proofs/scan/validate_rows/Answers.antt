@@ -1,31 +1,18 @@
 -- The loop counts row after row: as many as were counted stand before the place, and what is read from there on, behind them, is the whole.
-use Rattle.table.proofs.Names.{ReadsAt, Taken, ◌+◌, ◌-◌, ◌≡◌, ap, arith, length, length_at, rules, refl, row_read_at, ℕ}
-use Rattle.table.proofs.Places.{PlaceTaken, place_taken}
-use Rattle.table.proofs.Scanning.{CountedTo, counted_end, counted_more, counted_refused, counted_start}
+use Rattle.table.proofs.Names.{ReadsAt, Taken, ◌+◌, ◌≡◌, ap, arith, length_at, refl, ℕ}
+use Rattle.table.proofs.Places.{place_taken}
+use Rattle.table.proofs.Scanning.{counted_end, counted_more, counted_refused, counted_start}
 use Rattle.table.proofs.scan.validate_rows.Goals as goal
-use Rattle.table.proofs.scan.validate_rows.Tie as tie
-use Rattle.table.proofs.scan.validate_rows.Reads as reads
-use Rattle.table.proofs.scan.validate_rows.Lts as steps
 
 -- the row that is counted was taken
-read : (c : steps.After-enum_told tie.the-claims reads.Pre reads.Post goal.the-invariant-loop-place goal.the-decreases-loop-place) → let a = c.args in
-    ReadsAt a.edition a.bytes.now c.loop-place.rows c.loop-place.place Taken
-read c = rw c.in-Taken.is at c.validate_row.ensures
-
-taken : (c : steps.After-enum_told tie.the-claims reads.Pre reads.Post goal.the-invariant-loop-place goal.the-decreases-loop-place) → let a = c.args in
-    PlaceTaken a.edition a.bytes.now c.loop-place.rows c.loop-place.place
-    (row_read_at a.bytes.now c.loop-place.place)
-taken c =
-    let a = c.args in
-    place_taken a.edition a.bytes.now c.loop-place.rows c.loop-place.place _ (read c).1
-
 pub loop-place-preserved : goal.loop-place-preserved
 loop-place-preserved c =
     let a = c.args in
     let place = c.loop-place.place in
     let behind : place + 2 + c.two_at.result ≡ place + 2 + length_at a.bytes.now place = ap (λ (size : ℕ). place + 2 + size)
     c.two_at.ensures in
-    counted_more a.edition a.bytes.now c.loop-place.rows place _ c.loop-place.invariant (omega arith) (read c.before.before) behind
+    let read : ReadsAt a.edition a.bytes.now c.loop-place.rows place Taken = rw c.in-Taken.is at c.validate_row.ensures in
+    counted_more a.edition a.bytes.now c.loop-place.rows place _ c.loop-place.invariant (omega arith) read behind
 
 pub returns-in-Refused : goal.returns-in-Refused
 returns-in-Refused c =
@@ -45,13 +32,25 @@ pub loop-place-init : goal.loop-place-init
 loop-place-init c = counted_start c.args.edition c.args.bytes.now (omega arith)
 
 pub overflow_add-rows : goal.overflow_add-rows
-overflow_add-rows c = omega (arith, (taken c.before).room)
+overflow_add-rows c =
+    let a = c.args in let l = c.loop-place in
+    let read : ReadsAt a.edition a.bytes.now l.rows l.place Taken = rw c.in-Taken.is at c.validate_row.ensures in
+    omega (arith, (place_taken a.edition a.bytes.now l.rows l.place _ read.1).room)
 
 pub overflow_add-place : goal.overflow_add-place
-overflow_add-place c = omega (arith, (taken c.before).whole)
+overflow_add-place c =
+    let a = c.args in let l = c.loop-place in
+    let read : ReadsAt a.edition a.bytes.now l.rows l.place Taken = rw c.in-Taken.is at c.validate_row.ensures in
+    omega (arith, (place_taken a.edition a.bytes.now l.rows l.place _ read.1).whole)
 
 pub overflow_add-place-in-loop-place : goal.overflow_add-place-in-loop-place
-overflow_add-place-in-loop-place c = omega (arith, (taken c.before.before).whole, c.two_at.ensures)
+overflow_add-place-in-loop-place c =
+    let a = c.args in let l = c.loop-place in
+    let read : ReadsAt a.edition a.bytes.now l.rows l.place Taken = rw c.in-Taken.is at c.validate_row.ensures in
+    omega (arith, (place_taken a.edition a.bytes.now l.rows l.place _ read.1).whole, c.two_at.ensures)
 
 pub loop-place-smaller : goal.loop-place-smaller
-loop-place-smaller c = omega (arith, (taken c.before.before).whole)
+loop-place-smaller c =
+    let a = c.args in let l = c.loop-place in
+    let read : ReadsAt a.edition a.bytes.now l.rows l.place Taken = rw c.in-Taken.is at c.validate_row.ensures in
+    omega (arith, (place_taken a.edition a.bytes.now l.rows l.place _ read.1).whole)

@@ -1,55 +1,47 @@
 -- The loop stores row after row: storing those left in what there is now gives the whole.
-use Rattle.table.proofs.Names.{Constraint, List, TableRow, TypeKnown, [], ◌+◌, ◌-◌, ◌<◌, ◌^◌, ◌∙◌, ◌≡◌, ◌≤◌, ap, arith, count_of, drop}
-use Rattle.table.proofs.Names.{drop_of_length-le, get_or, length, length-map, refl, row_bytes_long, row_known, row_body, row_in, row_limit}
-use Rattle.table.proofs.Names.{rows_length}
-use Rattle.table.proofs.Names.{rows_room, rows_bytes, rows_of, sets, sym, type_of}
+use Rattle.table.proofs.Names.{Accepted, Constraint, List, Table, TableRow, TypeKnown, [], ◌+◌, ◌<◌, ◌∙◌, ◌≡◌, ◌≤◌, ap, arith, count_of, drop}
+use Rattle.table.proofs.Names.{drop_of_length-le, get_or, length, refl, row_bytes_long, row_known, row_body, row_in, row_limit}
+use Rattle.table.proofs.Names.{rows_length, rows_room, rows_bytes, rows_of, sets, sym, type_of, ℕ}
 use Rattle.table.proofs.{Stores.rows_more, Stores.rows_size}
 use Rattle.table.proofs.writer.put_rows.Goals as goal
-use Rattle.table.proofs.writer.put_rows.Tie as tie
-use Rattle.table.proofs.writer.put_rows.Reads as reads
-use Rattle.table.proofs.writer.put_rows.Lts as steps
 
-few : (c : steps.Start tie.the-claims reads.Pre reads.Post goal.the-invariant-loop-i goal.the-decreases-loop-i) → c.args.table.count ≤ row_limit
-few c = let table = c.args.table in omega (arith, rows_length table, rows_room c.requires.0.0 0 (rows_of table) (omega arith) c.requires.0.1)
+-- an accepted table has no more rows than entries
+few : (table : Table) → Accepted (rows_of table) → table.count ≤ row_limit
+few table accepted = omega (arith, rows_length table, rows_room accepted.0 0 (rows_of table) (omega arith) accepted.1)
 
--- there is an entry for each row
-entries : (c : steps.In-loop tie.the-claims reads.Pre reads.Post goal.the-invariant-loop-i goal.the-decreases-loop-i) → c.loop-i.i < length c.args.table.rows
-entries c =
-    let long : length c.args.table.rows ≡ 32 = sym (length-map c.args.table.rows _) ∙ c.well_formed.1.0.1.1.0.1.0.1 in
-    omega (arith, long, few c.before.before.before)
+-- the row of a turn is of a known type
+known : (table : Table) (accepted : Accepted (rows_of table)) (i : ℕ) (other : TableRow) → i < table.count → length table.rows ≡ 32
+    → TypeKnown accepted.0 (type_of (row_in (get_or table.rows i other))) (count_of (row_in (get_or table.rows i other)))
+known table accepted i other below entries =
+    let rows = few table accepted in
+    row_known accepted.0 table i other below (omega arith) accepted.1
 
--- the row of a turn
-abbrev entry : tie.In-loop invariant_loop decreases_loop → TableRow
-entry c = get_or c.before.before.before.args.t2.rows c.before.loop.i (record { tag = 0; values = [] })
-
-abbrev row : tie.In-loop invariant_loop decreases_loop → Constraint
-row c = row_in (entry c)
-
-known : (c : steps.In-loop tie.the-claims reads.Pre reads.Post goal.the-invariant-loop-i goal.the-decreases-loop-i) → TypeKnown c.requires.0.0 (type_of (row c)) (count_of (row c))
-known c =
-    row_known c.requires.0.0 c.args.table c.loop-i.i _ (omega arith) (entries c) c.requires.0.1
-
-size : (c : steps.In-loop tie.the-claims reads.Pre reads.Post goal.the-invariant-loop-i goal.the-decreases-loop-i) → length (rows_bytes (drop c.loop-i.i (rows_of c.args.table)))
-    ≡ 2 + length (row_body (row c)) + length (rows_bytes (drop (c.loop-i.i + 1) (rows_of c.args.table)))
-size c = rows_size c.args.table c.loop-i.i _ (omega arith) (entries c)
-
--- the row ends within the buffer
-fits : (c : steps.In-loop tie.the-claims reads.Pre reads.Post goal.the-invariant-loop-i goal.the-decreases-loop-i) → c.loop-i.place + (2 + length (row_body (row c))) < 2 ^ 63
-fits c = omega (arith, size c, c.requires, c.well_formed)
+-- it is stored before the rows that are left
+size : (table : Table) → Accepted (rows_of table) → (i : ℕ) (other : TableRow) → i < table.count → length table.rows ≡ 32
+    → length (rows_bytes (drop i (rows_of table)))
+    ≡ 2 + length (row_body (row_in (get_or table.rows i other))) + length (rows_bytes (drop (i + 1) (rows_of table)))
+size table accepted i other below entries = let rows = few table accepted in rows_size table i other below (omega arith)
 
 pub put-requires : goal.put-requires
 put-requires c =
-    ((c.requires.0.0, known c.before.before.before), omega (arith, size c.before.before.before, row_bytes_long (row c.before.before.before), c.requires.1))
+    let table = c.args.table in
+    let entries : length table.rows ≡ 32 = c.well_formed.1.0.1.1.0.1.0.1 in
+    let row = row_in (get_or table.rows c.loop-i.i (record { tag = 0; values = [] })) in
+    let left = size table c.requires.0 c.loop-i.i (record { tag = 0; values = [] }) (omega arith) entries in
+    ((c.requires.0.0, known table c.requires.0 c.loop-i.i _ (omega arith) entries), omega (arith, left, row_bytes_long row, c.requires.1))
 
 pub loop-i-preserved : goal.loop-i-preserved
 loop-i-preserved c =
     let loop = c.loop-i in
-    let table = c.args.table in let put = c.put in (
+    let table = c.args.table in
+    let entries : length table.rows ≡ 32 = c.well_formed.1.0.1.1.0.1.0.1 in
+    let rows = few table c.requires.0 in
+    let left = size table c.requires.0 loop.i (record { tag = 0; values = [] }) (omega arith) entries in
+    let put = c.put in (
       omega arith,
-      put.auto.1.0 ∙ loop.invariant.1,
-      omega (arith, size c.before.before.before.before.before.before.before, c.length.ensures),
-      rw (put.ensures, c.length.ensures)
-          (sym (rows_more table loop.i _ (omega arith) (entries c.before.before.before.before.before.before.before) loop.buffer loop.place) ∙ loop.invariant.3),
+      put.auto.buffer ∙ loop.invariant.1,
+      omega (arith, left, c.length.ensures),
+      rw (put.ensures, c.length.ensures) (sym (rows_more table loop.i _ (omega arith) (omega arith) loop.buffer loop.place) ∙ loop.invariant.3),
     )
 
 pub returns : goal.returns
@@ -64,19 +56,24 @@ pub loop-i-init : goal.loop-i-init
 loop-i-init c = (omega arith, refl, omega arith, refl)
 
 pub offset_bounds-table-i : goal.offset_bounds-table-i
-offset_bounds-table-i c = omega (arith, few c.before.before.before.before)
+offset_bounds-table-i c = omega (arith, few c.args.table c.requires.0)
 
 pub bounds-table-i : goal.bounds-table-i
-bounds-table-i c = omega (arith, few c.before.before.before.before)
+bounds-table-i c = omega (arith, few c.args.table c.requires.0)
 
 pub length-requires : goal.length-requires
-length-requires c = (c.requires.0.0, known c.before.before.before.before.before.before)
+length-requires c =
+    (c.requires.0.0, known c.args.table c.requires.0 c.loop-i.i _ (omega arith) c.well_formed.1.0.1.1.0.1.0.1)
 
 pub overflow_add-place : goal.overflow_add-place
-overflow_add-place c = omega (arith, fits c.before.before.before.before.before.before.before, c.length.ensures)
+overflow_add-place c =
+    let left = size c.args.table c.requires.0 c.loop-i.i (record { tag = 0; values = [] }) (omega arith) c.well_formed.1.0.1.1.0.1.0.1 in
+    omega (arith, left, c.requires, c.length.ensures)
 
 pub overflow_add-place-in-loop-i : goal.overflow_add-place-in-loop-i
-overflow_add-place-in-loop-i c = omega (arith, fits c.before.before.before.before.before.before.before, c.length.ensures)
+overflow_add-place-in-loop-i c =
+    let left = size c.args.table c.requires.0 c.loop-i.i (record { tag = 0; values = [] }) (omega arith) c.well_formed.1.0.1.1.0.1.0.1 in
+    omega (arith, left, c.requires, c.length.ensures)
 
 pub shape_of-buffer : goal.shape_of-buffer
 shape_of-buffer c = c.loop-i.invariant.1

@@ -1,8 +1,7 @@
 -- The loop puts to each row its questions in turn: the answer to those of the rows left is the answer to all.
-use Rattle.constraint.proofs.Library.{[], ◌+◌, ◌-◌, ◌∙◌, ◌≡◌, ◌≤◌, arith, drop, drop_of_length-le, length, length-map, rules, subst⁻¹, sym}
+use Rattle.constraint.proofs.Library.{[], ◌+◌, arith, drop, drop_of_length-le, subst⁻¹}
 use Rattle.constraint.proofs.Judged.{judged_none}
 use Rattle.constraint.specs.Questions.{Judged}
-use Rattle.constraint.specs.declared.Answer.{Answer}
 use Rattle.constraint.specs.declared.Answer.TheVariants.{Refused, Taken}
 use Rattle.table_row.specs.Tables.{rows_of}
 use Rattle.constraint.specs.Accepted.{rows_questions}

@@ -1,5 +1,5 @@
 -- The row goes behind the others, where there is room; of a full table only the count is changed.
-use Rattle.constraint.proofs.Library.{◌∙◌, ◌≡◌, arith, length, length-map, rules, sym}
+use Rattle.constraint.proofs.Library.{arith}
 use Rattle.table_row.proofs.{Tables.rows_more}
 use Rattle.table_row.proofs.Table.with_row.Goals as goal
 
@@ -16,7 +16,7 @@ returns-then-i-eq-ROW_LIMIT c = record { room = λ h. absurd (omega arith); full
 
 pub returns-else-i-eq-ROW_LIMIT : goal.returns-else-i-eq-ROW_LIMIT
 returns-else-i-eq-ROW_LIMIT c = record {
-      room = λ h. absurd
-          (omega arith);
-      full = λ h. omega arith;
-    }
+  room = λ h. absurd
+      (omega arith);
+  full = λ h. omega arith;
+}

@@ -1,5 +1,5 @@
 -- The roles that the n uses have as many bytes as the fields of the row.
-use Rattle.constraint.proofs.Library.{◌+◌, ◌∙◌, ap, arith, rules, sym, ℕ}
+use Rattle.constraint.proofs.Library.{◌+◌, ◌∙◌, ap, arith, sym, ℕ}
 use Rattle.table_row.specs.Records.{total}
 use Rattle.table_row.proofs.Judging.{body_long, known_row}
 use Rattle.table_row.proofs.{Lines.total_small}

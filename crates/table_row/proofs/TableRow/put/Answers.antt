@@ -1,9 +1,7 @@
 -- The length field, the type byte and the fields are stored one behind the other.
-use Rattle.constraint.proofs.Library.{◌+◌, ◌∙◌, ◌≡◌, ap, arith, rules, sets, ℕ, List}
-use Rattle.constraint.specs.Steps.{at}
-use Rattle.constraint.specs.Types.{TypeKnown}
+use Rattle.constraint.proofs.Library.{◌+◌, ◌∙◌, ap, arith, sets, ℕ, List}
 use Rattle.constraint.specs.Table.{fields_bytes}
-use Rattle.table_row.specs.Records.{fields_as, roles_of, row_in, total}
+use Rattle.table_row.specs.Records.{fields_as, row_in, total}
 use Rattle.table_row.proofs.Judging.{body_long, known_row, row_bytes_long, row_stores}
 use Rattle.table_row.proofs.{Lines.total_small}
 use Rattle.table_row.proofs.TableRow.put.Goals as goal

@@ -1,5 +1,5 @@
 -- The values are read where the definition reads them.
-use Rattle.constraint.proofs.Library.{List, ◌∙◌, ap₂, arith, rules, replicate, ℕ}
+use Rattle.constraint.proofs.Library.{List, ◌∙◌, ap₂, arith, replicate, ℕ}
 use Rattle.constraint.specs.Steps.{at}
 use Rattle.table_row.specs.Records.{roles_of, values_at}
 use Rattle.table_row.specs.declared.TableRow.{TableRow}

@@ -1,6 +1,6 @@
 -- An upper and an offset are compared with the bound before them, a right as n says; a field of another role is not.
 use Rattle.constraint.proofs.Library.{leb}
-use Rattle.constraint.proofs.Judged.{free, same_test, test_le}
+use Rattle.constraint.proofs.Judged.{same_test, test_le}
 use Rattle.table_row.proofs.{FieldByField.other_bound}
 use Rattle.table_row.proofs.fields.bound_fits.Goals as goal
 

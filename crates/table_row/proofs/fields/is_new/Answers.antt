@@ -1,9 +1,6 @@
 -- The loop goes from byte to byte: where none before was the kind, the answer to what is asked of those left is the answer to all.
-use Rattle.constraint.proofs.Library.{Bool, ◌-◌, ◌∙◌, ◌≤◌, arith, false, sym, true, ⊎_elim}
-use Rattle.constraint.proofs.Judged.{free, same_test}
-use Rattle.constraint.specs.Records.{Absent, Decides}
-use Rattle.constraint.specs.Accepted.{kinds_in}
-use Rattle.table_row.specs.Records.{fields_from}
+use Rattle.constraint.proofs.Library.{◌∙◌, arith, false, sym, true}
+use Rattle.constraint.proofs.Judged.{same_test}
 use Rattle.table_row.proofs.FieldByField.{fields_end, kind_elsewhere, kind_here}
 use Rattle.table_row.proofs.fields.is_new.Goals as goal
 use Rattle.table_row.proofs.fields.is_new.Goals.{then-is_kind+else-values-i, else-is_kind}
@@ -24,9 +21,9 @@ loop-i-preserved c =
       omega arith,
       λ b later. c.loop-i.invariant.1 b
           (elim c.if-is_kind.branch [
-            then-is_kind+else-values-i w ↦ (rw (kind_here a.roles.now a.values.now i (omega (arith, c.requires.0)) (is ∙ w.if-is_kind.true))
+            | then-is_kind+else-values-i w ↦ (rw (kind_here a.roles.now a.values.now i (omega (arith, c.requires.0)) (is ∙ w.if-is_kind.true))
                 (same_test (λ absent. (λ e. w.if-values-i.false (sym e), absent)) (λ absent. absent.1) b later))
-          | else-is_kind w ↦ (rw (kind_elsewhere a.roles.now a.values.now i (omega (arith, c.requires.0)) (is ∙ w.if-is_kind.false)) later)
+            | else-is_kind w ↦ (rw (kind_elsewhere a.roles.now a.values.now i (omega (arith, c.requires.0)) (is ∙ w.if-is_kind.false)) later)
           ]),
     )
 

@@ -1,10 +1,8 @@
 -- The loop goes from byte to byte: where none before was the kind, the answer to what is asked of those left is the answer to all.
-use Rattle.constraint.proofs.Library.{Bool, ◌-◌, ◌∙◌, ◌≤◌, arith, false, sym, true, ⊎_elim}
-use Rattle.constraint.proofs.Judged.{free, same_test}
+use Rattle.constraint.proofs.Library.{Bool, ◌-◌, ◌≤◌}
 use Rattle.constraint.specs.Records.{Absent, Decides}
 use Rattle.constraint.specs.Accepted.{kinds_in}
 use Rattle.table_row.specs.Records.{fields_from}
-use Rattle.table_row.proofs.FieldByField.{fields_end, kind_elsewhere, kind_here}
 use Rattle.table_row.proofs.fields.is_new.Given as goal
 
 abbrev pub invariant-loop-i : goal.invariant-loop-i

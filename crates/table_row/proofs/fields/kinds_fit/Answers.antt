@@ -1,10 +1,8 @@
 -- The loop goes from byte to byte: each kind is asked to be at most 63 and none of the later ones, and the later ones fit by the turns to come.
-use Rattle.constraint.proofs.Library.{Bool, ◌-◌, ◌∙◌, ◌≤◌, arith, false, sym, true, ⊎_elim, ap, not}
-use Rattle.constraint.proofs.Judged.{failed, free, passed, same_test}
+use Rattle.constraint.proofs.Library.{◌∙◌, arith, false, sym, true, ap, not}
+use Rattle.constraint.proofs.Judged.{failed, passed, same_test}
 use Rattle.constraint.proofs.FittingKinds.{kinds_first, kinds_more, kinds_none, kinds_rest}
-use Rattle.constraint.specs.{Accepted.KindsFit, Records.Decides, Steps.at}
-use Rattle.constraint.specs.Accepted.{kinds_in}
-use Rattle.table_row.specs.Records.{fields_from}
+use Rattle.constraint.specs.{Steps.at}
 use Rattle.table_row.proofs.FieldByField.{fields_end, kind_elsewhere, kind_here}
 use Rattle.table_row.proofs.fields.kinds_fit.Goals as goal
 use Rattle.table_row.proofs.fields.kinds_fit.Goals.{then-is_kind+else-kind-gt-LAST_KIND+else-not-is_new, else-is_kind}
@@ -34,11 +32,11 @@ loop-i-preserved c =
       omega arith,
       λ b later. c.loop-i.invariant.1 b
           (elim c.if-is_kind.branch [
-            then-is_kind+else-kind-gt-LAST_KIND+else-not-is_new w ↦ (
-              let new = passed w.is_new.result w.is_new.ensures (ap not w.if-not-is_new.false) in
-              rw (kind_here a.roles.now a.values.now i (omega (arith, c.requires)) (is ∙ w.if-is_kind.true))
-              (same_test (kinds_more (at a.values.now i) _ (w.if-kind-gt-LAST_KIND.false, new)) (kinds_rest (at a.values.now i) _) b later))
-          | else-is_kind w ↦ (rw (kind_elsewhere a.roles.now a.values.now i (omega (arith, c.requires)) (is ∙ w.if-is_kind.false)) later)
+            | then-is_kind+else-kind-gt-LAST_KIND+else-not-is_new w ↦ (
+                let new = passed w.is_new.result w.is_new.ensures (ap not w.if-not-is_new.false) in
+                rw (kind_here a.roles.now a.values.now i (omega (arith, c.requires)) (is ∙ w.if-is_kind.true))
+                (same_test (kinds_more (at a.values.now i) _ (w.if-kind-gt-LAST_KIND.false, new)) (kinds_rest (at a.values.now i) _) b later))
+            | else-is_kind w ↦ (rw (kind_elsewhere a.roles.now a.values.now i (omega (arith, c.requires)) (is ∙ w.if-is_kind.false)) later)
           ]),
     )
 

@@ -1,11 +1,8 @@
 -- The loop goes from byte to byte: each kind is asked to be at most 63 and none of the later ones, and the later ones fit by the turns to come.
-use Rattle.constraint.proofs.Library.{Bool, ◌-◌, ◌∙◌, ◌≤◌, arith, false, sym, true, ⊎_elim}
-use Rattle.constraint.proofs.Judged.{failed, free, passed, same_test}
-use Rattle.constraint.proofs.FittingKinds.{kinds_first, kinds_more, kinds_none, kinds_rest}
-use Rattle.constraint.specs.{Accepted.KindsFit, Records.Decides, Steps.at}
+use Rattle.constraint.proofs.Library.{Bool, ◌-◌, ◌≤◌}
+use Rattle.constraint.specs.{Accepted.KindsFit, Records.Decides}
 use Rattle.constraint.specs.Accepted.{kinds_in}
 use Rattle.table_row.specs.Records.{fields_from}
-use Rattle.table_row.proofs.FieldByField.{fields_end, kind_elsewhere, kind_here}
 use Rattle.table_row.proofs.fields.kinds_fit.Given as goal
 
 abbrev pub invariant-loop-i : goal.invariant-loop-i

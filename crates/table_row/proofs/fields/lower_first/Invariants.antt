@@ -1,10 +1,8 @@
 -- The loop keeps the bound that it passed: what is asked of the fields left, with that bound before them, is what is asked of all.
-use Rattle.constraint.proofs.Library.{Bool, ◌-◌, ◌≤◌, arith, false, true}
-use Rattle.constraint.proofs.Judged.{failed, free, passed}
+use Rattle.constraint.proofs.Library.{Bool, ◌-◌, ◌≤◌}
 use Rattle.constraint.specs.Records.{Decides}
 use Rattle.constraint.specs.Accepted.{EachField, FieldInRange, Ordered}
 use Rattle.table_row.specs.Records.{fields_from}
-use Rattle.table_row.proofs.FieldByField.{bound_here, bound_missed, field_parts, fields_end}
 use Rattle.table_row.proofs.fields.lower_first.Given as goal
 
 abbrev pub invariant-loop-i : goal.invariant-loop-i

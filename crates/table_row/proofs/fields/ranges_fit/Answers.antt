@@ -1,9 +1,7 @@
 -- The loop asks field after field: the answer to what is asked of those left is the answer to all.
-use Rattle.constraint.proofs.Library.{Bool, ◌-◌, ◌≤◌, arith, false, true, ap, not}
-use Rattle.constraint.proofs.Judged.{failed, free, passed}
-use Rattle.constraint.specs.Records.{Decides}
-use Rattle.constraint.specs.Accepted.{EachField, FieldInRange}
-use Rattle.table_row.specs.Records.{fields_from}
+use Rattle.constraint.proofs.Library.{arith, false, true, ap, not}
+use Rattle.constraint.proofs.Judged.{failed, passed}
+use Rattle.constraint.specs.Accepted.{FieldInRange}
 use Rattle.table_row.proofs.FieldByField.{field_here, field_parts, fields_end}
 use Rattle.table_row.proofs.fields.ranges_fit.Goals as goal
 

@@ -1,5 +1,5 @@
 -- The list is looked up where the definition looks it up.
-use Rattle.constraint.proofs.Library.{List·getD-eq-default, rules, sym}
+use Rattle.constraint.proofs.Library.{List·getD-eq-default, sym}
 use Rattle.constraint.specs.Types.{last_types}
 use Rattle.table_row.proofs.types.last_type.Goals as goal
 

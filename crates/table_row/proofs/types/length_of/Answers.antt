@@ -1,5 +1,5 @@
 -- The lists are looked up where the definition looks them up.
-use Rattle.constraint.proofs.Library.{arith, rules, sym}
+use Rattle.constraint.proofs.Library.{arith, sym}
 use Rattle.table_row.proofs.{Lines.entries_small, Lines.entry_small, Lines.length_unknown, Lines.lengths_small}
 use Rattle.table_row.proofs.types.length_of.Goals as goal
 

@@ -1,5 +1,5 @@
 -- The test is that of `uses`, of the digit's number.
-use Rattle.constraint.proofs.Library.{◌-◌, ◌∙◌, arith, le-leb, lt-leb, rules}
+use Rattle.constraint.proofs.Library.{◌-◌, ◌∙◌, arith, le-leb, lt-leb}
 use Rattle.table_row.proofs.{Lines.uses_leb}
 use Rattle.table_row.proofs.types.role_for.Goals as goal
 

@@ -1,7 +1,6 @@
 -- The loop stores role after role: storing those left in what there is now gives the whole.
-use Rattle.constraint.proofs.Library.{◌+◌, ◌-◌, ◌∙◌, ◌≡◌, ◌≤◌, ap, arith, refl, replicate, sets, sym, ℕ}
+use Rattle.constraint.proofs.Library.{◌-◌, ◌≡◌, ◌≤◌, sets}
 use Rattle.table_row.specs.Records.{roles_from, roles_of}
-use Rattle.table_row.proofs.{Lines.roles_more, Stores.sets_all}
 use Rattle.table_row.proofs.types.roles_of.Given as goal
 
 abbrev pub invariant-loop-i : goal.invariant-loop-i

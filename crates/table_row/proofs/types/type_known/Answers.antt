@@ -1,9 +1,9 @@
 -- The type is compared with the edition's last one, and then the n is asked for where the type has one.
-use Rattle.constraint.proofs.Library.{◌<◌, ◌≡◌, ◌≤◌, List·getD-eq-default, arith, rules, true, leb, lt-ltb, ltb-true, ℕ}
+use Rattle.constraint.proofs.Library.{◌<◌, ◌≤◌, List·getD-eq-default, arith, leb, lt-ltb, ltb-true, ℕ}
 use Rattle.constraint.proofs.Lengths.{at_most}
 use Rattle.constraint.proofs.Judged.{same_test, test_le}
 use Rattle.constraint.specs.Steps.{at}
-use Rattle.constraint.specs.Types.{last_types, most_counts, takes_count}
+use Rattle.constraint.specs.Types.{last_types, most_counts}
 use Rattle.table_row.proofs.{Lines.least_small, Lines.most_small}
 use Rattle.table_row.proofs.types.type_known.Goals as goal
 

@@ -1,5 +1,4 @@
 -- The parts of the line are put behind one another.
-use Rattle.constraint.proofs.Library.{rules}
 use Rattle.text.proofs.{Texts.extended_append}
 use Rattle.text.specs.Content.{extended}
 use Rattle.text.proofs.Text.closed_line.Goals as goal

@@ -1,46 +1,56 @@
 -- The bytes copied are those that the text holds, and also of a text whose length says more than there is.
-use Rattle.constraint.proofs.Library.{◌∙◌, ◌≡◌, ◌≤◌, ap, arith, length, length-map, length-take-le, rules, sym, take, take_all, ⊎_elim}
+use Rattle.constraint.proofs.Library.{◌∙◌, ◌≡◌, ◌≤◌, ◌⊎◌, ap, arith, inl, inr, length, length-take-le, rules, sym, take, take_all, ℕ}
 use Rattle.text.proofs.{Texts.copied_all, Texts.copied_none}
 use Rattle.text.specs.Content.{content, text_limit}
+use Rattle.text.specs.declared.Text.{Text}
 use Rattle.text.proofs.Text.copy_to.Goals as goal
-use Rattle.text.proofs.Text.copy_to.Tie as tie
-use Rattle.text.proofs.Text.copy_to.Reads as reads
-use Rattle.text.proofs.Text.copy_to.Lts as steps
+use Rattle.text.proofs.Text.copy_to.Goals.{else-self-lt-TEXT_LIMIT, then-self-lt-TEXT_LIMIT}
 
-size : (c : steps.Start tie.the-claims reads.Pre reads.Post) → length c.args.self.bytes ≡ text_limit
-size c = sym (length-map c.args.self.bytes _) ∙ c.well_formed.0.1.1.0.1.0.1
-
-within : (c : steps.Joined1 tie.the-claims reads.Pre reads.Post) → c.if-self-lt-TEXT_LIMIT.len ≤ length c.args.self.bytes
-within c =
-    ⊎_elim (λ w. omega (arith, size c.before.before.before.before)) (λ w. omega (arith, size c.before.before.before.before)) c.if-self-lt-TEXT_LIMIT.branch
-
--- the bytes copied
-held : (c : steps.Joined1 tie.the-claims reads.Pre reads.Post) → take c.if-self-lt-TEXT_LIMIT.len c.args.self.bytes
-    ≡ content c.args.self
-held c =
-    let bytes = c.args.self.bytes in
-    ⊎_elim (λ w. rw w.1)
-    (λ w. rw w.1 (take_all text_limit bytes (omega (arith, size c.before.before.before.before))
-    ∙ sym (take_all c.args.self.len bytes (omega (arith, size c.before.before.before.before)))))
-    c.if-self-lt-TEXT_LIMIT.branch
+-- the bytes copied: as many as the text's length says, or all of them
+held : (text : Text) (len : ℕ) → length text.bytes ≡ text_limit → (len ≡ text.len) ⊎ ((text_limit ≤ text.len) × (len ≡ text_limit))
+    → take len text.bytes ≡ content text
+held text len size (inl same) = rw same
+held text len size (inr (full, limit)) =
+    rw limit (take_all text_limit text.bytes (omega (arith, size)) ∙ sym (take_all text.len text.bytes (omega (arith, size, full))))
 
 -- their number
-counted : (c : steps.Joined1 tie.the-claims reads.Pre reads.Post) → c.if-self-lt-TEXT_LIMIT.len ≡ length (content c.args.self)
-counted c =
-    let bytes = c.args.self.bytes in
-    sym (length-take-le c.if-self-lt-TEXT_LIMIT.len bytes (within c)) ∙ ap length (held c)
+counted : (text : Text) (len : ℕ) → len ≤ length text.bytes → take len text.bytes ≡ content text → len ≡ length (content text)
+counted text len within copied = sym (length-take-le len text.bytes within) ∙ ap length copied
 
 pub returns-then-buffer-len : goal.returns-then-buffer-len
 returns-then-buffer-len c =
-    copied_none (content c.args.self) c.args.buffer.now (omega (arith, counted c.before.before))
+    let text = c.args.self in
+    let len = c.if-self-lt-TEXT_LIMIT.len in
+    let size : length text.bytes ≡ text_limit = search rules in
+    let within : len ≤ length text.bytes =
+    elim c.if-self-lt-TEXT_LIMIT.branch [ then-self-lt-TEXT_LIMIT w ↦ search rules | else-self-lt-TEXT_LIMIT w ↦ search rules ] in
+    let copied : take len text.bytes ≡ content text =
+    held text len size (elim c.if-self-lt-TEXT_LIMIT.branch [
+      | then-self-lt-TEXT_LIMIT w ↦ inl w.len-is
+      | else-self-lt-TEXT_LIMIT w ↦ inr (w.if-self-lt-TEXT_LIMIT.false, w.len-is)
+    ]) in
+    copied_none (content text) c.args.buffer.now (omega (arith, counted text len within copied, c.if-buffer-len.true))
 
 pub returns : goal.returns
 returns c =
-    rw (c.put.ensures, held c.before.before.before.before.before.before.before, counted c.before.before.before.before.before.before.before)
-    (copied_all (content c.args.self) c.args.buffer.now (omega (arith, counted c.before.before.before.before.before.before.before)))
+    let text = c.args.self in
+    let len = c.if-self-lt-TEXT_LIMIT.len in
+    let size : length text.bytes ≡ text_limit = search rules in
+    let within : len ≤ length text.bytes =
+    elim c.if-self-lt-TEXT_LIMIT.branch [ then-self-lt-TEXT_LIMIT w ↦ search rules | else-self-lt-TEXT_LIMIT w ↦ search rules ] in
+    let copied : take len text.bytes ≡ content text =
+    held text len size (elim c.if-self-lt-TEXT_LIMIT.branch [
+      | then-self-lt-TEXT_LIMIT w ↦ inl w.len-is
+      | else-self-lt-TEXT_LIMIT w ↦ inr (w.if-self-lt-TEXT_LIMIT.false, w.len-is)
+    ]) in
+    rw (c.put.ensures, copied, counted text len within copied)
+    (copied_all (content text) c.args.buffer.now (omega (arith, counted text len within copied, c.if-buffer-len.false)))
 
 pub slice_bounds-bytes-end : goal.slice_bounds-bytes-end
-slice_bounds-bytes-end c = within c.before.before.before
+slice_bounds-bytes-end c =
+    elim c.if-self-lt-TEXT_LIMIT.branch [ then-self-lt-TEXT_LIMIT w ↦ search rules | else-self-lt-TEXT_LIMIT w ↦ search rules ]
 
 pub slice_bounds-put-end : goal.slice_bounds-put-end
-slice_bounds-put-end c = sym (length-take-le _ _ (within c.before.before.before.before))
+slice_bounds-put-end c =
+    sym (length-take-le _ _
+    (elim c.if-self-lt-TEXT_LIMIT.branch [ then-self-lt-TEXT_LIMIT w ↦ search rules | else-self-lt-TEXT_LIMIT w ↦ search rules ]))

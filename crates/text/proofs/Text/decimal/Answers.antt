@@ -1,5 +1,5 @@
 -- The digits are those of the definition, and stand at the end of their bytes.
-use Rattle.constraint.proofs.Library.{◌-◌, arith, drop, length-drop, rules, take_all}
+use Rattle.constraint.proofs.Library.{◌-◌, arith, drop, length-drop, take_all}
 use Rattle.text.proofs.Text.decimal.Goals as goal
 
 pub returns : goal.returns

@@ -1,5 +1,4 @@
 -- One byte is a word of one byte.
-use Rattle.constraint.proofs.Library.{rules}
 use Rattle.text.specs.Content.{extended}
 use Rattle.text.proofs.Text.push.Goals as goal
 

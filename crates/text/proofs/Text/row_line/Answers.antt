@@ -1,5 +1,4 @@
 -- The parts of the line are put behind one another, by the verdict.
-use Rattle.constraint.proofs.Library.{rules}
 use Rattle.text.proofs.{Texts.extended_append}
 use Rattle.text.specs.Content.{extended}
 use Rattle.text.proofs.Text.row_line.Goals as goal

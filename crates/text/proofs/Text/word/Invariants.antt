@@ -1,6 +1,5 @@
 -- The loop stores byte after byte: putting those left behind what there is now gives the whole, and a full text takes none of them.
-use Rattle.constraint.proofs.Library.{◌-◌, ◌∙◌, ◌≡◌, ◌≤◌, arith, drop, drop_of_length-le, length, refl, sym}
-use Rattle.text.proofs.{Texts.extended_full, Texts.extended_next}
+use Rattle.constraint.proofs.Library.{◌-◌, ◌≡◌, ◌≤◌, drop, length}
 use Rattle.text.specs.Content.{extended}
 use Rattle.text.proofs.Text.word.Given as goal
 

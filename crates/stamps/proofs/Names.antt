@@ -7,7 +7,7 @@ pub use Rattle.constraint.proofs.History.{valid_more, valid_none}
 pub use Rattle.constraint.proofs.Judged.{failed, judged_all, judged_no, judged_none, judged_once, judged_yes, never, passed}
 pub use Rattle.constraint.proofs.Library.{Bool, List, [], ◌&&◌, ◌++◌, ◌+◌, ◌-◌, ◌<◌, ◌∙◌, ◌∷◌, ◌≡◌, ◌≤◌, ap, arith, by_cases, cond, dec_lt, eq-eqb}
 pub use Rattle.constraint.proofs.Library.{eqb, eqb-false, eqb-true, ext_get_or, false, get_or-take, get_elem?, inl, inr, leb, length, length-append}
-pub use Rattle.constraint.proofs.Library.{length-take, max, min, ne_eqb, rules, refl, some, subst, suc, sym, take, true, zero, ℕ, ⊎_elim}
+pub use Rattle.constraint.proofs.Library.{length-take, max, min, ne_eqb, not, rules, refl, some, subst, suc, sym, take, true, zero, ℕ, ⊎_elim}
 pub use Rattle.constraint.proofs.Lists.{Each, at_left, at_next, both, rising_at, split}
 pub use Rattle.constraint.proofs.{Runs.accepts_taken, Runs.kept_exactly}
 pub use Rattle.constraint.specs.Recording.{ReadsInOrder, ReadsRecording, ReadsRecords, RecordAt, RecordingRead, VersionKnown, call_at, no_more}

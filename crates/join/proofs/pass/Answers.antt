@@ -1,19 +1,19 @@
 -- The loop reads record after record: the kinds of those read are marked, and the first one to avoid is kept.
-use Rattle.join.proofs.Names.{[], ◌-◌, arith, clock_with, failed, free, length, passed, ticks_on, version_refused}
+use Rattle.join.proofs.Names.{[], ◌-◌, ap, arith, clock_with, failed, length, not, passed, ticks_on, version_refused}
 use Rattle.join.proofs.Passing.{PassedTo, pass_end, pass_more, pass_refused, pass_start, pass_ticks}
 use Rattle.join.proofs.pass.Goals as goal
 
 pub returns-then-not-version_known : goal.returns-then-not-version_known
 returns-then-not-version_known c =
     record {
-      refused = λ more. version_refused (failed c.version_known.result c.version_known.ensures c.if-not-version_known.true);
+      refused = λ more. version_refused (failed c.version_known.result c.version_known.ensures (ap not c.if-not-version_known.true));
       taken = λ e. absurd (omega (arith, e));
     }
 
 pub loop-place-init : goal.loop-place-init
 loop-place-init c =
     let args = c.args in
-    pass_start args.bytes.now args.avoid.now (passed c.version_known.result c.version_known.ensures c.if-not-version_known.false)
+    pass_start args.bytes.now args.avoid.now (passed c.version_known.result c.version_known.ensures (ap not c.if-not-version_known.false))
     (clock_with c.start-clock.result _) c.start-clock.ensures
 
 pub returns-then-read-gt0 : goal.returns-then-read-gt0

@@ -5,6 +5,10 @@ use Rattle.join.proofs.{Heads.keeps_within, Walking.Walking, Walking.head_fits, 
 use Rattle.join.proofs.{Walking.walk_short, Walking.walk_start}
 use Rattle.join.proofs.walk.Given as goal
 
+-- the last place
+abbrev last : ℕ
+last = 18446744073709551615
+
 abbrev pub invariant-loop-a : goal.invariant-loop-a
 invariant-loop-a l =
     (l.size ≤ l.limit) × (length l.buffer ≡ length l.initial.buffer) × HeadAt l.first l.place l.a × HeadAt l.second l.other l.b × (l.place + l.a.size ≤ last)

@@ -1,12 +1,12 @@
 -- The loop reads record after record: what is kept of the stamps is that of the steps read so far.
-use Rattle.stamps.proofs.Names.{[], ◌-◌, arith, clock_with, failed, free, length, passed, ticks_on, version_refused}
+use Rattle.stamps.proofs.Names.{[], ◌-◌, ap, arith, clock_with, failed, length, not, passed, ticks_on, version_refused}
 use Rattle.stamps.proofs.Progress.{PassedTo, pass_end, pass_more, pass_refused, pass_start, pass_ticks}
 use Rattle.stamps.proofs.pass.Goals as goal
 
 pub returns-then-not-version_known : goal.returns-then-not-version_known
 returns-then-not-version_known c =
     record {
-      refused = λ more. version_refused (failed c.version_known.result c.version_known.ensures c.if-not-version_known.true);
+      refused = λ more. version_refused (failed c.version_known.result c.version_known.ensures (ap not c.if-not-version_known.true));
       taken = λ e. absurd (omega (arith, e));
     }
 
@@ -14,7 +14,7 @@ pub loop-place-init : goal.loop-place-init
 loop-place-init c =
     let args = c.args in
     rw c.new-stamps.ensures
-    (pass_start args.bytes.now args.asked (passed c.version_known.result c.version_known.ensures c.if-not-version_known.false)
+    (pass_start args.bytes.now args.asked (passed c.version_known.result c.version_known.ensures (ap not c.if-not-version_known.false))
     (clock_with c.start-clock.result _) c.start-clock.ensures)
 
 pub returns-then-read-gt0 : goal.returns-then-read-gt0

@@ -12,13 +12,13 @@ pub offset_bounds-need-first : goal.offset_bounds-need-first
 offset_bounds-need-first c =
     let inv = c.loop-size.invariant in
     let small : c.loop-size.first < 256 = omega (arith, c.requires, inv.inside c.loop-size-test.true, inv.positive) in
-    search needs
+    search rules
 
 pub bounds-need-first : goal.bounds-need-first
 bounds-need-first c =
     let inv = c.loop-size.invariant in
     let small : c.loop-size.first < 256 = omega (arith, c.requires, inv.inside c.loop-size-test.true, inv.positive) in
-    search needs
+    search rules
 
 pub returns-then-need-first : goal.returns-then-need-first
 returns-then-need-first c =

@@ -21,27 +21,25 @@ stretch_parts first size tried a b c one two three e =
 
 pub returns-in-Found : goal.returns-in-Found
 returns-in-Found c =
-    let given = c.answer-1.given in
+    let a = c.in-Found in
     record {
-      answer = StretchAnswer.Found given.0.0 given.0.1.0 given.0.1.1.0;
-      answers = rw given.1 at c.shortest-answer.ensures;
+      answer = StretchAnswer.Found a.first a.size a.tried;
+      answers = rw a.is at c.shortest-answer.ensures;
       equals = refl;
       small = λ n place e. never (cc);
-      parts = λ first size tried e. stretch_parts given.0.0 given.0.1.0 given.0.1.1.0 first size tried (omega arith) (omega arith)
-          (omega arith) e;
+      parts = λ first size tried e. stretch_parts a.first a.size a.tried first size tried (omega arith) (omega arith) (omega arith) e;
     }
 
 pub returns-in-Refused : goal.returns-in-Refused
 returns-in-Refused c =
     let args = c.args in
-    let given = c.answer-in-Refused-1.given in
-    let says : AnswersStretchUpTo args.newest args.table.now args.recording.now args.row
-    (StretchAnswer.Refused given.0.0 given.0.1.0) =
-    rw given.1 at c.shortest-answer.ensures in
+    let a = c.in-Refused in
+    let says : AnswersStretchUpTo args.newest args.table.now args.recording.now args.row (StretchAnswer.Refused a.number a.place) =
+    rw a.is at c.shortest-answer.ensures in
     record {
-      answer = StretchAnswer.Refused given.0.0 given.0.1.0;
+      answer = StretchAnswer.Refused a.number a.place;
       answers = says;
       equals = omega (arith, c.place_number.ensures);
-      small = λ n place e. refusal_small given.0.0 given.0.1.0 n place (stretch_short _ _ _ _ _ says).0 (omega arith) e;
+      small = λ n place e. refusal_small a.number a.place n place (stretch_short _ _ _ _ _ says).0 (omega arith) e;
       parts = λ first size tried e. never (cc);
     }

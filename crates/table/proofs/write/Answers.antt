@@ -1,5 +1,5 @@
 -- The rows' questions are put first, then the room's; then the version byte and the rows are stored.
-use Rattle.table.proofs.Names.{Accepted, Judged, Taken, [], arith, rules, rows_of, rows_questions}
+use Rattle.table.proofs.Names.{arith, rows_of}
 use Rattle.table.proofs.Names.{table_bytes_in}
 use Rattle.table.proofs.{Written.written_all, Written.written_refused, Written.written_short}
 use Rattle.table.proofs.write.Goals as goal

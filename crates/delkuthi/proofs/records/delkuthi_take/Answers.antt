@@ -16,11 +16,10 @@ returns-in-Accepted c =
 pub returns-in-Refused : goal.returns-in-Refused
 returns-in-Refused c =
     let args = c.args in
-    let given = c.answer-1.given in
-    let takes : TakesBytes args.recording.now args.m.now (ReadAnswer.Refused given.0.0 given.0.1.0) _ =
-    rw given.1 at c.take_records-answer.ensures in
+    let takes : TakesBytes args.recording.now args.m.now (ReadAnswer.Refused c.in-Refused.number c.in-Refused.place) _ =
+    rw c.in-Refused.is at c.take_records-answer.ensures in
     record {
-      answer = ReadAnswer.Refused given.0.0 given.0.1.0;
+      answer = ReadAnswer.Refused c.in-Refused.number c.in-Refused.place;
       takes = takes;
       equals = omega (arith, c.place_number.ensures);
       small = taken_small takes;

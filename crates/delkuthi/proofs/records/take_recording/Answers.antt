@@ -14,7 +14,6 @@ returns-in-Accepted c rows accepted holds =
 pub returns-in-Refused : goal.returns-in-Refused
 returns-in-Refused c rows accepted holds =
     let args = c.args in
-    let given = c.answer-1.given in
-    let takes : TakesBytes args.bytes.now args.m.now (ReadAnswer.Refused given.0.0 given.0.1.0) _ =
-    rw given.1 at c.take_records-answer.ensures in
+    let takes : TakesBytes args.bytes.now args.m.now (ReadAnswer.Refused c.in-Refused.number c.in-Refused.place) _ =
+    rw c.in-Refused.is at c.take_records-answer.ensures in
     recording_cut rows args.bytes.now accepted args.m.now _ _ holds takes

@@ -19,13 +19,12 @@ returns-in-Reads c =
 pub returns-in-Refused : goal.returns-in-Refused
 returns-in-Refused c =
     let args = c.args in
-    let given = c.answer-in-Refused-1.given in
     let says : AnswersStampsUpTo args.newest args.table.now args.recording.now args.row args.late
-    (StampedAnswer.Refused given.0.0 given.0.1.0) =
-    rw given.1 at c.read-answer.ensures in
+    (StampedAnswer.Refused c.in-Refused.number c.in-Refused.place) =
+    rw c.in-Refused.is at c.read-answer.ensures in
     record {
-      answer = StampedAnswer.Refused given.0.0 given.0.1.0;
+      answer = StampedAnswer.Refused c.in-Refused.number c.in-Refused.place;
       answers = says;
       equals = omega (arith, c.place_number.ensures);
-      small = λ n place e. refusal_small given.0.0 given.0.1.0 n place (stamped_short _ _ _ _ _ _ says).0 (omega arith) e;
+      small = λ n place e. refusal_small c.in-Refused.number c.in-Refused.place n place (stamped_short _ _ _ _ _ _ says).0 (omega arith) e;
     }

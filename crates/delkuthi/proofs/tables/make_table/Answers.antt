@@ -1,5 +1,5 @@
 -- A written table is short enough for 256 times its length to fit in 64 bits. The number of a refusal gives its row.
-use Rattle.delkuthi.proofs.Names.{arith, rules, }
+use Rattle.delkuthi.proofs.Names.{arith, rules}
 use Rattle.delkuthi.proofs.{Refusals.makes_refused, Refusals.makes_written, Refusals.raw_short}
 use Rattle.delkuthi.proofs.tables.make_table.Goals as goal
 
@@ -9,7 +9,7 @@ overflow_mul-length c =
     let a = c.args in
     omega (
       arith,
-      raw_short a.rows.now a.table.now w.new.1.1.0 w.result c.in-Written.count c.in-Written.is
+      raw_short a.rows.now a.table.now w.new.buffer w.result c.in-Written.count c.in-Written.is
           w.ensures,
     )
 
@@ -17,12 +17,12 @@ pub returns-in-Written : goal.returns-in-Written
 returns-in-Written c =
     let w = c.write in
     let a = c.args in
-    makes_written a.rows.now a.table.now w.new.1.1.0 w.result c.in-Written.count c.in-Written.is
+    makes_written a.rows.now a.table.now w.new.buffer w.result c.in-Written.count c.in-Written.is
     w.ensures
 
 pub returns-in-Refused : goal.returns-in-Refused
 returns-in-Refused c =
     let w = c.write in
     let a = c.args in
-    makes_refused a.rows.now a.table.now w.new.1.1.0 w.result c.in-Refused.number c.refused_row.result
+    makes_refused a.rows.now a.table.now w.new.buffer w.result c.in-Refused.number c.refused_row.result
     c.row_number.result (omega arith) c.in-Refused.is w.ensures c.refused_row.ensures c.row_number.ensures

@@ -3,7 +3,7 @@ use Rattle.delkuthi.proofs.Names.{judged_no, rules}
 use Rattle.delkuthi.proofs.writing.form_refusal.Goals as goal
 
 pub returns-in-Event : goal.returns-in-Event
-returns-in-Event c = rw c.in-Event.is c.Plain-Form.ensures
+returns-in-Event c = rw c.in-Event.is c.plain_form.ensures
 
 pub returns-in-ColouredEvent : goal.returns-in-ColouredEvent
 returns-in-ColouredEvent c = rw c.in-ColouredEvent.is c.coloured_form.ensures

@@ -11,10 +11,10 @@ returns-then-waiting_at-eq0 c n holds =
 
 pub returns : goal.returns
 returns c n holds =
-    let args = c.before.args in
+    let args = c.args in
     let m = args.m.now in
-    let there = c.before.requires in
-    let waits : 0 < waiting_at n args.i = omega (arith, above_zero _ c.if1.false, c.waiting-at.ensures n holds) in
+    let there = c.requires in
+    let waits : 0 < waiting_at n args.i = omega (arith, above_zero _ c.if-waiting_at-eq0.false, c.waiting_at.ensures n holds) in
     rw (lt-ltb 0 (waiting_at n args.i) waits)
     (c.stream_from.ensures ∙ ap (λ (kind : ℕ). min kind no_stream)
     (c.oldest_kind.ensures ∙ ap₂ oldest_kind (parameters_lie m n holds args.i there) (registers_lie m n holds args.i there)))

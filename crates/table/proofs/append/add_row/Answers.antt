@@ -1,5 +1,5 @@
 -- The first bytes of the buffer are judged with the body, and the row is stored behind them.
-use Rattle.table.proofs.Names.{Bytes, arith, length-take}
+use Rattle.table.proofs.Names.{Bytes, arith, length-take, rules}
 use Rattle.table.proofs.Appending.{adds_none, adds_one}
 use Rattle.table.proofs.append.add_row.Goals as goal
 
@@ -21,7 +21,7 @@ unfolding Bytes
 returns-in-Added c =
     let a = c.args in
     adds_one a.buffer.now a.size c.within-place.result a.body.now c.within-place.ensures _ _
-    (rw c.in-Added.is at c.answer.ensures) c.put_row.ensures (λ i h. omega arith)
+    (rw c.in-Added.is at c.answer.ensures) c.put_row.ensures (λ i h. search rules)
 
 pub slice_bounds-answer-end : goal.slice_bounds-answer-end
 slice_bounds-answer-end c = omega (arith, c.within-place.ensures)

@@ -1,5 +1,5 @@
 -- The last type of the edition tells whether it has the type.
-use Rattle.table.proofs.Names.{rules, refl}
+use Rattle.table.proofs.Names.{refl}
 use Rattle.constraint.proofs.Library.{le-ltb, lt-ltb}
 use Rattle.table.proofs.append.edition_with.Goals as goal
 

@@ -1,5 +1,5 @@
 -- The edition is stored, and then the length field and the body one after the other.
-use Rattle.table.proofs.Names.{[], ◌+◌, ◌∙◌, ◌∷◌, ◌≡◌, ap, at, bytes_length, bytes_of, length, rules, sets, stores_append, sym, ℕ}
+use Rattle.table.proofs.Names.{[], ◌+◌, ◌∙◌, ◌∷◌, ◌≡◌, ap, at, bytes_length, bytes_of, length, sets, stores_append, sym, ℕ}
 use Rattle.table.specs.Appending.{edition_with}
 use Rattle.table.proofs.append.put_row.Goals as goal
 

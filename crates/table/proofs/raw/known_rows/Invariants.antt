@@ -1,7 +1,6 @@
 -- The loop asks row after row for its bytes and its type, and stops at the first that lacks one.
-use Rattle.table.proofs.Names.{Decides, KnownAt, KnownFrom, ◌*◌, ◌-◌, ◌<◌, ◌≡◌, ◌≤◌, arith, failed, length, passed, raw_size, row_limit}
-use Rattle.table.proofs.Names.{subst, ℕ}
-use Rattle.table.proofs.{RawRows.known_more}
+use Rattle.table.proofs.Names.{KnownAt, ◌*◌, ◌-◌, ◌<◌, ◌≡◌, ◌≤◌, length, raw_size, row_limit}
+use Rattle.table.proofs.Names.{ℕ}
 use Rattle.table.proofs.raw.known_rows.Given as goal
 
 abbrev pub invariant-loop-i : goal.invariant-loop-i

@@ -1,6 +1,5 @@
 -- The loop stores row after row: storing those left in what there is now gives the whole.
-use Rattle.table.proofs.Names.{Bytes, ◌+◌, ◌-◌, ◌∙◌, ◌≡◌, ◌≤◌, ap, arith, body_length, length, raw_rows, refl, rows_bytes, sets, sym}
-use Rattle.table.proofs.RawRows.{left_size, left_stored, rows_all, rows_end}
+use Rattle.table.proofs.Names.{◌+◌, ◌-◌, ◌≡◌, ◌≤◌, length, raw_rows, rows_bytes, sets}
 use Rattle.table.proofs.raw.put_rows.Given as goal
 
 abbrev pub invariant-loop-i : goal.invariant-loop-i

@@ -1,6 +1,5 @@
 -- The loop asks row after row, and stops at the first that is not taken.
-use Rattle.table.proofs.Names.{RowTaken, ◌*◌, ◌-◌, ◌<◌, ◌≡◌, ◌≤◌, arith, failed, length, passed, raw_size, row_limit, ℕ}
-use Rattle.table.proofs.{RawRows.taken_more}
+use Rattle.table.proofs.Names.{RowTaken, ◌*◌, ◌-◌, ◌<◌, ◌≡◌, ◌≤◌, length, raw_size, row_limit, ℕ}
 use Rattle.table.proofs.raw.refused_row.Given as goal
 
 abbrev pub invariant-loop-i : goal.invariant-loop-i

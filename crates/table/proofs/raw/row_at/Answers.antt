@@ -1,5 +1,5 @@
 -- The body is the part from the row's first byte to its end.
-use Rattle.table.proofs.Names.{◌∙◌, add-sub_cancel_left, arith, free}
+use Rattle.table.proofs.Names.{◌∙◌, add-sub_cancel_left, arith}
 use Rattle.table.proofs.raw.row_at.Goals as goal
 
 pub overflow_mul-start : goal.overflow_mul-start

@@ -30,8 +30,7 @@ pub returns-in-Taken : goal.returns-in-Taken
 unfolding Bytes
 returns-in-Taken c =
     let a = c.args in
-    let known = yes_of c.known_at.result c.known_at.ensures c.if-not-known_at.false in
-    (
+    let known = yes_of c.known_at.result c.known_at.ensures c.if-not-known_at.false in (
       known,
       own a.edition a.bytes.now a.i known c.requires (λ i h. omega (arith, (c.type_inv.bytes i).fits)) c.row_at-row.result
           c.row_at-row.ensures _ (rw c.in-Taken.is at c.validate_values.ensures),

@@ -1,5 +1,5 @@
 -- The loop adds row after row: the size so far and the bytes of the rows left are the whole.
-use Rattle.table.proofs.Names.{Bytes, ◌*◌, ◌+◌, ◌-◌, ◌≡◌, ◌≤◌, ap, arith, length, raw_rows, raw_size, rows_bytes}
+use Rattle.table.proofs.Names.{Bytes, ◌+◌, ap, arith, length, rows_bytes}
 use Rattle.table.proofs.RawRows.{left_size, rows_all, rows_end}
 use Rattle.table.proofs.raw.size_of.Goals as goal
 
@@ -24,10 +24,10 @@ returns c =
 
 pub loop-i-init : goal.loop-i-init
 loop-i-init c = (
-      omega arith,
-      omega arith,
-      ap (λ (rows : _). 1 + length (rows_bytes rows)) (rows_all c.args.bytes.now c.args.count),
-    )
+  omega arith,
+  omega arith,
+  ap (λ (rows : _). 1 + length (rows_bytes rows)) (rows_all c.args.bytes.now c.args.count),
+)
 
 pub body_end-requires : goal.body_end-requires
 body_end-requires c = (c.requires.known _ (omega arith), omega (arith, c.requires.whole))

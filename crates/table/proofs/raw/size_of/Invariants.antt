@@ -1,6 +1,5 @@
 -- The loop adds row after row: the size so far and the bytes of the rows left are the whole.
-use Rattle.table.proofs.Names.{Bytes, ◌*◌, ◌+◌, ◌-◌, ◌≡◌, ◌≤◌, ap, arith, length, raw_rows, raw_size, rows_bytes}
-use Rattle.table.proofs.RawRows.{left_size, rows_all, rows_end}
+use Rattle.table.proofs.Names.{◌*◌, ◌+◌, ◌-◌, ◌≡◌, ◌≤◌, length, raw_rows, rows_bytes}
 use Rattle.table.proofs.raw.size_of.Given as goal
 
 abbrev pub invariant-loop-i : goal.invariant-loop-i

@@ -1,5 +1,5 @@
 -- The loop puts to each row its questions in turn: the answer to those of the rows left is the answer to all.
-use Rattle.table.proofs.Names.{Answer, Judged, Refused, Taken, [], ◌+◌, ◌-◌, ◌≤◌, arith, judged_none, rules, raw_rows, rows_refused}
+use Rattle.table.proofs.Names.{Judged, Refused, Taken, [], ◌+◌, ◌-◌, arith, judged_none, raw_rows, rows_refused}
 use Rattle.table.proofs.Names.{rows_taken}
 use Rattle.table.proofs.Names.{rows_questions, subst⁻¹}
 use Rattle.table.proofs.RawRows.{rows_all, rows_end, rows_left}

@@ -1,8 +1,6 @@
 -- The loop puts to each row its questions in turn: the answer to those of the rows left is the answer to all.
-use Rattle.table.proofs.Names.{Answer, Judged, Refused, Taken, [], ◌+◌, ◌-◌, ◌≤◌, arith, judged_none, rules, raw_rows, rows_refused}
-use Rattle.table.proofs.Names.{rows_taken}
-use Rattle.table.proofs.Names.{rows_questions, subst⁻¹}
-use Rattle.table.proofs.RawRows.{rows_all, rows_end, rows_left}
+use Rattle.table.proofs.Names.{Answer, Judged, [], ◌-◌, ◌≤◌, raw_rows}
+use Rattle.table.proofs.Names.{rows_questions}
 use Rattle.table.proofs.raw.validate_rows.Given as goal
 
 abbrev pub invariant-loop-i : goal.invariant-loop-i

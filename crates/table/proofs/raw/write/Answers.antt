@@ -1,5 +1,5 @@
 -- The rows up to the first that stops are judged; where none stops all are written, row by row.
-use Rattle.table.proofs.Names.{Bytes, Judged, Taken, [], ◌*◌, ◌+◌, ◌∙◌, ◌≤◌, arith, length, rules, raw_rows, raw_size, rows_questions}
+use Rattle.table.proofs.Names.{Bytes, ◌*◌, ◌+◌, ◌∙◌, ◌≤◌, arith, length, raw_size}
 use Rattle.table.proofs.Names.{table_bytes_in}
 use Rattle.table.proofs.RawRows.{all_written, full_refused, known_refused, unknown_refused}
 use Rattle.table.proofs.{Written.written_all, Written.written_short}
@@ -44,16 +44,15 @@ returns-then-buffer-size c =
     (written_short a.edition _ a.buffer.now (rw c.in-Taken.is at c.validate_rows.ensures) (omega (arith, c.size_of-size.ensures, c.if-buffer-size.true)))
 
 pub put_rows-requires : goal.put_rows-requires
-put_rows-requires c =
-    (
-      c.known_rows-known.ensures,
-      omega (
-        arith,
-        c.if-buffer-size.false,
-        c.size_of-size.ensures,
-        c.put_byte.auto.buffer,
-      ),
-    )
+put_rows-requires c = (
+  c.known_rows-known.ensures,
+  omega (
+    arith,
+    c.if-buffer-size.false,
+    c.size_of-size.ensures,
+    c.put_byte.auto.buffer,
+  ),
+)
 
 pub returns : goal.returns
 unfolding table_bytes_in Bytes
@@ -70,9 +69,9 @@ overflow_mul-known c = omega (arith, c.known_rows-known.ensures.room)
 
 pub overflow_sub-rows : goal.overflow_sub-rows
 overflow_sub-rows c = omega (
-      arith,
-      c.known_rows-known.ensures.whole,
-    )
+  arith,
+  c.known_rows-known.ensures.whole,
+)
 
 pub shape_of-buffer : goal.shape_of-buffer
 shape_of-buffer c = c.put_rows.auto.buffer ∙ c.put_byte.auto.buffer

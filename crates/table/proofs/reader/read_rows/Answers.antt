@@ -1,7 +1,7 @@
 -- The loop reads row after row: the record holds the rows read so far, and what is read from the place on, behind them, is the whole.
-use Rattle.table.proofs.Names.{Constraint, ReadsAt, Taken, [], ◌++◌, ◌-◌, ◌∙◌, ◌∷◌, ap, arith, length, rules, refl, row_read_at, rows_of}
-use Rattle.table.proofs.Progress.{ReadUpTo, up_to_end, up_to_more, up_to_refused, up_to_start}
-use Rattle.table.proofs.{Places.PlaceTaken, Places.place_taken}
+use Rattle.table.proofs.Names.{Constraint, ReadsAt, Taken, [], ◌++◌, ◌∙◌, ◌∷◌, ap, arith, refl, rows_of}
+use Rattle.table.proofs.Progress.{up_to_end, up_to_more, up_to_refused, up_to_start}
+use Rattle.table.proofs.{Places.place_taken}
 use Rattle.table.proofs.reader.read_rows.Goals as goal
 
 -- the row that is put in the record was taken
@@ -24,12 +24,11 @@ returns-in-Refused c =
     )
 
 pub returns : goal.returns
-returns c =
-    (
-      up_to_end c.args.edition c.args.bytes.now c.loop-place.table
-          c.loop-place.place c.loop-place.invariant c.loop-place-test.false,
-      refl,
-    )
+returns c = (
+  up_to_end c.args.edition c.args.bytes.now c.loop-place.table
+      c.loop-place.place c.loop-place.invariant c.loop-place-test.false,
+  refl,
+)
 
 pub loop-place-init : goal.loop-place-init
 loop-place-init c = up_to_start c.args.edition c.args.bytes.now c.new-table.result (omega arith) c.new-table.ensures

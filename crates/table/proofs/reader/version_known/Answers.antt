@@ -1,5 +1,5 @@
 -- A first byte that is an edition is there, so it is left to compare it with the newest edition.
-use Rattle.table.proofs.Names.{◌<◌, arith, free, last_type, }
+use Rattle.table.proofs.Names.{◌<◌, arith, last_type}
 use Rattle.table.proofs.{Places.version_asked}
 use Rattle.table.proofs.reader.version_known.Goals as goal
 

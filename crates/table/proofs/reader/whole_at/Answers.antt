@@ -1,5 +1,5 @@
 -- What is left behind the length field is compared with it, once it is known that the field is there.
-use Rattle.table.proofs.Names.{arith, free, rules, }
+use Rattle.table.proofs.Names.{arith}
 use Rattle.table.proofs.{Places.whole_asked}
 use Rattle.table.proofs.reader.whole_at.Goals as goal
 

@@ -1,6 +1,6 @@
 -- Where a row is whole, its body is the part behind the length field, and it is read as the row that it stands for.
-use Rattle.table.proofs.Names.{Bytes, List, RowAt, WholeAt, ◌+◌, ◌-◌, ◌∙◌, ◌≡◌, ap, arith, at, drop, failed, filler, free, length, length-sets}
-use Rattle.table.proofs.Names.{loaded_row, rules, number_behind}
+use Rattle.table.proofs.Names.{Bytes, List, RowAt, ◌+◌, ◌-◌, ◌∙◌, ◌≡◌, ap, arith, at, drop, failed, filler, length, length-sets}
+use Rattle.table.proofs.Names.{loaded_row, number_behind}
 use Rattle.table.proofs.Names.{not, yes_of, refl, replicate, roles_of, row_from, row_in, row_read, row_read_at, sets_all, subst⁻¹, sym, take}
 use Rattle.table.proofs.Names.{values_at, ℕ}
 use Rattle.table.proofs.{Places.part_body, Places.row_at}

@@ -1,6 +1,5 @@
 -- Row after row: before the turn of number k the rows from k on are read from the place that the turn has.
-use Rattle.table.proofs.Names.{Constraint, List, ReadsRows, ◌-◌, ◌<◌, ◌∙◌, ◌≡◌, ◌≤◌, ap, arith, drop, filler, length, some, sym, table_of, ℕ}
-use Rattle.table.proofs.{Scanning.row_there, Scanning.scan_step}
+use Rattle.table.proofs.Names.{Constraint, List, ReadsRows, ◌-◌, ◌<◌, ◌≤◌, drop, length, table_of, ℕ}
 use Rattle.table.proofs.scan.row_behind.Given as goal
 
 abbrev pub invariant-loop-k : goal.invariant-loop-k

@@ -1,5 +1,5 @@
 -- The table has as many rows as judging it counts, so a number that is not below the count is no row's.
-use Rattle.table.proofs.Names.{arith, at, rules, }
+use Rattle.table.proofs.Names.{arith, at}
 use Rattle.table.proofs.{Scanning.scan_count, Scanning.scan_start}
 use Rattle.table.proofs.scan.row_numbered.Goals as goal
 

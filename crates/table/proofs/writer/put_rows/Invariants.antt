@@ -1,9 +1,7 @@
 -- The loop stores row after row: storing those left in what there is now gives the whole.
-use Rattle.table.proofs.Names.{Constraint, List, TableRow, TypeKnown, [], ◌+◌, ◌-◌, ◌<◌, ◌^◌, ◌∙◌, ◌≡◌, ◌≤◌, ap, arith, count_of, drop}
-use Rattle.table.proofs.Names.{drop_of_length-le, get_or, length, length-map, refl, row_bytes_long, row_known, row_body, row_in, row_limit}
-use Rattle.table.proofs.Names.{rows_length}
-use Rattle.table.proofs.Names.{rows_room, rows_bytes, rows_of, sets, sym, type_of}
-use Rattle.table.proofs.{Stores.rows_more, Stores.rows_size}
+use Rattle.table.proofs.Names.{◌+◌, ◌-◌, ◌≡◌, ◌≤◌, drop}
+use Rattle.table.proofs.Names.{length}
+use Rattle.table.proofs.Names.{rows_bytes, rows_of, sets}
 use Rattle.table.proofs.writer.put_rows.Given as goal
 
 abbrev pub invariant-loop-i : goal.invariant-loop-i

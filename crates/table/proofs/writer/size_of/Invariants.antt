@@ -1,7 +1,6 @@
 -- The loop adds row after row: the size so far and the bytes of the rows left are the whole.
-use Rattle.table.proofs.Names.{TableRow, TypeKnown, [], ◌*◌, ◌+◌, ◌-◌, ◌∙◌, ◌≡◌, ◌≤◌, arith, count_of, drop, drop_of_length-le, get_or, length}
-use Rattle.table.proofs.Names.{length-map, row_known, row_short, row_in, row_limit, rows_length, rows_room, rows_bytes, rows_of, sym, type_of}
-use Rattle.table.proofs.{Stores.rows_size}
+use Rattle.table.proofs.Names.{◌*◌, ◌+◌, ◌-◌, ◌≡◌, ◌≤◌, drop, length}
+use Rattle.table.proofs.Names.{rows_bytes, rows_of}
 use Rattle.table.proofs.writer.size_of.Given as goal
 
 abbrev pub invariant-loop-i : goal.invariant-loop-i

@@ -92,7 +92,7 @@ fn named_files(text: &str) -> Vec<&str> {
 /// A file that a document names is there: seen from the document, or as the end of a path in the repository.
 #[test]
 fn each_file_that_is_named_is_there() {
-    let every: Vec<PathBuf> = ["crates", "host", "python", "docs", "include", "program", "release", "examples"]
+    let every: Vec<PathBuf> = ["crates", "host", "python", "docs", "include", "program", "release", "examples", "tools"]
         .iter()
         .flat_map(|folder| files(folder, &ENDINGS))
         .collect();

@@ -19,7 +19,6 @@ bounds-after-at c = omega (
   arith,
   c.place_in-at.ensures,
   place_in_small c.args.self.undo.place,
-
 )
 
 pub returns : goal.returns

@@ -1,5 +1,5 @@
 -- The tests are those of `after_stimulus_age`, in its order.
-use Rattle.constraint.proofs.Library.{eq-eqb, ne_eqb, rules}
+use Rattle.constraint.proofs.Library.{eq-eqb, ne_eqb}
 use Rattle.event_chain.proofs.age.after_stimulus.Goals as goal
 
 pub returns-then-high-eq0 : goal.returns-then-high-eq0

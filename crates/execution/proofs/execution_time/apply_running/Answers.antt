@@ -1,5 +1,5 @@
 -- The tests are those of `while_running`, in its order.
-use Rattle.constraint.proofs.Library.{◌∙◌, ◌≡◌, eq-eqb, le-leb, le-ltb, lt-leb, lt-ltb, ne_eqb, rules, refl}
+use Rattle.constraint.proofs.Library.{◌∙◌, ◌≡◌, eq-eqb, le-leb, le-ltb, lt-leb, lt-ltb, ne_eqb, refl}
 use Rattle.row_type.specs.Words.{changed_words, number_words, row_as_words}
 use Rattle.execution.specs.ExecutionTime.{ran_to, while_running}
 use Rattle.execution.proofs.execution_time.apply_running.Goals as goal

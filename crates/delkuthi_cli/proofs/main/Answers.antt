@@ -1,6 +1,5 @@
 -- What is written of the text lies within its bytes.
-use Rattle.std.proofs.Common.{length, length-take-le, sym}
-use borrow.Author.Rules.{rules}
+use Rattle.std.proofs.Common.{length-take-le, sym}
 use native.Mathlib.Omega.{arith}
 use Rattle.delkuthi_cli.proofs.main.Goals as goal
 

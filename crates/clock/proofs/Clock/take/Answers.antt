@@ -1,7 +1,7 @@
 -- The number is that of the first "no"; where there is none the clock, the count, the first free time and the mark are those after the call.
 use Rattle.clock.proofs.{Laws.refusal_of, Laws.takes_refused, Laws.takes_taken}
 use Rattle.clock.specs.Clock.{clock_with}
-use Rattle.constraint.proofs.Library.{◌≡◌, arith, rules, }
+use Rattle.constraint.proofs.Library.{◌≡◌, arith, rules}
 use Rattle.questions.proofs.Places.{place_small}
 use Rattle.clock.proofs.Clock.take.Goals as goal
 

@@ -1,5 +1,5 @@
 -- The questions are put in their order, and the first "no" gives the number.
-use Rattle.in_place.proofs.Names.{Call, ◌∙◌, ap, ap₂, arith, first_coloured, get_or, last_colour, last_kind, le-ltb, lt-ltb, rules, refl}
+use Rattle.in_place.proofs.Names.{Call, ◌∙◌, ap, ap₂, arith, first_coloured, get_or, last_colour, last_kind, le-ltb, lt-ltb, refl}
 use Rattle.in_place.proofs.Names.{stream}
 use Rattle.in_place.proofs.Names.{stream_count, time_refusal, ℕ}
 use Rattle.in_place.proofs.{RefusalOrder.first_number, RefusalOrder.own_number, Parts.number_at}

@@ -1,5 +1,5 @@
 -- Where the event crowds a row nothing is stored; else the numbers, the rows to which the clock goes, and the rows of its kind, one after the other.
-use Rattle.in_place.proofs.Names.{◌∙◌, ◌≡◌, ap, deadlines_checked, dispatched, recorded_on, crowded_on, event_at, false, get_or, rules, refl, rows_in}
+use Rattle.in_place.proofs.Names.{◌∙◌, ◌≡◌, ap, deadlines_checked, dispatched, recorded_on, crowded_on, event_at, false, get_or, refl, rows_in}
 use Rattle.in_place.proofs.Names.{without_asked, sym, true, words_of_lent}
 use Rattle.in_place.proofs.Parts.{begun_alone, begun_count, begun_lists, shaped_begun, shaped_counted, shaped_full}
 use Rattle.in_place.proofs.calls.event_on.Goals as goal

@@ -1,5 +1,5 @@
 -- The row is added to the set where it is nearly full, and else the set stays.
-use Rattle.in_place.proofs.Names.{List, Words, [], ◌-◌, ◌^◌, ◌∙◌, ◌≡◌, ap, ap₂, arith, bit_and, bit_or, false, get_or, le-ltb, lt-ltb, ltb, rules}
+use Rattle.in_place.proofs.Names.{List, Words, [], ◌-◌, ◌^◌, ◌∙◌, ◌≡◌, ap, ap₂, arith, bit_and, bit_or, false, get_or, le-ltb, lt-ltb, ltb}
 use Rattle.in_place.proofs.Names.{number_words, refl, row_at, row_as_words, set, sym, true, with_full, words_of_lent, ℕ}
 use Rattle.in_place.proofs.{Blocks.row_lies, Parts.full_written, Parts.number_at}
 use Rattle.row.specs.Stored as Stored

@@ -1,5 +1,5 @@
 -- Each row's due time stands at its place.
-use Rattle.in_place.proofs.Names.{Lent, List, Shaped, [], ◌+◌, ◌<◌, ◌∙◌, ◌≡◌, ap, ap₂, arith, due_at, get_or, min, rules, number_words}
+use Rattle.in_place.proofs.Names.{Lent, List, Shaped, [], ◌+◌, ◌<◌, ◌∙◌, ◌≡◌, ap, ap₂, arith, due_at, get_or, min, number_words}
 use Rattle.in_place.proofs.Names.{row_as_words}
 use Rattle.in_place.proofs.Names.{Words, words_of_lent, ℕ}
 use Rattle.in_place.proofs.{Blocks.row_lies}

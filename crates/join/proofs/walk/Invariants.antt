@@ -1,8 +1,7 @@
 -- The version is stored, and then, turn by turn, what is left of the record that comes next.
-use Rattle.join.proofs.Names.{HeadAt, List, Records, Step, [], ◌+◌, ◌-◌, ◌∙◌, ◌∷◌, ◌≡◌, ◌≤◌, ap, arith, both, free, joined, length}
-use Rattle.join.proofs.Names.{length-sets, not-false, not-true, sets, steps_bytes, refl, sym, ℕ}
-use Rattle.join.proofs.{Heads.keeps_within, Walking.Walking, Walking.head_fits, Walking.next_whole, Walking.walk_end, Walking.walk_more}
-use Rattle.join.proofs.{Walking.walk_short, Walking.walk_start}
+use Rattle.join.proofs.Names.{HeadAt, List, Records, Step, ◌+◌, ◌-◌, ◌≡◌, ◌≤◌, length}
+use Rattle.join.proofs.Names.{ℕ}
+use Rattle.join.proofs.{Walking.Walking}
 use Rattle.join.proofs.walk.Given as goal
 
 -- the last place

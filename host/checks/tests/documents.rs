@@ -92,10 +92,11 @@ fn named_files(text: &str) -> Vec<&str> {
 /// A file that a document names is there: seen from the document, or as the end of a path in the repository.
 #[test]
 fn each_file_that_is_named_is_there() {
-    let every: Vec<PathBuf> = ["crates", "host", "python", "docs", "include", "program", "release", "examples", "tools"]
-        .iter()
-        .flat_map(|folder| files(folder, &ENDINGS))
-        .collect();
+    let every: Vec<PathBuf> =
+        ["crates", "host", "python", "docs", "include", "program", "release", "examples", "tools"]
+            .iter()
+            .flat_map(|folder| files(folder, &ENDINGS))
+            .collect();
     let mut missing = Vec::new();
     let history = root().join("docs/history");
     let documents = all_files().into_iter().filter(|file| file.extension().is_some_and(|ending| ending == "md"));

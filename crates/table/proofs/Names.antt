@@ -1,12 +1,12 @@
 -- The names of the definitions and laws below this crate that its proofs use, passed on from one place.
 pub use Rattle.constraint.proofs.Accepted.{row_accepted, rows_refused, rows_room, rows_taken, rows_then}
-pub use Rattle.constraint.proofs.Judged.{failed, free, judged_all, judged_first, judged_later, judged_no, judged_none, judged_once, judged_once_on}
-pub use Rattle.constraint.proofs.Judged.{judged_parts, judged_yes, never, passed, same_test, test_le, yes_of}
+pub use Rattle.constraint.proofs.Judged.{failed, judged_all, judged_first, judged_later, judged_no, judged_none, judged_once, judged_once_on}
+pub use Rattle.constraint.proofs.Judged.{judged_parts, judged_yes, never, same_test, test_le, yes_of}
 pub use Rattle.constraint.proofs.Library.{Bool, not}
-pub use Rattle.constraint.proofs.Library.{List, [], ◌*◌, ◌++◌, ◌+◌, ◌-◌, ◌<◌, ◌^◌, ◌∙◌, ◌∷◌, ◌≡◌, ◌≤◌, add-one}
+pub use Rattle.constraint.proofs.Library.{List, [], ◌*◌, ◌++◌, ◌+◌, ◌-◌, ◌<◌, ◌∙◌, ◌∷◌, ◌≡◌, ◌≤◌, add-one}
 pub use Rattle.constraint.proofs.Library.{add-sub_cancel_left, add-zero, ap, append_assoc, ap₂, arith, drop, drop-append_seam}
 pub use Rattle.constraint.proofs.Library.{drop_at, drop-cons, drop-drop, drop_of_length-le, eqb, eqb-false, eqb-true, ext_get_or, get_or}
-pub use Rattle.constraint.proofs.Library.{get_or-drop, get_or-take, get_elem?, leb, length, length-append, length-drop, length-map}
+pub use Rattle.constraint.proofs.Library.{get_or-drop, get_or-take, get_elem?, leb, length, length-append, length-drop}
 pub use Rattle.constraint.proofs.Library.{length-take, length-take-le, ltb, ltb-false, ltb-true, rules, refl, sets, some, subst}
 pub use Rattle.constraint.proofs.Library.{subst⁻¹, subst₂, suc, sym, take, take_all, take-append-drop, take-append_seam, take_at}
 pub use Rattle.constraint.proofs.Library.{zero, ℕ}

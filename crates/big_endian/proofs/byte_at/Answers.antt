@@ -1,5 +1,5 @@
 -- Past the end the byte is 0, as the definition says.
-use Rattle.constraint.proofs.Library.{List·getD-eq-default, rules, sym}
+use Rattle.constraint.proofs.Library.{List·getD-eq-default, sym}
 use Rattle.big_endian.proofs.byte_at.Goals as goal
 
 pub returns : goal.returns

@@ -1,8 +1,7 @@
 -- The loop reads byte after byte: the number read, behind which the bytes left stand, is the whole.
-use Rattle.constraint.proofs.Library.{◌+◌, ◌-◌, ◌<◌, ◌∙◌, ◌≡◌, ◌≤◌, ap, arith, refl, subst, sym, ℕ}
-use Rattle.constraint.specs.{Bytes.bytes_at, Bytes.number_at, Bytes.number_behind, Steps.at}
-use Rattle.big_endian.proofs.Numbers.{Room, number_end, number_more, room_first, room_next, room_now}
-use Rattle.big_endian.proofs.{Shifts.shifted_up}
+use Rattle.constraint.proofs.Library.{◌≡◌, ◌≤◌}
+use Rattle.constraint.specs.{Bytes.bytes_at, Bytes.number_at, Bytes.number_behind}
+use Rattle.big_endian.proofs.Numbers.{Room}
 use Rattle.big_endian.proofs.number_at.Given as goal
 
 abbrev pub invariant-loop-left : goal.invariant-loop-left

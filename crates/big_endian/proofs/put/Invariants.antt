@@ -1,6 +1,5 @@
 -- The loop stores byte after byte: storing those left in what there is now gives the whole.
-use Rattle.constraint.proofs.Library.{List, ◌-◌, ◌∙◌, ◌≡◌, ◌≤◌, ap, arith, drop, drop_of_length-le, get_or, length, length-set, refl, sets, sym, ℕ}
-use Rattle.big_endian.proofs.{Stores.stores_more, Stores.stores_past}
+use Rattle.constraint.proofs.Library.{◌-◌, ◌≡◌, ◌≤◌, drop, length, sets}
 use Rattle.big_endian.proofs.put.Given as goal
 
 abbrev pub invariant-loop-i : goal.invariant-loop-i

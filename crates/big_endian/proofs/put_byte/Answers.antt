@@ -1,5 +1,5 @@
 -- Past the end nothing is stored.
-use Rattle.constraint.proofs.Library.{rules, set_out, sym}
+use Rattle.constraint.proofs.Library.{set_out, sym}
 use Rattle.big_endian.proofs.put_byte.Goals as goal
 
 pub returns-else-place-buffer : goal.returns-else-place-buffer

@@ -1,5 +1,5 @@
 -- The loop stores byte after byte, each cut out by a shift: storing those left in what there is now gives the whole.
-use Rattle.constraint.proofs.Library.{◌∙◌, ◌≡◌, ◌≤◌, ap, arith, length, length-set, refl, sets, sym, ℕ}
+use Rattle.constraint.proofs.Library.{◌∙◌, ◌≡◌, ap, arith, length-set, refl, sets, sym, ℕ}
 use Rattle.constraint.specs.Bytes.{bytes_of}
 use Rattle.big_endian.proofs.{Shifts.stores_shifted, Stores.stores_past}
 use Rattle.big_endian.proofs.put_number.Goals as goal

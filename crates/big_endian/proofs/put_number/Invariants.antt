@@ -1,7 +1,6 @@
 -- The loop stores byte after byte, each cut out by a shift: storing those left in what there is now gives the whole.
-use Rattle.constraint.proofs.Library.{◌∙◌, ◌≡◌, ◌≤◌, ap, arith, length, length-set, refl, sets, sym, ℕ}
+use Rattle.constraint.proofs.Library.{◌≡◌, ◌≤◌, length, sets}
 use Rattle.constraint.specs.Bytes.{bytes_of}
-use Rattle.big_endian.proofs.{Shifts.stores_shifted, Stores.stores_past}
 use Rattle.big_endian.proofs.put_number.Given as goal
 
 abbrev pub invariant-loop-left : goal.invariant-loop-left

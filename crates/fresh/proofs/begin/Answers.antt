@@ -6,9 +6,9 @@ use Rattle.fresh.proofs.begin.Goals as goal
 pub returns : goal.returns
 returns c rows reads few n-is =
     let a = c.args in
-    let words : Words = c.clear.new.0 in
-    let wide : length a.m.now ≡ 35 = c.clear-arg-1.given.0.1 in
+    let words : Words = c.clear.new.blocks in
+    let wide : length a.m.now ≡ 35 = omega arith in
     let cleared : words ≡ replicate 35 no_words = c.clear.ensures ∙ ap (λ (n : ℕ). replicate n no_words) wide in
     let long : length (numbered words a.n) ≡ 35 = ap (λ (w : Words). length (numbered w a.n)) cleared in
-    begun_words rows few words c.put_rows.new.0 cleared
-    (subst (λ (n : ℕ). RowsPut (numbered words n) (after rows []) 32 c.put_rows.new.0) n-is (c.put_rows.ensures rows reads long))
+    begun_words rows few words c.put_rows.new.m cleared
+    (subst (λ (n : ℕ). RowsPut (numbered words n) (after rows []) 32 c.put_rows.new.m) n-is (c.put_rows.ensures rows reads long))

@@ -10,11 +10,11 @@ loop-kind-init c = (omega arith, λ h s lies. lies)
 
 pub loop-kind-preserved : goal.loop-kind-preserved
 loop-kind-preserved c =
-    let n = c.args.n in let kind = c.loop.kind in (
+    let n = c.args.n in let kind = c.loop-kind.kind in (
       omega arith,
       λ h s lies.
           let m = h.monitor in
-          let so_far = c.loop.invariant.1 h s lies in
+          let so_far = c.loop-kind.invariant.1 h s lies in
           let h' = with_lists h (padded 64 (sets_to m n kind)) in
           let wide = shaped_lists h s (sets_to m n kind) in
           c.put_set.ensures h' so_far wide

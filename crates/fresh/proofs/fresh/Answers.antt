@@ -21,7 +21,7 @@ returns-then-number-eq0 c =
     let counted = c.validate-judged.ensures.accepted c.if-number-eq0.true in
     let rows : List Constraint = counted.rows in
     let lies = c.begin.ensures rows (scan_start a.table.now rows counted.reads) counted.room counted.counted in
-    let words : c.enlist.new.0 ≡ words_of_lent (fresh_lent rows) =
+    let words : c.enlist.new.m ≡ words_of_lent (fresh_lent rows) =
     c.enlist.ensures (fresh_lent rows) (fresh_shaped rows counted.room) lies
     ∙ ap (λ (n : ℕ). words_of_lent (with_lists (fresh_lent rows) (sets_to (after rows []) n 64)))
     counted.counted in

@@ -2,9 +2,6 @@
 use Rattle.fresh.proofs.Names.{Lent, Shaped, ◌*◌, ◌+◌, ◌-◌, ◌<◌, ◌^◌, ◌∙◌, ◌≡◌, ◌≤◌, ap, ap₂, arith, is_of, pow-le-pow_right, pow-suc}
 use Rattle.fresh.proofs.Names.{set_from, subst, suc, words_of_lent, ℕ}
 use Rattle.fresh.proofs.set_of.Goals as goal
-use Rattle.fresh.proofs.set_of.Tie as tie
-use Rattle.fresh.proofs.set_of.Reads as reads
-use Rattle.fresh.proofs.set_of.Lts as steps
 
 pub loop-i-init : goal.loop-i-init
 unfolding set_from
@@ -36,15 +33,14 @@ returns c h e s =
     l.invariant.2 h e s ∙ ap₂ (set_from (is_of h.monitor a.kind)) at_end all
 
 -- there are at most 32 digits
-small : (c : steps.In-loop tie.the-claims reads.Pre reads.Post goal.the-invariant-loop-i goal.the-decreases-loop-i) → c.loop-i.rows < 4294967296
-small c =
-    let l = c.loop-i in
-    let most : 2 ^ (c.args.n - l.i) ≤ 2 ^ 32 =
-    pow-le-pow_right {n = 2} (omega arith) {i = c.args.n - l.i} {j = 32} (omega (arith, c.requires)) in
-    omega (arith, l.invariant.1, most)
+small : (n i rows : ℕ) → n ≤ 32 → rows < 2 ^ (n - i) → rows < 4294967296
+small n i rows few below =
+    let most : 2 ^ (n - i) ≤ 2 ^ 32 = pow-le-pow_right {n = 2} (omega arith) {i = n - i} {j = 32} (omega (arith, few)) in
+    omega (arith, below, most)
 
 pub overflow_mul-rows : goal.overflow_mul-rows
-overflow_mul-rows c = omega (arith, small c.before)
+overflow_mul-rows c = omega (arith, small c.args.n c.loop-i.i c.loop-i.rows c.requires c.loop-i.invariant.1)
 
 pub overflow_add-rows : goal.overflow_add-rows
-overflow_add-rows c = omega (arith, small c.before.before, c.digit_of.ensures.0)
+overflow_add-rows c =
+    omega (arith, small c.args.n c.loop-i.i c.loop-i.rows c.requires c.loop-i.invariant.1, c.digit_of.ensures.0)

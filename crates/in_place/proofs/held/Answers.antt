@@ -9,7 +9,6 @@ returns-then-n-lt32 c = (
   λ h e s.
       let n = ap (λ m. get_or (get_or (get_or m 32 []) 0 []) 3 0) e ∙ ap (λ (b : List (List ℕ)). get_or (get_or b 0 []) 3 0) (numbers_read h s) in
       omega (arith, n, c.if-n-lt32.true),
-
 )
 
 pub returns-else-n-lt32 : goal.returns-else-n-lt32
@@ -18,5 +17,4 @@ returns-else-n-lt32 c = (
   λ h e s.
       let n = ap (λ m. get_or (get_or (get_or m 32 []) 0 []) 3 0) e ∙ ap (λ (b : List (List ℕ)). get_or (get_or b 0 []) 3 0) (numbers_read h s) in
       omega (arith, n, c.if-n-lt32.false),
-
 )

@@ -1,5 +1,5 @@
 -- The names stand in the order of the types, each filled up to 24, so the one at the place of the type is its column.
-use Rattle.constraint.proofs.Library.{List, List·getD-eq-default, List·getD-map, ◌<◌, ◌∙◌, ◌≡◌, get_or, length, map, rules, ℕ}
+use Rattle.constraint.proofs.Library.{List, List·getD-eq-default, List·getD-map, ◌<◌, ◌∙◌, ◌≡◌, get_or, length, map, ℕ}
 use Rattle.constraint.proofs.Lists.{get_d_within}
 use Rattle.constraint.specs.{Page.left_in, Page.name_of, Types.type_names, Types.unknown_name}
 use Rattle.page.proofs.name.Goals as goal

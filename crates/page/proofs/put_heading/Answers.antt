@@ -1,5 +1,5 @@
 -- A heading is put before each sixteenth row and nowhere else.
-use Rattle.constraint.proofs.Library.{◌%◌, ◌≡◌, add-zero, eq-eqb, eqb, false, ne_eqb, rules, true}
+use Rattle.constraint.proofs.Library.{◌%◌, ◌≡◌, add-zero, eq-eqb, eqb, false, ne_eqb, true}
 use Rattle.constraint.specs.Page.{hyphens}
 use Rattle.page.proofs.put_heading.Goals as goal
 

@@ -1,5 +1,5 @@
 -- The columns are stored one behind the other.
-use Rattle.constraint.proofs.Library.{List, ◌++◌, ◌<◌, ◌∙◌, ◌≡◌, ap, arith, drop, rules, take, take_all, ℕ}
+use Rattle.constraint.proofs.Library.{List, ◌++◌, ◌<◌, ◌∙◌, ◌≡◌, ap, arith, drop, take, take_all, ℕ}
 use Rattle.page.proofs.Lines.{at_gap, at_name, at_rest, at_step, at_word, end, gap, last_columns, line_is, name, number, step, stored, word}
 use Rattle.page.proofs.put_line.Goals as goal
 

@@ -1,5 +1,5 @@
 -- After each turn the lines of the rows so far are stored, and the place is behind them.
-use Rattle.constraint.proofs.Library.{◌*◌, ◌+◌, ◌-◌, ◌/◌, ◌∙◌, ◌≡◌, ◌≤◌, ap, arith, length, length-sets, rules, refl, sets, subst, ℕ}
+use Rattle.constraint.proofs.Library.{◌+◌, ◌∙◌, ◌≡◌, ap, arith, length, length-sets, refl, sets, subst, ℕ}
 use Rattle.constraint.specs.{Page.page_lines, Steps.at}
 use Rattle.page.proofs.{Pages.heading_length, Pages.row_stored}
 use Rattle.page.specs.Sheet.{verdicts_of}
@@ -24,7 +24,7 @@ loop-row-preserved c =
     let verdicts = verdicts_of start.closed start.steps.now in
     let buffer = start.buffer.now in
     let next =
-    row_stored types verdicts buffer loop.buffer c.put_heading-behind.new.0 c.put_line.new.0 loop.place c.put_heading-behind.result
+    row_stored types verdicts buffer loop.buffer c.put_heading-behind.new.buffer c.put_line.new.buffer loop.place c.put_heading-behind.result
     loop.row (omega arith) loop.invariant.2 loop.invariant.3 c.put_heading-behind.ensures.stored c.put_heading-behind.ensures.behind
     (rw (← c.verdict.ensures) c.put_line.ensures) in
     (omega arith, ap length next.1 ∙ length-sets buffer 0 (page_lines types verdicts (loop.row + 1)), next.0, next.1)

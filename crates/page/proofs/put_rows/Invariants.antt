@@ -1,7 +1,6 @@
 -- After each turn the lines of the rows so far are stored, and the place is behind them.
-use Rattle.constraint.proofs.Library.{◌*◌, ◌+◌, ◌-◌, ◌/◌, ◌∙◌, ◌≡◌, ◌≤◌, ap, arith, length, length-sets, rules, refl, sets, subst, ℕ}
+use Rattle.constraint.proofs.Library.{◌*◌, ◌+◌, ◌-◌, ◌/◌, ◌≡◌, ◌≤◌, length, sets}
 use Rattle.constraint.specs.{Page.page_lines, Steps.at}
-use Rattle.page.proofs.{Pages.heading_length, Pages.row_stored}
 use Rattle.page.specs.Sheet.{verdicts_of}
 use Rattle.page.proofs.put_rows.Given as goal
 

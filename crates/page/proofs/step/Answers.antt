@@ -1,5 +1,4 @@
 -- By cases on the verdict: the digits of a step are right-aligned already.
-use Rattle.constraint.proofs.Library.{rules}
 use Rattle.page.proofs.step.Goals as goal
 
 pub returns-in-Open : goal.returns-in-Open

@@ -1,5 +1,4 @@
 -- By cases on the verdict.
-use Rattle.constraint.proofs.Library.{rules}
 use Rattle.page.proofs.word.Goals as goal
 
 pub returns-in-Open : goal.returns-in-Open

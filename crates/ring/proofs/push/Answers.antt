@@ -1,5 +1,5 @@
 -- The place is that of `push_ring`, and the test is its test.
-use Rattle.ring.proofs.Names.{le-ltb, lt-ltb, rules, push_ring}
+use Rattle.ring.proofs.Names.{le-ltb, lt-ltb, push_ring}
 use Rattle.ring.proofs.push.Goals as goal
 
 pub returns-then-len-lt-SIZE : goal.returns-then-len-lt-SIZE

@@ -1,5 +1,5 @@
 -- The place is that of `put_ring`, and the test is its test.
-use Rattle.ring.proofs.Names.{le-ltb, lt-ltb, rules, put_ring}
+use Rattle.ring.proofs.Names.{le-ltb, lt-ltb, put_ring}
 use Rattle.ring.proofs.put.Goals as goal
 
 pub returns-then-i-len : goal.returns-then-i-len

@@ -1,5 +1,5 @@
 -- Each word is stored at its place; the test is that of `put_back`.
-use Rattle.ring.proofs.Names.{le-ltb, lt-ltb, rules, put_back}
+use Rattle.ring.proofs.Names.{le-ltb, lt-ltb, put_back}
 use Rattle.ring.proofs.put_back.Goals as goal
 
 pub returns-then-place-lt-SIZE : goal.returns-then-place-lt-SIZE

@@ -1,5 +1,5 @@
 -- Both words are put, one after the other; places that the ring does not have stay as they are.
-use Rattle.ring.proofs.Names.{Ring, ◌+◌, ◌≡◌, ◌≤◌, arith, le-ltb, rules, put_ring, sym, ℕ}
+use Rattle.ring.proofs.Names.{Ring, ◌+◌, ◌≡◌, ◌≤◌, arith, le-ltb, put_ring, sym, ℕ}
 use Rattle.ring.proofs.put_pair.Goals as goal
 
 -- words at places that the ring does not have

@@ -1,5 +1,4 @@
 -- The place is that of `time_at`.
-use Rattle.ring.proofs.Names.{rules}
 use Rattle.ring.proofs.time_at.Goals as goal
 
 pub returns : goal.returns

@@ -11,7 +11,6 @@ returns-then-first-gt0 c = (
   λ h e s. first_number h
       (Call.ColouredEvent c.args.kind c.args.colour c.args.time) _
       (c.first_refusal-first.ensures h e s) c.if-first-gt0.true,
-
 )
 
 pub returns-then-kind-gt-LAST_KIND : goal.returns-then-kind-gt-LAST_KIND

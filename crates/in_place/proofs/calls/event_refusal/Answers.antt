@@ -9,7 +9,6 @@ returns-then-first-gt0 c = (
   λ z. absurd (omega (arith, z, c.if-first-gt0.true)),
   λ h e s. first_number h
       (Call.Event c.args.kind c.args.time) _ (c.first_refusal-first.ensures h e s) c.if-first-gt0.true,
-
 )
 
 pub returns-then-kind-gt-LAST_KIND : goal.returns-then-kind-gt-LAST_KIND

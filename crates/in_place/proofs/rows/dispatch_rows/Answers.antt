@@ -21,7 +21,6 @@ loop-left-init c = (
     soonest_is = number_at h s _ e 4;
     same = refl;
   },
-
 )
 
 -- the lowest row that is left

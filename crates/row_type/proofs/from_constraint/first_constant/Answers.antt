@@ -1,5 +1,5 @@
 -- The list is looked up where the definition looks it up; past its end there is no type.
-use Rattle.constraint.proofs.Library.{List·getD-eq-default, arith, rules, sym}
+use Rattle.constraint.proofs.Library.{List·getD-eq-default, arith, sym}
 use Rattle.constraint.proofs.Lengths.{at_most}
 use Rattle.row_type.specs.Parameters.{first_constants}
 use Rattle.row_type.proofs.from_constraint.first_constant.Goals as goal

@@ -1,5 +1,5 @@
 -- The fields of the values are the constraint's, and so are the numbers.
-use Rattle.constraint.proofs.Library.{List, ◌∙◌, ap₂, rules, ℕ}
+use Rattle.constraint.proofs.Library.{List, ◌∙◌, ap₂, ℕ}
 use Rattle.table_row.specs.Records.{fields_as}
 use Rattle.table_row.proofs.Judging.{known_row}
 use Rattle.row_type.specs.Parameters.{with_fields}

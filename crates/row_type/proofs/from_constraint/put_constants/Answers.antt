@@ -1,5 +1,5 @@
 -- The values from the first constant on are the constraint's constants; a row without constants keeps its zeros.
-use Rattle.constraint.proofs.Library.{List, [], ◌∙◌, ◌≡◌, ap, ap₂, arith, drop_of_length-le, rules, replicate, sets, sym, ℕ}
+use Rattle.constraint.proofs.Library.{List, [], ◌∙◌, ◌≡◌, ap, ap₂, arith, drop_of_length-le, replicate, sets, sym, ℕ}
 use Rattle.constraint.specs.Steps.{at}
 use Rattle.table_row.specs.Records.{roles_of}
 use Rattle.table_row.proofs.Judging.{known_row}

@@ -1,7 +1,6 @@
 -- The loop stores place after place: storing those left in what there is now gives the whole.
-use Rattle.constraint.proofs.Library.{[], ◌-◌, ◌∙◌, ◌≡◌, ◌≤◌, ap, arith, drop_of_length-le, refl, sets, sym}
+use Rattle.constraint.proofs.Library.{◌-◌, ◌≡◌, ◌≤◌, sets}
 use Rattle.row_type.specs.Parameters.{used_from}
-use Rattle.row_type.proofs.{RowNumbers.words_more}
 use Rattle.row_type.proofs.from_constraint.put_values.Given as goal
 
 abbrev pub invariant-loop-i : goal.invariant-loop-i

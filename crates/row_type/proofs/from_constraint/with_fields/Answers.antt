@@ -1,5 +1,5 @@
 -- From the last field to the first, the numbers are those of the fields from a place on.
-use Rattle.constraint.proofs.Library.{List, ◌-◌, ◌∙◌, ◌≡◌, ◌≤◌, ap, arith, sym, ℕ}
+use Rattle.constraint.proofs.Library.{List, ◌-◌, ◌∙◌, ◌≡◌, ap, arith, sym, ℕ}
 use Rattle.constraint.specs.Types.{Field}
 use Rattle.table_row.specs.Records.{fields_from}
 use Rattle.table_row.proofs.FieldByField.{fields_end}

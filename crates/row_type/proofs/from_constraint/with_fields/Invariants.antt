@@ -1,10 +1,7 @@
 -- From the last field to the first, the numbers are those of the fields from a place on.
-use Rattle.constraint.proofs.Library.{List, ◌-◌, ◌∙◌, ◌≡◌, ◌≤◌, ap, arith, sym, ℕ}
-use Rattle.constraint.specs.Types.{Field}
+use Rattle.constraint.proofs.Library.{◌≡◌, ◌≤◌}
 use Rattle.table_row.specs.Records.{fields_from}
-use Rattle.table_row.proofs.FieldByField.{fields_end}
 use Rattle.row_type.specs.Parameters.{with_fields}
-use Rattle.row_type.proofs.{RowNumbers.field_before}
 use Rattle.row_type.proofs.from_constraint.with_fields.Given as goal
 
 abbrev pub invariant-loop-i : goal.invariant-loop-i

@@ -1,5 +1,5 @@
 -- What is left begins with the time at the first place that is not dropped, or is nothing.
-use Rattle.row_type.proofs.Names.{free, ring_from, ring_spent}
+use Rattle.row_type.proofs.Names.{ring_from, ring_spent}
 use Rattle.row_type.proofs.parts.due_after.Goals as goal
 
 pub returns-then-dropped-len : goal.returns-then-dropped-len

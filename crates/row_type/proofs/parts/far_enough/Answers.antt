@@ -1,5 +1,5 @@
 -- What is far enough with one more between is far enough; else the last event was at last - 1, as last is not 0.
-use Rattle.row_type.proofs.Names.{◌+◌, ◌-◌, ◌<◌, ◌≡◌, ◌≤◌, arith, by_cases, eq-eqb, far_enough, free, le-leb, leb_same, ne_eqb, refl, true, ℕ}
+use Rattle.row_type.proofs.Names.{◌+◌, ◌-◌, ◌<◌, ◌≡◌, ◌≤◌, arith, by_cases, eq-eqb, far_enough, le-leb, leb_same, ne_eqb, refl, true, ℕ}
 use Rattle.row_type.proofs.Names.{ℕ_discrete}
 use Rattle.row_type.proofs.parts.far_enough.Goals as goal
 

@@ -1,5 +1,5 @@
 -- The oldest of the times, where there is one, is the one at the head.
-use Rattle.row_type.proofs.Names.{◌∙◌, arith, free, rules, ring, sym}
+use Rattle.row_type.proofs.Names.{◌∙◌, arith, rules, ring, sym}
 use Rattle.row_type.proofs.{Oldest.front_ring}
 use Rattle.row_type.proofs.parts.front.Goals as goal
 

@@ -1,5 +1,5 @@
 -- The test is that of `kind_of`.
-use Rattle.row_type.proofs.Names.{le-ltb, lt-ltb, rules}
+use Rattle.row_type.proofs.Names.{le-ltb, lt-ltb}
 use Rattle.row_type.proofs.parts.kind_of.Goals as goal
 
 pub returns-then-stream-base : goal.returns-then-stream-base

@@ -1,5 +1,5 @@
 -- A place within the row is that of the ring, and past its end there is none.
-use Rattle.constraint.proofs.Library.{List, [], ◌∙◌, ◌∷◌, ◌≡◌, ◌≤◌, arith, get_or, length, rules, refl, suc, sym, zero, ℕ}
+use Rattle.constraint.proofs.Library.{List, [], ◌∙◌, ◌∷◌, ◌≡◌, ◌≤◌, arith, get_or, length, refl, suc, sym, zero, ℕ}
 use Rattle.ring.proofs.Laws.{ring_length, ring_read}
 use Rattle.ring.specs.Ring.{ring}
 use Rattle.row_type.proofs.parts.word.Goals as goal

@@ -1,5 +1,5 @@
 -- What the row is becomes its past, and its state that of a broken row.
-use Rattle.row_type.proofs.Names.{List, [], ◌∙◌, ap, get_or, rules, undo_of, refl, row_as_words, set, ℕ}
+use Rattle.row_type.proofs.Names.{List, [], ◌∙◌, ap, get_or, undo_of, refl, row_as_words, set, ℕ}
 use Rattle.row_type.proofs.row_words.break_at.Goals as goal
 
 pub returns : goal.returns

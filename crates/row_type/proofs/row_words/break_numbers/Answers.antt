@@ -1,5 +1,5 @@
 -- Each number of the state is stored as the definition of a broken row has it.
-use Rattle.row_type.proofs.Names.{rules, number_words, refl}
+use Rattle.row_type.proofs.Names.{number_words, refl}
 use Rattle.row_type.proofs.row_words.break_numbers.Goals as goal
 
 pub returns : goal.returns

@@ -1,5 +1,5 @@
 -- The oldest that is left gives the due time, and the length says whether one is.
-use Rattle.row_type.proofs.Names.{[], ◌-◌, ◌<◌, ◌≡◌, ◌≤◌, ap, arith, changed_words, get_or, rules, number_words, refl, ring_from, ring_spent}
+use Rattle.row_type.proofs.Names.{[], ◌-◌, ◌<◌, ◌≡◌, ◌≤◌, ap, arith, changed_words, get_or, number_words, refl, ring_from, ring_spent}
 use Rattle.row_type.proofs.Names.{row_as_words}
 use Rattle.row_type.proofs.row_words.fewer_wait.Goals as goal
 

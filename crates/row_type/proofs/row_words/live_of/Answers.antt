@@ -1,5 +1,5 @@
 -- The test is that of `live_of`.
-use Rattle.row_type.proofs.Names.{eq-eqb, ne_eqb, rules, refl}
+use Rattle.row_type.proofs.Names.{eq-eqb, ne_eqb, refl}
 use Rattle.row_type.proofs.row_words.live_of.Goals as goal
 
 pub returns-then-broken-eq0 : goal.returns-then-broken-eq0

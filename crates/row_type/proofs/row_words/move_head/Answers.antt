@@ -1,5 +1,5 @@
 -- The place is stored where some leave.
-use Rattle.row_type.proofs.Names.{◌≡◌, arith, ne_eqb, rules, number_words, refl}
+use Rattle.row_type.proofs.Names.{◌≡◌, arith, ne_eqb, number_words, refl}
 use Rattle.row_type.proofs.row_words.move_head.Goals as goal
 
 pub returns-then-dropped-gt0 : goal.returns-then-dropped-gt0

@@ -1,5 +1,5 @@
 -- A ring that one leaves and one joins is as long as before; one that is empty or too long takes the common way.
-use Rattle.row_type.proofs.Names.{◌<◌, ◌≤◌, changed_words, drop, leb-true, rules, number_words, refl, ring, row_as_words}
+use Rattle.row_type.proofs.Names.{◌<◌, ◌≤◌, changed_words, drop, number_words, refl, ring, row_as_words}
 use Rattle.row_type.proofs.{Oldest.due_or_pushed, Oldest.none_left_pushed, Renewed.end_stays, Renewed.one_renewed}
 use Rattle.row_type.proofs.row_words.newest_for_oldest.Goals as goal
 

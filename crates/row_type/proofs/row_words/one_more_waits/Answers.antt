@@ -1,5 +1,5 @@
 -- The oldest that is left gives the due time, and t where none is.
-use Rattle.row_type.proofs.Names.{changed_words, drop, rules, number_words, refl, ring, row_as_words}
+use Rattle.row_type.proofs.Names.{changed_words, drop, number_words, refl, ring, row_as_words}
 use Rattle.row_type.proofs.{Oldest.due_or_pushed, Oldest.none_left_pushed}
 use Rattle.row_type.proofs.row_words.one_more_waits.Goals as goal
 

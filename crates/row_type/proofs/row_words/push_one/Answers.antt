@@ -1,5 +1,5 @@
 -- What the row is becomes its past, the place being that of the push; the ring is the one that is pushed to.
-use Rattle.row_type.proofs.Names.{◌∙◌, ◌≡◌, arith, drop_ring, rules, number_words, push_ring, refl, ring_of, row_as_words}
+use Rattle.row_type.proofs.Names.{◌∙◌, ◌≡◌, arith, drop_ring, number_words, push_ring, refl, ring_of, row_as_words}
 use Rattle.row_type.proofs.row_words.push_one.Goals as goal
 
 pub returns-then-dropped-gt0 : goal.returns-then-dropped-gt0

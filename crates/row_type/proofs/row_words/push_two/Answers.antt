@@ -1,5 +1,5 @@
 -- What the row is becomes its past, the place being that of the first push; the ring is the one that is pushed to twice.
-use Rattle.row_type.proofs.Names.{◌∙◌, ◌≡◌, drop_ring, rules, number_words, push_ring, refl, ring_of, row_as_words}
+use Rattle.row_type.proofs.Names.{◌∙◌, ◌≡◌, drop_ring, number_words, push_ring, refl, ring_of, row_as_words}
 use Rattle.row_type.proofs.row_words.push_two.Goals as goal
 
 pub returns : goal.returns

@@ -1,5 +1,5 @@
 -- What the row is becomes its past, the place being that of the first word; the ring is the one that both words are put into.
-use Rattle.row_type.proofs.Names.{◌+◌, ◌≡◌, rules, number_words, put_ring, refl, ring_of, row_as_words}
+use Rattle.row_type.proofs.Names.{◌+◌, ◌≡◌, number_words, put_ring, refl, ring_of, row_as_words}
 use Rattle.row_type.proofs.row_words.put_two.Goals as goal
 
 pub returns : goal.returns

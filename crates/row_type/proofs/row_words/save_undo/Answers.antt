@@ -1,5 +1,5 @@
 -- The state but for its marks becomes the past, and so do the words of the ring; the ring stays.
-use Rattle.row_type.proofs.Names.{[], ap, get_or, rules, number_words, refl, row_as_words}
+use Rattle.row_type.proofs.Names.{[], ap, get_or, number_words, refl, row_as_words}
 use Rattle.row_type.proofs.row_words.save_undo.Goals as goal
 
 pub returns : goal.returns

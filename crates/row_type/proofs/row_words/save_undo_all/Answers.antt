@@ -1,5 +1,5 @@
 -- The marks and the step that broke the row become the past beside the rest.
-use Rattle.row_type.proofs.Names.{rules, number_words, refl, row_as_words}
+use Rattle.row_type.proofs.Names.{number_words, refl, row_as_words}
 use Rattle.row_type.specs.Words.{UndoRecord}
 use Rattle.row_type.proofs.row_words.save_undo_all.Goals as goal
 

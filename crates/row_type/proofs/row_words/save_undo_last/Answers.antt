@@ -1,5 +1,5 @@
 -- The number stands ten places on.
-use Rattle.row_type.proofs.Names.{rules, number_words, refl, row_as_words}
+use Rattle.row_type.proofs.Names.{number_words, refl, row_as_words}
 use Rattle.row_type.proofs.row_words.save_undo_last.Goals as goal
 
 pub returns : goal.returns

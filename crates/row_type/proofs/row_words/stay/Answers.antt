@@ -1,5 +1,5 @@
 -- What the row is becomes its past; its ring stays.
-use Rattle.row_type.proofs.Names.{◌-◌, ◌≡◌, arith, rules, number_words, refl, row_as_words}
+use Rattle.row_type.proofs.Names.{◌-◌, ◌≡◌, arith, number_words, refl, row_as_words}
 use Rattle.row_type.proofs.row_words.stay.Goals as goal
 
 pub returns : goal.returns

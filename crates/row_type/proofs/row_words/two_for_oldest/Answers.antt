@@ -1,5 +1,5 @@
 -- A ring that two leave and two join is as long as before; a ring of fewer than two, or one that is too long, takes the common way.
-use Rattle.row_type.proofs.Names.{◌≤◌, leb-true, rules, number_words, refl, row_as_words}
+use Rattle.row_type.proofs.Names.{◌≤◌, rules, number_words, refl, row_as_words}
 use Rattle.row_type.proofs.Renewed.{end_stays, two_renewed}
 use Rattle.row_type.proofs.row_words.two_for_oldest.Goals as goal
 

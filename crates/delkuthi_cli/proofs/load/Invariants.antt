@@ -1,0 +1,9 @@
+-- What is there so far lies within the buffer, and each turn that goes on reads more.
+use Rattle.std.proofs.Common.{◌-◌, ◌≤◌, length}
+use Rattle.delkuthi_cli.proofs.load.Given as goal
+
+abbrev pub invariant-loop-count : goal.invariant-loop-count
+invariant-loop-count g l = l.count ≤ length l.buffer
+
+abbrev pub decreases-loop-count : goal.decreases-loop-count
+decreases-loop-count g l = length l.buffer - l.count

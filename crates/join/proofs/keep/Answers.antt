@@ -1,12 +1,12 @@
 -- A record is dropped, or does not fit, or is stored.
-use Rattle.join.proofs.Names.{◌∙◌, arith, both, rules, not-false, not-true, refl, sym}
+use Rattle.join.proofs.Names.{◌∙◌, arith, both, refl, sym}
 use Rattle.join.proofs.keep.Goals as goal
 
 pub returns-then-not-is_kept : goal.returns-then-not-is_kept
 returns-then-not-is_kept c =
     record {
       long = refl;
-      kept = λ f k. both (sym k ∙ sym c.is_kept.ensures ∙ not-true _ c.if-not-is_kept.true);
+      kept = λ f k. both (sym k ∙ sym c.is_kept.ensures ∙ c.if-not-is_kept.true);
       dropped = λ f k. (refl, refl, refl);
       short = λ f. both f;
     }
@@ -17,7 +17,7 @@ returns-then-limit-size c =
       long = refl;
       kept = λ f. both (sym f);
       dropped = λ f. both (sym f);
-      short = λ f. (sym c.is_kept.ensures ∙ not-false _ c.if-not-is_kept.false, omega (arith, c.if-limit-size.true));
+      short = λ f. (sym c.is_kept.ensures ∙ c.if-not-is_kept.false, omega (arith, c.if-limit-size.true));
     }
 
 pub returns : goal.returns
@@ -25,6 +25,6 @@ returns c =
     record {
       long = c.put_within.ensures.0;
       kept = λ f k. (refl, omega (arith, c.if-limit-size.false), refl, c.put_within.ensures.1);
-      dropped = λ f k. both (sym (sym c.is_kept.ensures ∙ not-false _ c.if-not-is_kept.false) ∙ k);
+      dropped = λ f k. both (sym (sym c.is_kept.ensures ∙ c.if-not-is_kept.false) ∙ k);
       short = λ f. both f;
     }

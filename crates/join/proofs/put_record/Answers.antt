@@ -6,5 +6,5 @@ use Rattle.join.proofs.put_record.Goals as goal
 pub returns : goal.returns
 returns c =
     let args = c.args in
-    stored_behind args.buffer.now c.put_front.new.0 _ args.place (args.head.size - 8) (head_front args.head)
+    stored_behind args.buffer.now c.put_front.new.buffer _ args.place (args.head.size - 8) (head_front args.head)
     (bytes_of 8 args.head.time) (front_length args.head c.requires.0) c.put_front.ensures c.put_eight_there.ensures

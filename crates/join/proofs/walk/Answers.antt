@@ -33,7 +33,7 @@ all_stored l b after v w bytes e same later = later ∙ ap (λ (x : List ℕ). s
 
 pub shape_of-buffer-then-head-eq0 : goal.shape_of-buffer-then-head-eq0
 shape_of-buffer-then-head-eq0 c =
-    c.loop-a.invariant.1 ∙ headed c.args.buffer.now c.put_byte.new.0
+    c.loop-a.invariant.1 ∙ headed c.args.buffer.now c.put_byte.new.buffer
     c.version.result c.put_byte.ensures
 
 pub returns-then-head-eq0 : goal.returns-then-head-eq0
@@ -42,18 +42,18 @@ returns-then-head-eq0 c =
     let args = c.args in
     record {
       fits = λ e a b records others.
-          let end = walk_end args.first.now args.second.now c.put_byte.new.0 args.limit loop.place loop.other loop.clock
+          let end = walk_end args.first.now args.second.now c.put_byte.new.buffer args.limit loop.place loop.other loop.clock
           loop.size loop.buffer a b (loop.invariant.6 a b records others) c.following-next.result
           (c.following-next.ensures.0 _ _ loop.invariant.2 loop.invariant.3) c.if-head-eq0.true in (
             end.0,
             loop.invariant.0,
             λ room.
-                all_stored args.buffer.now c.put_byte.new.0 _ c.version.result _
+                all_stored args.buffer.now c.put_byte.new.buffer _ c.version.result _
                 (steps_bytes (joined a b)) c.put_byte.ensures c.version.ensures
                 (end.1 (omega (
                   arith,
                   room,
-                  headed args.buffer.now c.put_byte.new.0 c.version.result
+                  headed args.buffer.now c.put_byte.new.buffer c.version.result
                       c.put_byte.ensures,
                 ))),
           );
@@ -69,7 +69,7 @@ keep-kept-requires c =
 pub shape_of-buffer-then-not-kept : goal.shape_of-buffer-then-not-kept
 shape_of-buffer-then-not-kept c =
     c.keep-kept.ensures.long ∙ c.loop-a.invariant.1
-    ∙ headed c.args.buffer.now c.put_byte.new.0
+    ∙ headed c.args.buffer.now c.put_byte.new.buffer
     c.version.result c.put_byte.ensures
 
 pub returns-then-not-kept : goal.returns-then-not-kept
@@ -81,7 +81,7 @@ returns-then-not-kept c =
       short = λ e a b records others. walk_short args.first.now args.second.now _ args.limit loop.place loop.other loop.clock
           loop.size loop.buffer a b (loop.invariant.6 a b records others) c.following-next.result
           (c.following-next.ensures.0 _ _ loop.invariant.2 loop.invariant.3) (omega (arith, c.if-head-eq0.false)) c.keep-kept.result _ loop.invariant.1
-          c.keep-kept.ensures c.if-not-kept.true;
+          c.keep-kept.ensures (not-true _ c.if-not-kept.true);
     }
 
 pub loop-a-smaller : goal.loop-a-smaller
@@ -95,7 +95,7 @@ loop-a-preserved c =
     let args = c.args in
     let first = c.read_again-a.ensures loop.invariant.2 in let second = c.read_again-b.ensures loop.invariant.3 in (
       keeps_within loop.buffer loop.size args.limit loop.clock _ c.keep-kept.result _ c.keep-kept.ensures loop.invariant.0
-          c.if-not-kept.false,
+          (not-false _ c.if-not-kept.false),
       c.keep-kept.ensures.long ∙ loop.invariant.1,
       first,
       second,
@@ -106,7 +106,7 @@ loop-a-preserved c =
       λ a b records others. walk_more args.first.now args.second.now _ args.limit loop.place loop.other loop.clock
           loop.size loop.buffer a b (loop.invariant.6 a b records others) c.following-next.result
           (c.following-next.ensures.0 _ _ loop.invariant.2 loop.invariant.3) (omega (arith, c.if-head-eq0.false)) c.keep-kept.result _ loop.invariant.1
-          c.keep-kept.ensures c.if-not-kept.false,
+          c.keep-kept.ensures (not-false _ c.if-not-kept.false),
       loop.invariant.7,
       loop.invariant.8,
     )

@@ -1,17 +1,18 @@
 -- What is taken from the next record on, after this one, is what is taken from the first on.
 use Rattle.delkuthi.proofs.Names.{CallRead, ◌-◌, ap, arith, failed, length, rules, passed}
+use Rattle.constraint.proofs.Library.{not}
 use Rattle.delkuthi.proofs.TakenRecords.{TakenTo, to_end, to_more, to_none, to_refused, to_start}
 use Rattle.delkuthi.specs.TakingRecords.{no_version}
 use Rattle.delkuthi.proofs.records.take_records.Goals as goal
 
 pub returns-then-not-version_known : goal.returns-then-not-version_known
 returns-then-not-version_known c =
-    no_version (failed c.version_known.result c.version_known.ensures c.if-not-version_known.true)
+    no_version (failed c.version_known.result c.version_known.ensures (ap not c.if-not-version_known.true))
 
 pub loop-place-init : goal.loop-place-init
 loop-place-init c =
     let args = c.args in
-    to_start args.bytes.now args.m.now (passed c.version_known.result c.version_known.ensures c.if-not-version_known.false)
+    to_start args.bytes.now args.m.now (passed c.version_known.result c.version_known.ensures (ap not c.if-not-version_known.false))
 
 pub returns-then-record-gt0 : goal.returns-then-record-gt0
 returns-then-record-gt0 c =

@@ -12,7 +12,7 @@ loop-row-preserved c =
     let there : row < length taken_steps = omega (arith, length-take args.rows args.steps.now, c.requires) in
     let next = rw (get_or-take args.rows args.steps.now row 0 (omega arith)) at
     (lines_next (verdict_for args.closed) taken_steps row c.loop-row.lines there) in
-    (omega arith, rw (c.row_line.ensures, c.verdict-verdict.ensures) (next ∙ c.loop-row.invariant.1))
+    (omega arith, rw (c.row_line-lines.ensures, c.verdict-verdict.ensures) (next ∙ c.loop-row.invariant.1))
 
 pub returns : goal.returns
 unfolding row_lines extended

@@ -7,7 +7,7 @@ pub returns-in-Accepted : goal.returns-in-Accepted
 returns-in-Accepted c =
     rw c.in-Accepted.is
     (holds_closed c.args.summary c.closed_line.result c.row_lines.result
-    (rw (← c.new.ensures) c.closed_line.ensures) (rw (← c.held.ensures) c.row_lines.ensures))
+    (rw (← c.new.ensures) c.closed_line.ensures) (rw (← c.held-rows.ensures) c.row_lines.ensures))
 
 pub returns-in-Refused : goal.returns-in-Refused
 returns-in-Refused c =

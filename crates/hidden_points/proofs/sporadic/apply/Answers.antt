@@ -1,11 +1,12 @@
 -- The first event may have its point anywhere within its jitter; a later one goes on where the three tests hold.
 use Rattle.constraint.proofs.Library.{Bool, List, ◌&&◌, ◌∙◌, ◌≡◌, ap, eq-eqb, eqb, false, le-leb, leb, lt-leb, ne_eqb, rules, refl, sym, true, ℕ}
-use Rattle.constraint.proofs.Library.{⊎_elim}
 use Rattle.ring.specs.Ring.{ring}
 use Rattle.row_type.specs.{Parts.breaking, Parts.far_enough, declared.Parameters.Parameters, declared.Registers.Registers}
 use Rattle.row_type.specs.Words.{changed_words, number_words, row_as_words}
 use Rattle.hidden_points.specs.Sporadic.{decide_sporadic, highest, later_sporadic, lowest, stride}
 use Rattle.hidden_points.proofs.sporadic.apply.Goals as goal
+use Rattle.hidden_points.proofs.sporadic.apply.Goals.{then-stride-upper+then-far_enough+else-low-high, else-stride-upper}
+use Rattle.hidden_points.proofs.sporadic.apply.Goals.{else-stride-upper-via-then-stride-upper+else-far_enough, else-stride-upper-via-else-stride-upper}
 
 -- the three tests of a later event
 abbrev goes : Parameters → Registers → ℕ → Bool
@@ -67,16 +68,20 @@ returns c parameters times state past e =
     let wide = leb (stride parameters.lower) parameters.upper in
     let room = leb (lowest parameters state.registers a.t) (highest parameters state.registers a.t) in
     let stops : goes parameters state.registers a.t ≡ false =
-    ⊎_elim
-    (λ w. let low : w.6.result ≡ lowest parameters state.registers a.t = w.6.ensures
-    ∙ rw (w.5.ensures, strides, c.minus-near.ensures, e) refl in
-    let high : w.8.result ≡ highest parameters state.registers a.t = rw e at w.8.ensures in
-    let none : room ≡ false = rw (← low, ← high) (lt-leb _ _ w.9.left) in
-    third_fails far wide room none)
-    (λ v. let either = v.came in
-    ⊎_elim (λ w. first_fails far (wide && room) (sym (rw e at w.2.ensures) ∙ w.3.left))
-    (λ w. second_fails far wide room (ap (λ (x : ℕ). leb x parameters.upper) (sym strides) ∙ lt-leb _ _ (rw e at w.left))) either)
-    c.if-stride-upper.branch in
+    elim c.if-stride-upper.branch [
+      | then-stride-upper+then-far_enough+else-low-high w ↦
+          let low : w.larger-low.result ≡ lowest parameters state.registers a.t = w.larger-low.ensures
+          ∙ rw (w.plus.ensures, strides, c.minus-near.ensures, e) refl in
+          let high : w.latest-high.result ≡ highest parameters state.registers a.t = rw e at w.latest-high.ensures in
+          let none : room ≡ false = rw (← low, ← high) (lt-leb _ _ w.if-low-high.false) in
+          third_fails far wide room none
+      | else-stride-upper v ↦ elim v.else-stride-upper.branch [
+          | else-stride-upper-via-then-stride-upper+else-far_enough w ↦
+              first_fails far (wide && room) (sym (rw e at w.far_enough.ensures) ∙ w.if-far_enough.false)
+          | else-stride-upper-via-else-stride-upper w ↦
+              second_fails far wide room (ap (λ (x : ℕ). leb x parameters.upper) (sym strides) ∙ lt-leb _ _ (rw e at w.if-stride-upper.false))
+        ]
+    ] in
     let kept = ring times state.head state.len in
     let decided = breaks parameters state.registers kept a.stream a.t (ne_eqb _ _ (rw e at c.if-last-eq0.false)) stops in
     rw (c.break_at.ensures parameters times state past e, decided) refl

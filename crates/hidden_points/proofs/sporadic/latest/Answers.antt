@@ -11,5 +11,5 @@ by_limit false upper high t e small = refl
 pub returns : goal.returns
 returns c =
     let a = c.args in
-    let small : a.t ≤ no_limit = search needs in
+    let small : a.t ≤ no_limit = search rules in
     c.smaller.ensures ∙ rw c.plus.ensures (by_limit (eqb a.upper no_limit) a.upper a.high a.t refl small)

@@ -1,6 +1,5 @@
 -- The row goes on where both tests hold, with the time that has come.
 use Rattle.constraint.proofs.Library.{List, [], ◌++◌, ◌∙◌, ◌∷◌, ◌≡◌, ap, drop, length, rules, refl, sym, true, ℕ}
-use Rattle.constraint.proofs.Library.{⊎_elim}
 use Rattle.row_type.proofs.Oldest.{due_or_pushed}
 use Rattle.row_type.specs.{Parts.continues_with, Parts.due_oldest, Parts.far_enough, Parts.plus, Parts.with_last, Words.changed_words, Words.last_saved}
 use Rattle.row_type.specs.{Words.number_words, Words.undo_with, Words.row_as_words, declared.Change.Change, declared.Registers.Registers}
@@ -8,6 +7,7 @@ use Rattle.row_type.specs.{declared.Parameters.Parameters}
 use Rattle.ring.specs.{Ring.ring, declared.Edit.TheVariants.Push}
 use Rattle.repeat_burst.specs.Repeat.{decide_repeat, leaving, span_reached}
 use Rattle.repeat_burst.proofs.repeat.apply.Goals as goal
+use Rattle.repeat_burst.proofs.repeat.apply.Goals.{else-far_enough-via-then-far_enough+else-span_reached, else-far_enough-via-else-far_enough}
 
 -- where both tests hold, the change is that of times that wait, but kept
 goes_on : (parameters : Parameters) (registers : Registers) (kept : List ℕ) (stream t dropped : ℕ) → far_enough parameters.minimum registers.last
@@ -26,7 +26,7 @@ unfolding row_as_words number_words changed_words
 returns-then-span_reached c parameters times state past e =
     let a = c.before.args in
     let kept = ring times state.head state.len in
-    let far : far_enough parameters.minimum state.registers.last a.t ≡ true = sym (rw e at c.far_enough_lem.ensures) ∙ c.if1.true in
+    let far : far_enough parameters.minimum state.registers.last a.t ≡ true = sym (rw e at c.far_enough.ensures) ∙ c.if-far_enough.true in
     let reached : span_reached parameters kept a.t ≡ true = sym (c.span_reached.ensures parameters times state past e) ∙ c.if-span_reached.true in
     let decided = goes_on parameters state.registers kept a.stream a.t (leaving parameters (length kept)) far reached refl in
     rw (
@@ -40,4 +40,8 @@ pub returns : goal.returns
 unfolding row_as_words number_words changed_words decide_repeat
 returns c parameters times state past e =
     rw (c.break_at.ensures parameters times state past e, ← rw e at c.far_enough.ensures)
-    (⊎_elim (λ w. rw (w.0.taken, ← w.2.ensures parameters times state past e, w.3.left) refl) (λ w. rw w.left refl) c.else-far_enough.branch)
+    (elim c.else-far_enough.branch [
+      | else-far_enough-via-then-far_enough+else-span_reached w ↦
+          rw (w.if-far_enough.true, ← w.span_reached.ensures parameters times state past e, w.if-span_reached.false) refl
+      | else-far_enough-via-else-far_enough w ↦ rw w.if-far_enough.false refl
+    ])

@@ -11,4 +11,4 @@ returns-then-len-row c parameters times state past e = rw (ring_length, lt-ltb _
 pub returns : goal.returns
 unfolding row_as_words number_words
 returns c parameters times state past e =
-    rw (ring_length, le-ltb _ _ (rw e at c.if1.false), c.reaches.ensures, c.front.ensures, e) refl
+    rw (ring_length, le-ltb _ _ (rw e at c.if-len-row.false), c.reaches.ensures, c.front.ensures, e) refl

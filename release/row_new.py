@@ -15,15 +15,15 @@ FILES = """Fill these files, in this order. Each group can be proved or tested b
   python/delkuthi/rowtypes/{snake}.py              texts, an example, reasons, windows, measures
   host/model/src/types/{snake}.rs                  the definition in Rust, from the contract's words; host/model/src/random/one_row.rs
   crates/constraint/specs/Constraint.antt          the constructor
-  crates/constraint/specs/Types.antt               its line in typeLine, and in the lists by type: lengths, entrySizes, leastCounts, mostCounts,
-                                                   lastTypes, typeNames
+  crates/constraint/specs/Types.antt               its line in type_line, and in the lists by type: lengths, entry_sizes, least_counts,
+                                                   most_counts, last_types, type_names
   crates/constraint/specs/Meets.antt               Meets{name} and its line in Meets; Waiting.antt: how many wait
-  crates/constraint/proofs/Types/{name}.antt       lawful{name}
+  crates/constraint/proofs/Types/{name}.antt       lawful_{snake}
   crates/table_row/src/types.rt                    the roles of its places and from which n on they are used, and the lists by type again;
-                                                   specs/Records.antt: the same, rowRead and valuesOf
-  crates/CRATE/src/{snake}.rt, specs/{name}.antt   apply with its proof, decide{name}, machine{name}
-  crates/CRATE/proofs/Laws/{name}.antt             exact{name}, fits{name}
-  crates/row                                       its arms in stored.rt, machineOf, every-type-exact, fits
+                                                   specs/Records.antt: the same, row_read; proofs/ByType.antt: values_of
+  crates/CRATE/src/{snake}.rt, specs/{name}.antt   apply with its proof, decide_{snake}, machine_{snake}
+  crates/CRATE/proofs/Laws/{name}.antt             exact_{snake}, fits_{snake}
+  crates/row                                       its arms in stored.rt, machine_of, every_type_exact, fits
   crates/page/src/lib.rt                           its name
   crates/examples/specs/Vectors.antt               examples as theorems
   host/bench/src/plain/later.rs, drive.rs          the plain rule, a load of its rows alone

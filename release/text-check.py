@@ -22,7 +22,7 @@ ROOT = Path(__file__).resolve().parent.parent
 ALLOWANCE = ROOT / "release/text-allowance.txt"
 ENDINGS = {".rt", ".antt", ".rs", ".py", ".c", ".h", ".hpp", ".cpp", ".md"}
 IMPORTING = {".rt", ".antt"}
-BUILT = {"build", "target", "__pycache__"}
+BUILT = {"build", "out", "target", "__pycache__"}
 SORTS = {"long": "long lines", "unused": "unused imports", "idle": "names that nothing uses"}
 WIDTH = 150
 # One line is one import, of proofs or of code: a module and names in braces, each by itself or behind a path, a module by another name, or one name

@@ -19,6 +19,8 @@ TRIVIAL = re.compile(r"\(?(?:λ\s+[\w\sκ']+\.\s*)?(?:search\s+(?:rules|needs)|o
 # Names of calls that a script took for names of the library.
 GARBLED = {"type_size": "size_of"}
 
+READ_NOW = re.compile(rf"\(now ((?:{NAME})(?:\.[\w'-]+)*)\)|(?<![\w.])now ((?:{NAME})(?:\.[\w'-]+)*)")
+
 
 def flat(word):
     word = GARBLED.get(word.replace("-", "_"), word.replace("-", "_"))
@@ -325,7 +327,7 @@ def turn(crate, folder, names):
         text = re.sub(r"(?m)^(use .*[{ ])now(?:, |(?=\}))", r"\1", text)
         text = re.sub(r",? *\}$", "}", text, flags=re.M) if "{}" in text else text
         text = "\n".join(
-            it if it.startswith(("--", "use")) else re.sub(rf"\(now ((?:{NAME})(?:\.[\w'-]+)*)\)|(?<![\w.])now ((?:{NAME})(?:\.[\w'-]+)*)", lambda m: f"{m[1] or m[2]}.now", it)
+            it if it.startswith(("--", "use")) else READ_NOW.sub(lambda m: f"{m[1] or m[2]}.now", it)
             for it in text.split("\n")
         )
     blocks = blocks_of(text)
@@ -362,7 +364,8 @@ def turn(crate, folder, names):
     for block, lines, above in blocks:
         m = re.search(r": tie\.Need-([A-Za-z0-9_'-]+)", lines[0])
         if m and block != "use":
-            ks = [k for k, (old, new) in enumerate(fn.needs) if flat(old) == flat(m[1])] or [k for k, (old, new) in enumerate(fn.needs) if flat(old) == flat(re.sub(r"^overflow[_-]", "", m[1]))]
+            goals = lambda name: [k for k, (old, new) in enumerate(fn.needs) if flat(old) == flat(name)]
+            ks = goals(m[1]) or goals(re.sub(r"^overflow[_-]", "", m[1]))
             if ks and block in answered:
                 answered[block] = ks[:1] + [k for k in answered[block] if k not in ks and len(args) == len(fn.needs)]
             elif ks and not TRIVIAL.match(block):
@@ -460,7 +463,8 @@ def turn(crate, folder, names):
     if fn.lemmas:
         uses.append(f"use borrow.Author.Tests.{{{', '.join(sorted(fn.lemmas))}}}")
     if answers:
-        answers_text = "\n".join([*header, *uses, f"use {modules}.Goals as goal", *[f"use {modules}.{it}" for it in ("Tie as tie", "Reads as reads", "Lts as steps")] * bool(ties)]) + "\n\n" + full + "\n"
+        more = [f"use {modules}.{it}" for it in ("Tie as tie", "Reads as reads", "Lts as steps")] * bool(ties)
+        answers_text = "\n".join([*header, *uses, f"use {modules}.Goals as goal", *more]) + "\n\n" + full + "\n"
     if invariants:
         invariants_text = "\n".join([*header, *uses, f"use {modules}.Given as goal"]) + "\n\n" + "\n\n".join(invariants) + "\n"
     return answers_text, invariants_text, fn.told

@@ -20,14 +20,16 @@ def main(crate, log):
         lines = text.split("\n")
         old = lines[row - 1]
         new = None
-        field = re.search(r"has no field `([^`]+)`.*?\(nearest: \.([^),]+)\)", said) or re.search(r"has no field `([^`]+)` — the fields that can be named here are `([^`,]+)`\s*$", said)
+        field = re.search(r"has no field `([^`]+)`.*?\(nearest: \.([^),]+)\)", said)
+        field = field or re.search(r"has no field `([^`]+)` — the fields that can be named here are `([^`,]+)`\s*$", said)
         if "has no `the-claims`" in said:
             text2 = text.replace(" tie.the-claims", "")
             if text2 != text:
                 open(path, "w", encoding="utf-8").write(text2)
                 found += 1
             continue
-        if field and (field[2].startswith(field[1]) or field[1].isdigit() or re.fullmatch(r"t\d+", field[1]) or field[1].replace("-", "_") == field[2]):
+        is_place = field and re.fullmatch(r"t?\d+", field[1])
+        if field and (is_place or field[2].startswith(field[1]) or field[1].replace("-", "_") == field[2]):
             # columns count characters
             head, tail = old[: column - 1], old[column - 1 :]
             spot = re.search(rf"\.{re.escape(field[1])}(?![\w'-])", tail)

@@ -110,12 +110,12 @@ def lists():
 
 
 def test_the_definitions_lists():
-    found = zip(*map(numbers, ("lengths", "entrySizes", "leastCounts", "mostCounts")))
+    found = zip(*map(numbers, ("lengths", "entry_sizes", "least_counts", "most_counts")))
     assert list(found) == list(lists())
-    assert numbers("lastTypes") == [sum(row_type.edition <= edition for row_type in TYPES) for edition in range(1, NEWEST_EDITION + 1)]
+    assert numbers("last_types") == [sum(row_type.edition <= edition for row_type in TYPES) for edition in range(1, NEWEST_EDITION + 1)]
 
 
 def test_the_definitions_types():
     """Each type has its number and its name there."""
-    lines = re.findall(r"^typeLine \((\w+) [^)]*\) =\s+\(\s*(\d+),", text("crates/constraint/specs/Types.antt"), re.M)
+    lines = re.findall(r"^type_line \((\w+) [^)]*\) =\s+\(\s*(\d+),", text("crates/constraint/specs/Types.antt"), re.M)
     assert [(int(number), name) for name, number in lines] == [(row_type.number, row_type.name) for row_type in TYPES]

@@ -18,27 +18,27 @@ def program():
 
 
 PROOF = """-- A name in a comment, as unseen, is not used.
-use Prim.Native.Nat.{ℕ, zero, _+_, _≤_, _<_}
-use mathlib.Core.List.{List, [], _∷_}
-use mathlib.Core.Logic.{¬_, if_then_else_, or-true as either-true, unseen}
+use Rattle.std.specs.Prelude.{ℕ, zero, ◌+◌, ◌≤◌, ◌<◌}
+use Rattle.std.specs.List.{List, [], ◌∷◌}
+use Rattle.std.specs.Logic.{¬◌, if◌then◌else◌, or_true as either_true, unseen}
 use Some.Call.{Call, Other}
-use Some.Tie as tie
+use Some.Goals as goals
 use Some.Words as Words
-pub use Some.Again.{handed-on}
+pub use Some.Again.{handed_on}
 
-fact : (n : ℕ) → _≤_ {A = ℕ} n (n + 1) → ¬ (List ℕ)
-fact n h = tie.close (λ x. if x then [] else Call.Event) either-true
+fact : (n : ℕ) → ◌≤◌ {A = ℕ} n (n + 1) → ¬ (List ℕ)
+fact n h = goals.close (λ x. if x then [] else Call.Event) either_true
 """
 
 
 def test_a_name_is_used_by_itself_by_its_parts_or_before_a_dot():
-    assert program().unused(PROOF) == {1: ["zero", "_<_"], 2: ["_∷_"], 3: ["unseen"], 4: ["Other"], 6: ["Words"]}
+    assert program().unused(PROOF) == {1: ["zero", "◌<◌"], 2: ["◌∷◌"], 3: ["unseen"], 4: ["Other"], 6: ["Words"]}
 
 
 def test_what_is_passed_on_is_used_where_another_file_takes_it():
     found = program()
     names, file = "pub use A.{a, b}\nunfoldable pub use A.B.{c as d}\npub use A.{B.e, B.f}\n", found.ROOT / "crates/some/proofs/Names.antt"
-    users = ["use Rattle·some·proofs.proofs.Names.{a}\n", "use Rattle·some.proofs.{Names.d, Names.e}\n", "use Rattle·other.proofs.Names.{b}\n"]
+    users = ["use Rattle.some.proofs.Names.{a}\n", "use Rattle.some.proofs.{Names.d, Names.e}\n", "use Rattle.other.proofs.Names.{b}\n"]
     assert found.unused_in(file, names, found.brought(users)) == {0: ["b"], 2: ["B.f"]}
     assert found.fixed(names, {0: ["b"], 2: ["B.f"]}) == "pub use A.{a}\nunfoldable pub use A.B.{c as d}\npub use A.{B.e}\n"
     assert found.unused("use A.{M.a, M.b}\nlaw : ℕ\nlaw = a\n") == {0: ["M.b"]}
@@ -48,7 +48,7 @@ CODE = """// unseen
 use constraint::NO_LIMIT;
 use machine::words;
 use machine::unseen;
-ghost use Prim.Native.Nat.{ℕ, _<_, _+_};
+ghost use Rattle.std.specs.Prelude.{ℕ, ◌<◌, ◌+◌};
 
 pub fn first(w: &[u64; 64]) -> u64
     ensures { λ r. ⌜ r < 2 ⌝ }
@@ -60,8 +60,8 @@ pub fn first(w: &[u64; 64]) -> u64
 
 def test_imports_of_code():
     found = program()
-    assert found.unused(CODE) == {3: ["unseen"], 4: ["ℕ", "_+_"]}
-    assert found.fixed(CODE) == CODE.replace("use machine::unseen;\n", "").replace("{ℕ, _<_, _+_}", "{_<_}")
+    assert found.unused(CODE) == {3: ["unseen"], 4: ["ℕ", "◌+◌"]}
+    assert found.fixed(CODE) == CODE.replace("use machine::unseen;\n", "").replace("{ℕ, ◌<◌, ◌+◌}", "{◌<◌}")
 
 
 def test_an_import_is_left_with_what_is_used():
@@ -69,7 +69,7 @@ def test_an_import_is_left_with_what_is_used():
     assert found.without("use A.{a, b as c, d}", ["a", "d"]) == ["use A.{b as c}"]
     assert found.without("use A.{a}", ["a"]) == []
     assert (found.without("use A as M", ["M"]), found.without("use A as M", [])) == ([], ["use A as M"])
-    names = [f"name-{number}" for number in range(100, 140)]
+    names = [f"name_{number}" for number in range(100, 140)]
     lines = found.without(f"use A.{{{', '.join(names)}}}", [])
     assert len(lines) == 3 and all(len(line) <= found.WIDTH for line in lines)
     assert [name for line in lines for name in line[7:-1].split(", ")] == names

@@ -157,6 +157,8 @@ module _ (c : Constraint) (sound : Sound c) where
         → Run rows left (map asks calls) (all_taken calls) end → Run rows' left' (map asks calls') (all_taken calls') end'
         → EachBeside c (map step_for calls) (map step_for calls') → (last : Row) × FitsBoth end.steps end'.steps last
     fits_runs left left' r both [] [] end end' done done no_more = (r, both)
+    fits_runs left left' r both [] (s' ∷ calls') end end' _ _ apart = elim apart [ ]
+    fits_runs left left' r both (s ∷ calls) [] end end' _ _ apart = elim apart [ ]
     fits_runs left left' r both (s ∷ calls) (s' ∷ calls') end end' (request _ _ judged run) (request _ _ judged' run') (place beside later) =
         fits_runs (left_by left (asks s) Taken) (left_by left' (asks s') Taken) (moved left.steps (step_for s) r).row
         (fits_next left.steps left'.steps r both s s' judged judged' beside) calls calls' end end' run run' later

@@ -13,7 +13,7 @@ pub fn files(folder: &str, endings: &[&str]) -> Vec<PathBuf> {
         for entry in fs::read_dir(&folder).unwrap_or_else(|error| panic!("{}: {error}", folder.display())) {
             let path = entry.expect("a file").path();
             let name = path.file_name().and_then(|name| name.to_str()).unwrap_or_default().to_string();
-            if path.is_dir() && name != "target" && name != "build" && !name.starts_with('.') {
+            if path.is_dir() && !["target", "build", "out"].contains(&name.as_str()) && !name.starts_with('.') {
                 folders.push(path);
             } else if path.is_file() && endings.iter().any(|ending| name.ends_with(ending)) {
                 files.push(path);

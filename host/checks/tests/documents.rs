@@ -58,18 +58,18 @@ fn a_link_that_leads_elsewhere_is_named() {
         let files = [
             ("README.md", readme),
             ("docs/ARCHITECTURE.md", linking),
-            ("crates/a/specs/Things.antt", "pub Thing : Type 0\npub a-law : Thing\n"),
+            ("crates/a/specs/Things.antt", "pub Thing : Type 0\npub a_law : Thing\n"),
             ("crates/b/specs/Things.antt", "pub Thing : Type 0\npub Other : Type 0\n"),
         ];
         let (_folder, program) = Folder::around("release/links.py", &files);
         said_of_links(&program)
     };
-    let said = |linking: &str| with("`a-law` and `pkg-config`", linking);
+    let said = |linking: &str| with("`a_law`, `no_std` and `pkg-config`", linking);
     let other = "[`Other`]: ../crates/b/specs/Things.antt\n";
     assert_eq!(said(&format!("[`Other`].\n\n{other}")), (Some(0), String::new()));
     assert!(said("[`Other`].\n\n").1.contains("not up to date"));
     assert!(said("[`Other`].\n\n[`Other`]: ../crates/a/specs/Things.antt\n").1.contains("not up to date"));
-    assert!(with("`no-law`", "\n").1.contains("README.md: no-law is declared nowhere"));
+    assert!(with("`no_law`", "\n").1.contains("README.md: no_law is declared nowhere"));
     assert!(said("[`None`].\n\n").1.contains("None is declared nowhere"));
     assert!(said("[`Thing`].\n\n").1.contains("Thing is declared in ../crates/a/specs/Things.antt, ../crates/b"));
     let thing = "[`Thing`]: ../crates/a/specs/Things.antt\n";

@@ -29,6 +29,15 @@ const PROVED: &str = "echo 'fn number::a: proved'\necho 'rt: constraint proved (
     echo 'rt: must-fail table/one: refused, as it must be (3 s)'\necho 'rt: must-fail table/two: refused, as it must be (3 s)'\n\
     echo 'rt: ok, 3 crates proved, 2 must-fail edits refused'\necho '5 passed, 0 failed'\n";
 
+/// What today's rt says of the same: it names no seconds.
+const PROVED_TODAY: &str = "echo 'fn number::a: proved'\necho 'rt: constraint proved'\n\
+    echo 'rt: number is kept: an earlier run on this machine proved the same files over the same libraries'\n\
+    echo 'rt: table proved' >&2\necho 'rt: table: trying its must-fail edits (2)'\n\
+    echo 'rt: must-fail table/one.edit: refused, as it must be: ./proofs/put/Answers.antt:3:1: error'\n\
+    echo 'rt: must-fail table/two.edit: refused, as it must be'\n";
+const OK_TODAY: &str = "echo 'rt: ok; handles allowed: none; must-fail edits: 2 refused; every proof and must-fail edit was done in this run'\n\
+    echo '5 passed, 0 failed'\n";
+
 /// A small repository with the gate and its programs, a fake rt and a fake cargo, and one test in Python.
 fn repository(rt: &str, cargo: &str, python: &str) -> Folder {
     let copied = |name: &str| fs::read(root().join(name)).expect("a file of the repository");
@@ -80,6 +89,29 @@ fn the_gate_that_passes() {
     );
     let log = fs::read_to_string(folder.path().join("build/log/proofs.log")).expect("a log");
     assert!(log.contains("fn number::a: proved"));
+}
+
+/// The same with the lines of today's rt.
+#[test]
+fn the_gate_that_passes_today() {
+    let folder = repository(&format!("{PROVED_TODAY}{OK_TODAY}"), TESTED, GOOD);
+    let Ran { status, printed } = gate(&folder, None);
+    assert_eq!((status, printed.lines().last()), (Some(0), Some("14 passed, 0 failed")), "{printed}");
+    for line in ["[1/3] constraint", "[3/3] table", "wrong programs refused, as they must be: 2"] {
+        assert!(printed.lines().any(|found| found == line), "{line} in {printed}");
+    }
+    assert!(!printed.contains("fn number::a") && !printed.contains("trying"), "{printed}");
+}
+
+/// rt passes a must-fail edit that no longer fits the sources. The gate does not, and says so.
+#[test]
+fn the_gate_refuses_bad_edits() {
+    let bad = "echo 'rt: must-fail table/three.edit: BAD EDIT: its text is not in the file'\n";
+    let ok = OK_TODAY.replace("2 refused;", "2 refused, 1 bad;");
+    let Ran { status, printed } = gate(&repository(&format!("{PROVED_TODAY}{bad}{ok}"), TESTED, GOOD), None);
+    assert_eq!((status, printed.lines().last()), (Some(1), Some("14 passed, 1 failed")), "{printed}");
+    assert!(printed.contains("must-fail edits that no longer fit the sources"), "{printed}");
+    assert!(printed.contains("rt: must-fail table/three.edit: BAD EDIT"), "{printed}");
 }
 
 /// With an archive nothing is proved, and the gate says so; the last line has the same form.

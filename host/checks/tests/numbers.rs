@@ -46,29 +46,29 @@ fn cause(name: &str) -> u64 {
 fn by_definitions() -> BTreeMap<String, u64> {
     by_name([
         ("VERSION", definition(LENT_DEFINED, "version")),
-        ("LAST_TIME", definition(LIMITS, "lastTime")),
-        ("LAST_COUNT", definition(LIMITS, "lastCount")),
-        ("LAST_KIND", definition(LIMITS, "lastKind")),
-        ("FIRST_COLOURED", definition(LIMITS, "firstColoured")),
-        ("LAST_COLOUR", definition(LIMITS, "lastColour")),
-        ("ROW_LIMIT", definition(LIMITS, "rowLimit")),
-        ("WAITING_LIMIT", definition(LIMITS, "waitingLimit")),
-        ("NO_LIMIT", definition(LIMITS, "noLimit")),
-        ("NO_STREAM", definition("crates/queries/specs/Oldest.antt", "noStream")),
+        ("LAST_TIME", definition(LIMITS, "last_time")),
+        ("LAST_COUNT", definition(LIMITS, "last_count")),
+        ("LAST_KIND", definition(LIMITS, "last_kind")),
+        ("FIRST_COLOURED", definition(LIMITS, "first_coloured")),
+        ("LAST_COLOUR", definition(LIMITS, "last_colour")),
+        ("ROW_LIMIT", definition(LIMITS, "row_limit")),
+        ("WAITING_LIMIT", definition(LIMITS, "waiting_limit")),
+        ("NO_LIMIT", definition(LIMITS, "no_limit")),
+        ("NO_STREAM", definition("crates/queries/specs/Oldest.antt", "no_stream")),
         ("NEWEST_EDITION", last_types().len() as u64),
         ("FIRST_EDITION_TYPES", last_types()[0]),
         ("TABLE_LIMIT", table_limit()),
         ("LONGEST_ROW", longest_row()),
         // the first forms, unless the host asks for the second ones
         ("EDITION", 1),
-        ("OPEN", definition(LENT_DEFINED, "wordOf (some Verdict.Open)")),
-        ("KEPT", definition(LENT_DEFINED, "wordOf (some Verdict.Kept)")),
-        ("BROKEN", definition(LENT_DEFINED, "wordOf (some (Verdict.Broken n))")),
+        ("OPEN", definition(LENT_DEFINED, "word_of (some Verdict.Open)")),
+        ("KEPT", definition(LENT_DEFINED, "word_of (some Verdict.Kept)")),
+        ("BROKEN", definition(LENT_DEFINED, "word_of (some (Verdict.Broken n))")),
         ("OVERDUE", cause("overdue")),
-        ("BY_EVENT", cause("by-event")),
-        ("AT_CLOSE", cause("at-close")),
-        ("TAKEN", definition("crates/in_place/specs/Steps.antt", "answerTo h Call.Close")),
-        ("REPORT_LIMIT", definition("crates/text/proofs/Reports.antt", "reportLimit")),
+        ("BY_EVENT", cause("by_event")),
+        ("AT_CLOSE", cause("at_close")),
+        ("TAKEN", definition("crates/in_place/specs/Steps.antt", "answer_to h Call.Close")),
+        ("REPORT_LIMIT", definition("crates/text/proofs/Reports.antt", "report_limit")),
         ("PAGE_LIMIT", page_limit()),
         ("UNSURE", stamps_word("Unsure")),
     ])
@@ -76,7 +76,7 @@ fn by_definitions() -> BTreeMap<String, u64> {
 
 /// The number of a word for late stamps: its answer is 256 times that.
 fn stamps_word(word: &str) -> u64 {
-    definition("crates/delkuthi/specs/Stamps.antt", &format!("verdictNumber StampedVerdict.{word}")) / 256
+    definition("crates/delkuthi/specs/Stamps.antt", &format!("verdict_number StampedVerdict.{word}")) / 256
 }
 
 /// A list of numbers in the definition of the types.
@@ -89,25 +89,25 @@ fn list_of_types(name: &str) -> Vec<u64> {
 
 /// The bytes of the longest row, by the lists of lengths, of entries and of their numbers.
 fn longest_row() -> u64 {
-    let entries = list_of_types("entrySizes").into_iter().zip(list_of_types("mostCounts")).map(|(size, n)| size * n);
+    let entries = list_of_types("entry_sizes").into_iter().zip(list_of_types("most_counts")).map(|(size, n)| size * n);
     list_of_types("lengths").into_iter().zip(entries).map(|(length, entries)| length + entries).max().expect("a length")
 }
 
 /// The last type of each edition of the table, from the first on.
 fn last_types() -> Vec<u64> {
-    list_of_types("lastTypes")[1..].to_vec()
+    list_of_types("last_types")[1..].to_vec()
 }
 
 /// The bytes of the longest table: the version byte, then rows with their length fields.
 fn table_limit() -> u64 {
-    1 + definition(LIMITS, "rowLimit") * (2 + longest_row())
+    1 + definition(LIMITS, "row_limit") * (2 + longest_row())
 }
 
 /// The bytes of the longest page: a line for each row, and one for each group of them.
 fn page_limit() -> u64 {
     const PAGE: &str = "crates/constraint/specs/Page.antt";
-    let rows = definition(LIMITS, "rowLimit");
-    (definition(PAGE, "pageWidth") + 1) * (rows + rows.div_ceil(definition(PAGE, "pageGroup")))
+    let rows = definition(LIMITS, "row_limit");
+    (definition(PAGE, "page_width") + 1) * (rows + rows.div_ceil(definition(PAGE, "page_group")))
 }
 
 /// The refusals of the header, by the questions that give them.
@@ -115,37 +115,37 @@ fn refusals() -> BTreeMap<String, u64> {
     let all = definitions();
     let question = |asked: &str| number_between(&all, "(", &format!(", {asked}"));
     by_name([
-        ("TABLE_VERSION", number_between(&all, "(table-refused ", " 0)")),
+        ("TABLE_VERSION", number_between(&all, "(table_refused ", " 0)")),
         ("ROW_CUT", question("WholeAt ")),
-        ("ROW_TOO_MANY", question("i < rowLimit)")),
+        ("ROW_TOO_MANY", question("i < row_limit)")),
         ("ROW_SHAPE", question("ShapeFits ")),
         ("ROW_KINDS", question("KindsFit ")),
         ("ROW_SORT", question("KindsSuit ")),
         ("ROW_RANGE", question("InRange ")),
         ("ROW_BOUNDS", question("LowerFirst ")),
         ("CLOSED", question("closed steps ")),
-        ("COUNT_FULL", question("length steps < lastCount)")),
-        ("NOTHING_TO_WITHDRAW", question("left .may ")),
-        ("OTHER_STEP", question("length (left .steps) ≡ step)")),
-        ("KIND", question("k ≤ lastKind)")),
-        ("FORM", question("k < firstColoured)")),
-        ("TIME_RANGE", question("t ≤ lastTime)")),
+        ("COUNT_FULL", question("length steps < last_count)")),
+        ("NOTHING_TO_WITHDRAW", question("left.may ")),
+        ("OTHER_STEP", question("length left.steps ≡ step)")),
+        ("KIND", question("k ≤ last_kind)")),
+        ("FORM", question("k < first_coloured)")),
+        ("TIME_RANGE", question("t ≤ last_time)")),
         ("TIME_ORDER", question("EventInOrder ")),
         ("CROWDED", question("Room ")),
-        ("RECORDING_VERSION", number_between(&all, "(recording-refused ", " 0)")),
+        ("RECORDING_VERSION", number_between(&all, "(recording_refused ", " 0)")),
         ("RECORD", question("RecordAt ")),
         ("NO_ROW", number_between(&all, "(RowVerdict.Refused ", ")")),
-        ("TABLE_ROOM", question("length (tableBytes")),
+        ("TABLE_ROOM", question("length (table_bytes")),
         ("COMMON_KIND", number_between(&all, "(JoinAnswer.SecondRefused ", " place)")),
-        ("TOO_MANY_RECORDS", question("length steps ≤ recordLimit)")),
-        ("NO_STRETCH", question("(c : Constraint) × (getElem? rows i ≡ some c) × Some ")),
+        ("TOO_MANY_RECORDS", question("length steps ≤ record_limit)")),
+        ("NO_STRETCH", question("(c : Constraint) × (get_elem? rows i ≡ some c) × Some ")),
         ("NOT_REPEAT", question("(k : ℕ) × ((lower : ℕ) × ")),
     ])
 }
 
 /// The refusal that no call of the header answers with.
 fn refusal_of_program() -> u64 {
-    number_between(&definitions(), "(refusedText ", " 0)")
+    number_between(&definitions(), "(refused_text ", " 0)")
 }
 
 /// Of two lists of numbers by name: those that both have are the same.
@@ -193,7 +193,7 @@ fn every_refusal_of_the_header_is_a_question_of_the_definitions() {
     let header = Header::read();
     assert_eq!(header.refusals, refusals());
     assert_eq!(header.refusals["NO_ROW"], constant(LENT, "NO_ROW"));
-    assert_eq!(header.refusals["NO_ROW"], definition(LENT_DEFINED, "wordOf none"));
+    assert_eq!(header.refusals["NO_ROW"], definition(LENT_DEFINED, "word_of none"));
     // No verdict has the number of a refusal, and no two refusals the same.
     let words = ["OPEN", "KEPT", "BROKEN"].map(|name| header.defined[name]);
     assert!(words.iter().all(|word| *word != header.refusals["NO_ROW"]));
@@ -253,24 +253,24 @@ fn the_models_numbers_are_the_crates() {
     use model::report::{RECORDING_SIZE_LIMIT, TABLE_SIZE_LIMIT};
     const PROGRAM: &str = "crates/delkuthi/src/lib.rt";
     let limits = [
-        (LAST_KIND.into(), CONSTRAINT, "LAST_KIND", "lastKind"),
-        (FIRST_COLOURED.into(), CONSTRAINT, "FIRST_COLOURED", "firstColoured"),
-        (LAST_COLOUR.into(), CONSTRAINT, "LAST_COLOUR", "lastColour"),
-        (STREAMS.into(), CONSTRAINT, "STREAM_COUNT", "streamCount"),
-        (LAST_TIME, CONSTRAINT, "LAST_TIME", "lastTime"),
-        (LAST_COUNT, CONSTRAINT, "LAST_COUNT", "lastCount"),
-        (NO_LIMIT, CONSTRAINT, "NO_LIMIT", "noLimit"),
-        (ROW_LIMIT as u64, CONSTRAINT, "ROW_LIMIT", "rowLimit"),
-        (SPAN_LIMIT.into(), CONSTRAINT, "SPAN_LIMIT", "spanLimit"),
-        (REPETITION_SPAN_LIMIT.into(), CONSTRAINT, "REPETITION_SPAN_LIMIT", "repetitionSpanLimit"),
-        (WAITING_LIMIT as u64, CONSTRAINT, "WAITING_LIMIT", "waitingLimit"),
+        (LAST_KIND.into(), CONSTRAINT, "LAST_KIND", "last_kind"),
+        (FIRST_COLOURED.into(), CONSTRAINT, "FIRST_COLOURED", "first_coloured"),
+        (LAST_COLOUR.into(), CONSTRAINT, "LAST_COLOUR", "last_colour"),
+        (STREAMS.into(), CONSTRAINT, "STREAM_COUNT", "stream_count"),
+        (LAST_TIME, CONSTRAINT, "LAST_TIME", "last_time"),
+        (LAST_COUNT, CONSTRAINT, "LAST_COUNT", "last_count"),
+        (NO_LIMIT, CONSTRAINT, "NO_LIMIT", "no_limit"),
+        (ROW_LIMIT as u64, CONSTRAINT, "ROW_LIMIT", "row_limit"),
+        (SPAN_LIMIT.into(), CONSTRAINT, "SPAN_LIMIT", "span_limit"),
+        (REPETITION_SPAN_LIMIT.into(), CONSTRAINT, "REPETITION_SPAN_LIMIT", "repetition_span_limit"),
+        (WAITING_LIMIT as u64, CONSTRAINT, "WAITING_LIMIT", "waiting_limit"),
     ];
     for (number, file, in_code, defined) in limits {
         assert_eq!((number, number), (constant(file, in_code), definition(LIMITS, defined)), "{defined}");
     }
     let sizes = [
-        (TABLE_SIZE_LIMIT as u64, "TABLE_SIZE_LIMIT", "tableSizeLimit"),
-        (RECORDING_SIZE_LIMIT as u64, "RECORDING_SIZE_LIMIT", "recordingSizeLimit"),
+        (TABLE_SIZE_LIMIT as u64, "TABLE_SIZE_LIMIT", "table_size_limit"),
+        (RECORDING_SIZE_LIMIT as u64, "RECORDING_SIZE_LIMIT", "recording_size_limit"),
     ];
     for (number, in_code, defined) in sizes {
         assert_eq!((number, number), (constant(PROGRAM, in_code), definition(PROGRAM_DEFINED, defined)), "{defined}");
@@ -281,7 +281,7 @@ fn the_models_numbers_are_the_crates() {
 fn the_size_of_a_monitor_is_the_same_everywhere() {
     let size = size_of::<delkuthi::Monitor>() as u64;
     assert_eq!(size, constant(LENT, "MONITOR_SIZE"));
-    assert_eq!(size, definition(LENT_DEFINED, "monitorSize"));
+    assert_eq!(size, definition(LENT_DEFINED, "monitor_size"));
     assert_eq!(size, 8 * constant("host/delkuthi/src/monitor.rs", "WORDS"));
     let header = Header::read();
     assert_eq!(size, 8 * number_between(&header.text, "uint64_t words[", "]"));
@@ -325,7 +325,7 @@ fn the_size_of_a_row_is_the_same_everywhere() {
     let size = model::limits::SHORT_ROW as u64;
     assert_eq!(size, number_between(&Header::read().text, "uint8_t body[", "]"));
     assert_eq!(size, constant("host/delkuthi/src/table.rs", "ROW_SIZE"));
-    assert_eq!(size, number_between(&text("crates/table/specs/Raw.antt"), "\nrawSize = ", "\n"));
+    assert_eq!(size, number_between(&text("crates/table/specs/Raw.antt"), "\nraw_size = ", "\n"));
     assert_eq!(size, constant("crates/table/src/raw.rt", "RAW_SIZE"));
 }
 

@@ -2,7 +2,7 @@
 //! archive on this machine. `make test-ports` does the same on other machines.
 
 use checks::documents::text_of;
-use checks::hosts::{Host, Ran, c_compiler, c_host, compile_with, done, ran};
+use checks::hosts::{Host, Ran, c_compiler, c_host, compile_with, ran};
 use checks::places::{Folder, example, root};
 use checks::portable::{compiled, portable};
 use checks::release::RustHost;
@@ -118,8 +118,8 @@ fn stripped(source: &str, crates: &str, name: &str) -> (Folder, Output) {
 
 const SMALL: &str = r#"// A part of it, with λ in a comment.
 use crate::part::half;
-ghost use mathlib.Core.Path.{_≡_};
-ghost use Rattle·small.specs.Sizes.{
+ghost use Rattle.std.specs.Prelude.{◌≡◌};
+ghost use Rattle.small.specs.Sizes.{
     size,
 };
 
@@ -130,7 +130,7 @@ pub struct Pair {
 }
 
 // Writes.
-#[no_mangle]
+#[unsafe(no_mangle)]
 pub extern "C" fn small_write(m: &mut Pair, bytes: &[u8], room: &mut [u8], at: u64) -> u64
     requires fits { ⌜ size {m} ≡ 1 ⌝ }
     ensures { λ r. ⌜ r ≡ size {m} ×
@@ -190,7 +190,7 @@ fn what_is_not_understood_is_refused() {
             "crates/small/src/lib.rt: a clause without an end: ensures {",
         ),
         ("fn f()\n    promises { ⌜ 1 ≡ 1 ⌝ }\n{\n}\n", "small:\n", "small", "not understood: promises"),
-        ("#[no_mangle]\npub fn f() {}\n", "small:\n", "small", "an exported function of another form"),
+        ("#[unsafe(no_mangle)]\npub fn f() {}\n", "small:\n", "small", "an exported function of another form"),
         ("", "small: other\n", "small", "crates.txt has no crate other"),
         ("", "small:\n", "great", "crates.txt has no crate great"),
     ];

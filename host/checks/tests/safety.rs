@@ -47,10 +47,10 @@ fn traced(definitions: &str, by_hand: &str, test: &str) -> (String, String) {
         ("docs/CONTRACT.md", contract),
         ("docs/READING.md", by_hand),
         ("crates/a/specs/Things.antt", definitions),
-        ("crates/a/proofs/Things.antt", "-- §5.1.1: a corner\npub a-law\n    : Thing\n"),
+        ("crates/a/proofs/Things.antt", "-- §5.1.1: a corner\npub a_law\n    : Thing\n"),
         (
             "crates/a/src/thing.rt",
-            "impl Bench {\n    // §2.1\n    // Takes it.\n    #[no_mangle]\n    pub fn take() {}\n}\n",
+            "impl Bench {\n    // §2.1\n    // Takes it.\n    #[unsafe(no_mangle)]\n    pub fn take() {}\n}\n",
         ),
         ("host/checks/tests/small.rs", test),
     ];
@@ -65,14 +65,14 @@ fn traced(definitions: &str, by_hand: &str, test: &str) -> (String, String) {
 #[test]
 fn the_trace_is_made_from_tags() {
     let record = "-- §2.1 to §2.2: things\npub record Thing : Type 0 where\n  -- a field\n  -- §2.2\n  pub first : ℕ\n";
-    let definitions = format!("{record}\n-- §5.1\n\npub not-tagged : Thing\n");
+    let definitions = format!("{record}\n-- §5.1\n\npub not_tagged : Thing\n");
     let (table, missing) = traced(&definitions, "", "//! A test.\n//! Clauses: §2.1 to §2.2.\n");
     assert_eq!(missing, "");
     let rows: Vec<&str> = table.lines().filter(|line| line.starts_with("| §")).collect();
     let expected = [
         "| §2.1 | `Thing` (a) |  | `Bench::take` (a) | checks/small |",
         "| §2.2 | `Thing`, `Thing.first` (a) |  |  | checks/small |",
-        "| §5.1 |  | `a-law` (a) |  | checks/contract |",
+        "| §5.1 |  | `a_law` (a) |  | checks/contract |",
     ];
     assert_eq!(rows, expected);
 }

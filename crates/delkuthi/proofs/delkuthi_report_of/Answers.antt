@@ -1,5 +1,5 @@
 -- Before the close nothing is written; after it, what the summary of the monitor says.
-use Rattle.delkuthi.proofs.Names.{Summary, [], ap, arith, rules, }
+use Rattle.delkuthi.proofs.Names.{Summary, [], ap, arith, rules}
 use Rattle.delkuthi.proofs.{Reports.copied_none, Reports.reports_closed, Reports.reports_unclosed}
 use Rattle.delkuthi.proofs.delkuthi_report_of.Goals as goal
 
@@ -12,10 +12,9 @@ returns-then-summary-eq0 c =
     )
 
 pub returns : goal.returns
-returns c =
-    (
-      (_, c.write.ensures),
-      λ n holds. let is = c.summary_of-summary.ensures n holds in
-          reports_closed n c.args.buffer.now c.write.result _
-          (omega (arith, ap (λ (s : Summary). s.closed) is, c.if-summary-eq0.false)) (rw is at c.write.ensures),
-    )
+returns c = (
+  (_, c.write.ensures),
+  λ n holds. let is = c.summary_of-summary.ensures n holds in
+      reports_closed n c.args.buffer.now c.write.result _
+      (omega (arith, ap (λ (s : Summary). s.closed) is, c.if-summary-eq0.false)) (rw is at c.write.ensures),
+)

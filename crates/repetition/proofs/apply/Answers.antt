@@ -1,11 +1,12 @@
 -- Half the length of the ring is the number of its points; the three cases are those of `placed`.
-use Rattle.constraint.proofs.Library.{List, [], ◌/◌, ◌∙◌, ◌≡◌, ap, get_or, le-leb, le-ltb, lt-leb, lt-ltb, rules, refl, ℕ, ⊎_elim}
+use Rattle.constraint.proofs.Library.{List, [], ◌/◌, ◌∙◌, ◌≡◌, ap, get_or, le-leb, le-ltb, lt-leb, lt-ltb, rules, refl, ℕ}
 use Rattle.row_type.specs.{Parts.front, Words.changed_words, Words.number_words, Words.row_as_words, declared.Registers.Registers}
 use Rattle.row_type.specs.{declared.Parameters.Parameters}
 use Rattle.ring.proofs.Laws.{ring_length}
 use Rattle.ring.specs.Ring.{ring}
 use Rattle.repetition.specs.Repetition.{decide_repetition, first_high, highest_point, lowest_point, placed, points}
 use Rattle.repetition.proofs.apply.Goals as goal
+use Rattle.repetition.proofs.apply.Goals.{else-span-upper-via-then-span-upper+else-low-high, else-span-upper-via-else-span-upper}
 
 -- the machine's change, by the length of the ring and the places of the point
 decided : (parameters : Parameters) (registers : Registers) (times : List ℕ) (head len stream t low high : ℕ)
@@ -47,7 +48,7 @@ returns-then-low-high c parameters times state past e =
       decided parameters state.registers times state.head state.len a.stream a.t _ _ low high,
       le-ltb _ _ (rw e at c.if-n-span.false),
       le-leb _ _ (rw e at c.if-span-upper.true),
-      c.if-low-high.true,
+      le-leb _ _ c.if-low-high.true,
     )
     refl
 
@@ -65,7 +66,8 @@ returns c parameters times state past e =
       decided parameters state.registers times state.head state.len a.stream a.t _ _ low high,
       le-ltb _ _ (rw e at c.if-n-span.false),
     )
-    (⊎_elim
-    (λ w. rw (le-leb _ _ (rw e at w.0.taken), w.1.left) refl)
-    (λ w. rw (lt-leb _ _ (rw e at w.left)) refl)
-    c.else-span-upper.branch)
+    (elim c.else-span-upper.branch [
+      | else-span-upper-via-then-span-upper+else-low-high w ↦
+          rw (le-leb _ _ (rw e at w.if-span-upper.true), lt-leb _ _ w.if-low-high.false) refl
+      | else-span-upper-via-else-span-upper w ↦ rw (lt-leb _ _ (rw e at w.if-span-upper.false)) refl
+    ])

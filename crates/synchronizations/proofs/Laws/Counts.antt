@@ -38,7 +38,7 @@ pub record OfKinds (Asks : List ℕ → ℕ → List Step → Type 0) (held : Li
   pub streams_are : streams c ≡ kinds c
   pub no_words : start_words c ≡ []
   pub meets : (steps : List Step) → Meets c steps ≡ Asks (kinds c) (parameters_of c).upper steps
-  pub waits_in_lem : waits_in (parameters_of c).tag ≡ timed
+  pub tag_waits : waits_in (parameters_of c).tag ≡ timed
   pub waits : (steps : List Step) → waiting c steps ≡ held (kinds c) steps
 
 -- a constraint of a list of kinds and a tolerance, of a type with two to four kinds
@@ -46,7 +46,7 @@ pub of_kinds : {Asks : List ℕ → ℕ → List Step → Type 0} {held : List �
     → (ks : List ℕ) (x : ℕ) → fields_of c ≡ byte number (length ks) ∷ listed x ks → (2 ≤ length ks) × (length ks ≤ 4)
     → at word_counts (type_of c) ≡ 0 → ((steps : List Step) → Meets c steps ≡ Asks ks x steps) → waits_in (type_of c) ≡ timed
     → ((steps : List Step) → waiting c steps ≡ held ks steps) → OfKinds Asks held timed c
-of_kinds {Asks} {held} c sound ks x fields few no_words meets waits_in_lem waits =
+of_kinds {Asks} {held} c sound ks x fields few no_words meets tag_waits waits =
     record {
       names = record {
         fit = sound.kinds_fit;
@@ -58,7 +58,7 @@ of_kinds {Asks} {held} c sound ks x fields few no_words meets waits_in_lem waits
       streams_are = ap streams_in fields ∙ streams_listed x ks ∙ sym kinds_same;
       no_words = ap (λ (n : ℕ). take n (start_ring c)) (ap (at word_counts) (tag_is c) ∙ no_words);
       meets = λ steps. meets steps ∙ sym (ap₂ (λ (l : List ℕ) (y : ℕ). Asks l y steps) kinds_same upper_same);
-      waits_in_lem = ap waits_in (tag_is c) ∙ waits_in_lem;
+      tag_waits = ap waits_in (tag_is c) ∙ tag_waits;
       waits = λ steps. waits steps ∙ sym (ap (λ (l : List ℕ). held l steps) kinds_same);
     }
   where

@@ -109,7 +109,7 @@ module _ (c : Constraint) (s : Synchronized c) where
         same = live_same _ _ _ _;
         late = λ past live. live_late _ _ _ _ live;
         is_open = live_open _ _ _;
-        waits = λ past live. rw s.waits_in (s.waits _ ∙ groups_wait (kinds c) tolerance _ live.groups live.behind);
+        waits = λ past live. rw s.tag_waits (s.waits _ ∙ groups_wait (kinds c) tolerance _ live.groups live.behind);
         is_kept = λ past live in_time. live_kept _ _ _ live;
         not_kept = λ past live. live_not_kept _ _ _ live;
       }

@@ -356,7 +356,7 @@ module _ (c : Constraint) (s : Synchronized c) where
 
   live_waits : (steps : List Step) (registers : Registers) (times : List ℕ) → Live steps registers times
       → Waits (waits_in (parameters_of c).tag) (waiting c steps) (length times)
-  live_waits steps registers times live = rw s.waits_in (s.waits steps, omega (arith, ap length live.no_times))
+  live_waits steps registers times live = rw s.tag_waits (s.waits steps, omega (arith, ap length live.no_times))
 
   -- ---- Close
 

@@ -10,6 +10,7 @@ module _ (lower t : ℕ) where
   -- the target answers each of the first n
   abbrev Passed : List ℕ → ℕ → Type 0
   Passed sources n = (i : ℕ) → i < n → leb (get_or sources i 0 + lower) t ≡ true
+
   stopped : (sources : List ℕ) (n : ℕ) → n < length sources → Passed sources n → leb (get_or sources n 0 + lower) t ≡ false
       → answered_by lower t sources ≡ n
   unfolding answered_by
@@ -17,6 +18,7 @@ module _ (lower t : ℕ) where
   stopped (s ∷ sources) zero h passed e = rw e
   stopped (s ∷ sources) (suc n) h passed e =
       rw (passed 0 (omega arith)) (ap suc (stopped sources n (omega arith) (λ i k. passed (suc i) (omega arith)) e))
+
   all_passed : (sources : List ℕ) → Passed sources (length sources) → answered_by lower t sources ≡ length sources
   unfolding answered_by
   all_passed [] passed = refl
@@ -29,8 +31,10 @@ module _ (lower t : ℕ) (times : List ℕ) (head len n : ℕ) (passed : (i : �
     stops here e =
         sym (stopped lower t (ring times head len) n (rw ring_length here) (λ i h. rw (← ring_read times head len i (omega arith)) (passed i h))
         (rw (← ring_read times head len n here, ← at) (sym test ∙ e)))
+
     one_more : r ≡ true → (i : ℕ) → i < n + 1 → leb (time_at times head i + lower) t ≡ true
     one_more e i h = by_cases (ℕ_discrete i n) (λ same. rw (same, ← at) (sym test ∙ e)) (λ other. passed i (omega arith))
+
   -- every source is one of those passed
   ends : (len ≤ n) ⊎ (64 ≤ n) → len ≡ answered_by lower t (ring times head len)
   ends over =

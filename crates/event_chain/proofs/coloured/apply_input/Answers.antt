@@ -80,7 +80,7 @@ returns-then-response-eq0 c parameters times state past e =
     (sym (notes_event (owed_input s.kinds parameters.upper) (breaks_input s.kinds) (word_input s.kinds) state.registers words
     s.colour s.kind s.t many goes (λ same. c.if-value-old.false (value ∙ same ∙ sym old))
     ∙ quiet_noted s.kinds parameters.upper state.registers words s.colour s.kind (word_input s.kinds w s.kind s.t)
-    (sym response ∙ eqb-true c.word_at-response.result 0 c.if-response-eq0.true)
+    (sym response ∙ c.if-response-eq0.true)
     (λ same. omega (arith, c.if-kind-kinds.true))))
 
 pub returns : goal.returns

@@ -1,26 +1,29 @@
 -- The tests are those of `while_running`, in its order.
-use Rattle.constraint.proofs.Library.{◌∙◌, ◌≡◌, eq-eqb, ne_eqb, rules, refl, ⊎_elim}
+use Rattle.constraint.proofs.Library.{◌∙◌, ◌≡◌, eq-eqb, le-leb, le-ltb, lt-leb, lt-ltb, ne_eqb, rules, refl}
 use Rattle.row_type.specs.Words.{changed_words, number_words, row_as_words}
 use Rattle.execution.specs.ExecutionTime.{ran_to, while_running}
 use Rattle.execution.proofs.execution_time.apply_running.Goals as goal
+use Rattle.execution.proofs.execution_time.apply_running.Goals.{else-stream-row-via-then-stream-row+else-row-ran, else-stream-row-via-else-stream-row}
+use Rattle.execution.proofs.execution_time.apply_running.Goals.{else-stream-row-2-via-then-stream-row-2+else-ran-row, else-stream-row-2-via-else-stream-row-2}
 
 pub returns-then-row-ran : goal.returns-then-row-ran
 unfolding row_as_words number_words while_running
 returns-then-row-ran c parameters times state past e =
     let ran : c.plus-ran.result ≡ ran_to state.registers c.args.t = c.plus-ran.ensures
     ∙ rw (c.minus.ensures, c.plus.ensures, e) refl in
-    rw (c.enter.ensures parameters times state past e, ← ran, eq-eqb _ _ (rw e at c.if-stream-row.true), rw e at c.if-row-ran.true) refl
+    rw (c.enter.ensures parameters times state past e, ← ran, eq-eqb _ _ (rw e at c.if-stream-row.true), le-leb _ _ (rw e at c.if-row-ran.true)) refl
 
 pub returns-then-ran-row : goal.returns-then-ran-row
 unfolding row_as_words number_words while_running
 returns-then-ran-row c parameters times state past e =
     let ran : c.plus-ran.result ≡ ran_to state.registers c.args.t = c.plus-ran.ensures
     ∙ rw (c.minus.ensures, c.plus.ensures, e) refl in
-    rw (c.enter-then-ran-row.ensures parameters times state past e, ← ran, eq-eqb _ _ (rw e at c.if-stream-row-2.true), rw e at c.if-ran-row.true)
-    (⊎_elim
-    (λ w. rw (eq-eqb _ _ (rw e at w.0.taken), rw e at w.2.left) refl)
-    (λ w. rw (ne_eqb _ _ (rw e at w.left)) refl)
-    c.else-stream-row.branch)
+    rw (c.enter-then-ran-row.ensures parameters times state past e, ← ran, eq-eqb _ _ (rw e at c.if-stream-row-2.true), lt-ltb _ _ (rw e at c.if-ran-row.true))
+    (elim c.else-stream-row.branch [
+      | else-stream-row-via-then-stream-row+else-row-ran w ↦
+          rw (eq-eqb _ _ (rw e at w.if-stream-row.true), lt-leb _ _ (rw e at w.if-row-ran.false)) refl
+      | else-stream-row-via-else-stream-row w ↦ rw (ne_eqb _ _ (rw e at w.if-stream-row.false)) refl
+    ])
 
 pub returns : goal.returns
 unfolding row_as_words number_words changed_words while_running
@@ -28,9 +31,19 @@ returns c parameters times state past e =
     let ran : c.plus-ran.result ≡ ran_to state.registers c.args.t = c.plus-ran.ensures
     ∙ rw (c.minus.ensures, c.plus.ensures, e) refl in
     rw (c.break_at.ensures parameters times state past e, ← ran)
-    (⊎_elim
-    (λ w. rw (eq-eqb _ _ (rw e at w.0.taken), rw e at w.2.left)
-    (⊎_elim (λ v. rw (eq-eqb _ _ (rw e at v.0.taken), rw e at v.2.left) refl) (λ v. rw (ne_eqb _ _ (rw e at v.left)) refl) c.else-stream-row-2.branch))
-    (λ w. rw (ne_eqb _ _ (rw e at w.left))
-    (⊎_elim (λ v. rw (eq-eqb _ _ (rw e at v.0.taken), rw e at v.2.left) refl) (λ v. rw (ne_eqb _ _ (rw e at v.left)) refl) c.else-stream-row-2.branch))
-    c.else-stream-row.branch)
+    (elim c.else-stream-row.branch [
+      | else-stream-row-via-then-stream-row+else-row-ran w ↦
+          rw (eq-eqb _ _ (rw e at w.if-stream-row.true), lt-leb _ _ (rw e at w.if-row-ran.false))
+          (elim c.else-stream-row-2.branch [
+            | else-stream-row-2-via-then-stream-row-2+else-ran-row v ↦
+                rw (eq-eqb _ _ (rw e at v.if-stream-row-2.true), le-ltb _ _ (rw e at v.if-ran-row.false)) refl
+            | else-stream-row-2-via-else-stream-row-2 v ↦ rw (ne_eqb _ _ (rw e at v.if-stream-row-2.false)) refl
+          ])
+      | else-stream-row-via-else-stream-row w ↦
+          rw (ne_eqb _ _ (rw e at w.if-stream-row.false))
+          (elim c.else-stream-row-2.branch [
+            | else-stream-row-2-via-then-stream-row-2+else-ran-row v ↦
+                rw (eq-eqb _ _ (rw e at v.if-stream-row-2.true), le-ltb _ _ (rw e at v.if-ran-row.false)) refl
+            | else-stream-row-2-via-else-stream-row-2 v ↦ rw (ne_eqb _ _ (rw e at v.if-stream-row-2.false)) refl
+          ])
+    ])

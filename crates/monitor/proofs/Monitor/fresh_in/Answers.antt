@@ -2,18 +2,11 @@
 use Rattle.monitor.proofs.Names.{Accepted, AcceptedIn, ◌∙◌, after, ap, arith, monitor_of, rules, never, play, rows_length, rows_of, take_all}
 use Rattle.monitor.proofs.{Demand.accepted_few, Demand.accepted_sound, FittingRows.sound_place}
 use Rattle.monitor.proofs.Monitor.fresh_in.Goals as goal
-use Rattle.monitor.proofs.Monitor.fresh_in.Tie as tie
-use Rattle.monitor.proofs.Monitor.fresh_in.Reads as reads
-use Rattle.monitor.proofs.Monitor.fresh_in.Lts as steps
-
--- the answer is "taken"
-taken : (c : steps.After-enum_told tie.the-claims reads.Pre reads.Post) → AcceptedIn c.args.edition (rows_of c.args.table)
-taken c = rw c.in-Taken.is at c.validate.ensures
 
 pub over-requires-in-Taken : goal.over-requires-in-Taken
 over-requires-in-Taken c =
     let table = c.args.table in
-    let accepted : Accepted (rows_of table) = (_, taken c.before) in (
+    let accepted : Accepted (rows_of table) = (_, rw c.in-Taken.is at c.validate.ensures) in (
       omega arith,
       omega (arith, accepted_few (rows_of table) accepted, rows_length table),
       λ i h. (sound_place (rows_of table) (accepted_sound (rows_of table) accepted) i (omega (arith, rows_length table))).known,
@@ -33,7 +26,7 @@ unfolding after play
 returns-in-Taken c =
     let table = c.args.table in
     record {
-      judged = taken c.before.before;
+      judged = rw c.in-Taken.is at c.validate.ensures;
       made = λ e. c.over-in-Taken.ensures ∙ ap monitor_of (take_all table.count (rows_of table) (omega (arith, rows_length table)));
       refused = λ n e. never (cc);
     }

@@ -4,13 +4,6 @@ use Rattle.monitor.proofs.Names.{length-take-le}
 use Rattle.monitor.proofs.Names.{monitor_of, rules, no_row, row_in, row_of, rows_from, rows_length, rows_of, subst, subst⁻¹, sym, ℕ}
 use Rattle.monitor.proofs.{Filled.filled, Filled.filled_next}
 use Rattle.monitor.proofs.rows.over.Goals as goal
-use Rattle.monitor.proofs.rows.over.Tie as tie
-use Rattle.monitor.proofs.rows.over.Reads as reads
-use Rattle.monitor.proofs.rows.over.Lts as steps
-
--- a table has 32 entries
-size : (c : steps.Start tie.the-claims reads.Pre reads.Post goal.the-invariant-loop-i goal.the-decreases-loop-i) → length c.args.table.rows ≡ 32
-size c = sym (length-map c.args.table.rows _) ∙ c.well_formed.0.1.1.0.1.0.1
 
 -- the row of an entry
 row_at : (table : Table) (i : ℕ) (other : TableRow) → i < table.count → i < length table.rows → get_or (rows_of table) i filler
@@ -25,7 +18,7 @@ known_filler = (1, record { type_known = (omega arith, omega arith); n_known = �
 pub begin-requires : goal.begin-requires
 begin-requires c =
     let table = c.args.table in let i = c.loop-i.i in
-    subst Known (row_at table i _ (omega arith) (omega (arith, size c.before.before.before.before.before.before))) (c.requires.2 i (omega arith))
+    subst Known (row_at table i _ (omega arith) (omega arith)) (c.requires.2 i (omega arith))
 
 pub loop-i-preserved : goal.loop-i-preserved
 loop-i-preserved c =
@@ -33,7 +26,7 @@ loop-i-preserved c =
     let table = c.args.table in
     let counted : i < table.count = omega arith in (
       omega arith,
-      rw (c.loop-i.invariant.1, c.begin.ensures, ← row_at table i _ counted (omega (arith, size c.before.before.before.before.before.before.before)))
+      rw (c.loop-i.invariant.1, c.begin.ensures, ← row_at table i _ counted (omega arith))
           (filled_next row_of no_row (rows_of table) 32 i filler (omega (arith, rows_length table)) (omega arith)),
     )
 

@@ -2,37 +2,26 @@
 use Rattle.monitor.proofs.Names.{◌-◌, ◌∙◌, ◌≡◌, ◌≤◌, arith, length, length-map, rules, sym}
 use Rattle.monitor.proofs.{First.Moved, First.moved_all, First.moved_full, First.moved_next, First.moved_none}
 use Rattle.monitor.proofs.rows.step.Goals as goal
-use Rattle.monitor.proofs.rows.step.Tie as tie
-use Rattle.monitor.proofs.rows.step.Reads as reads
-use Rattle.monitor.proofs.rows.step.Lts as steps
-
--- a monitor has 32 rows
-size : (c : steps.Start tie.the-claims reads.Pre reads.Post goal.the-invariant-loop-i goal.the-decreases-loop-i) → length c.args.m.rows ≡ 32
-size c = sym (length-map c.args.m.rows _) ∙ c.well_formed.0.1.1.0.1.0.1
-
--- and keeps 32 beside them
-wide : (c : steps.Start tie.the-claims reads.Pre reads.Post goal.the-invariant-loop-i goal.the-decreases-loop-i) → length c.args.m.before ≡ 32
-wide c = sym (length-map c.args.m.before _) ∙ c.well_formed.0.1.1.1.1.1.1.1.1.0.1.0.1
 
 pub returns-then-stepped : goal.returns-then-stepped
 returns-then-stepped c =
     let args = c.args in
-    moved_full args.o args.number args.m (size c.before.before.before.before.before.before.before) c.loop-i.after c.loop-i.i c.loop-i.invariant.1 _ _
+    moved_full args.o args.number args.m (omega arith) c.loop-i.after c.loop-i.i c.loop-i.invariant.1 _ _
     (omega (arith, c.held-len.ensures)) c.step-stepped.ensures c.if-stepped.true
 
 pub loop-i-preserved : goal.loop-i-preserved
 loop-i-preserved c =
     let args = c.args in (
       omega arith,
-      moved_next args.o args.number args.m (size c.before.before.before.before.before.before.before.before.before.before) c.loop-i.after c.loop-i.i c.loop-i.invariant.1
-          (wide c.before.before.before.before.before.before.before.before.before.before) _ _ _ _
+      moved_next args.o args.number args.m (omega arith) c.loop-i.after c.loop-i.i c.loop-i.invariant.1
+          (omega arith) _ _ _ _
           (omega (arith, c.held-len.ensures)) c.step-stepped.ensures c.saved-saved.ensures c.if-stepped.false,
     )
 
 pub returns : goal.returns
 returns c =
     let args = c.args in
-    moved_all args.o args.number args.m (size c.before.before.before.before) c.loop-i.after c.loop-i.i c.loop-i.invariant.1
+    moved_all args.o args.number args.m (omega arith) c.loop-i.after c.loop-i.i c.loop-i.invariant.1
     (omega (arith, c.held-len.ensures))
 
 pub loop-i-init : goal.loop-i-init

@@ -1,5 +1,5 @@
 -- The offsets, the number behind and the due time are those of the definition, and so are the three tests.
-use Rattle.constraint.proofs.Library.{List, ◌&&◌, ◌∙◌, ◌≡◌, ap, false, le-leb, leb, lt-leb, rules, refl, true, ℕ, ⊎_elim}
+use Rattle.constraint.proofs.Library.{List, ◌&&◌, ◌∙◌, ◌≡◌, ap, false, le-leb, leb, lt-leb, rules, refl, true, ℕ}
 use Rattle.constraint.specs.Steps.{at}
 use Rattle.row_type.specs.Parts.{breaking, continues_with, plus}
 use Rattle.row_type.specs.Words.{changed_words, counts_saved, number_words, row_as_words}
@@ -7,6 +7,8 @@ use Rattle.row_type.specs.{declared.Change.Change, declared.Registers.Registers}
 use Rattle.patterns.specs.Pattern.{due_then, number_after, placed_in, step_to}
 use Rattle.ring.specs.{Ring.ring, declared.Edit.TheVariants.Drop}
 use Rattle.patterns.proofs.pattern.place.Goals as goal
+use Rattle.patterns.proofs.pattern.place.Goals.{else-offset-t-via-then-offset-t+then-low-high+else-t-due}
+use Rattle.patterns.proofs.pattern.place.Goals.{else-offset-t-via-then-offset-t+else-low-high, else-offset-t-via-else-offset-t}
 
 -- the change by the three tests, whatever the code calls its numbers
 module _ (n period jitter minimum : ℕ) (offset : ℕ → ℕ) (registers : Registers) (t low high o next due : ℕ) (o_is : o ≡ offset registers.first)
@@ -39,7 +41,8 @@ returns-then-t-due c parameters times state past e =
     ∙ ap (λ (change : Change). changed_words counts_saved parameters times state past change a.t a.number)
     (goes parameters.span parameters.upper parameters.jitter parameters.minimum (at words) state.registers a.t a.low a.high
     c.word-offset.result
-    c.number_after-next.result c.plus-due.result offset next due (le-leb _ _ c.if-offset-t.true) c.if-low-high.true c.if-t-due.true
+    c.number_after-next.result c.plus-due.result offset next due (le-leb _ _ c.if-offset-t.true) (le-leb _ _ c.if-low-high.true)
+    (le-leb _ _ c.if-t-due.true)
     c.plus-then-t-due.result c.plus-then-t-due.ensures)
 
 pub returns : goal.returns
@@ -56,10 +59,12 @@ returns c parameters times state past e =
     state.registers.first a.high =
     c.plus-due.ensures ∙ rw (c.plus-2.ensures, c.plus.ensures, after, step, next, e) refl in
     let failed : (leb c.word-offset.result a.t && (leb a.low a.high && leb a.t c.plus-due.result)) ≡ false =
-    ⊎_elim
-    (λ x. rw (le-leb _ _ x.0.taken, x.1.taken, x.2.left) refl)
-    (⊎_elim (λ x. rw (le-leb _ _ x.0.taken, x.1.left) refl) (λ x. rw (lt-leb _ _ x.left) refl))
-    c.else-offset-t.branch in
+    elim c.else-offset-t.branch [
+      | else-offset-t-via-then-offset-t+then-low-high+else-t-due x ↦
+          rw (le-leb _ _ x.if-offset-t.true, le-leb _ _ x.if-low-high.true, lt-leb _ _ x.if-t-due.false) refl
+      | else-offset-t-via-then-offset-t+else-low-high x ↦ rw (le-leb _ _ x.if-offset-t.true, lt-leb _ _ x.if-low-high.false) refl
+      | else-offset-t-via-else-offset-t x ↦ rw (lt-leb _ _ x.if-offset-t.false) refl
+    ] in
     c.break_at.ensures parameters times state past e
     ∙ ap (λ (change : Change). changed_words counts_saved parameters times state past change a.t a.number)
     (stops parameters.span parameters.upper parameters.jitter parameters.minimum (at words) state.registers a.t a.low a.high

@@ -11,7 +11,6 @@ loop-i-init c = (
   λ n holds.
       let all = held_lies c.args.m.now n holds _ c.held-i.ensures.1 in
       (omega (arith, all), sym (marks_none n (row_limit - c.held-i.result) c.held-i.result (omega (arith, all)))),
-
 )
 
 pub overflow_mul-mask : goal.overflow_mul-mask

@@ -1,5 +1,5 @@
 -- Where another question is answered "no" the event is not refused with 12; else the first row is found that it crowds.
-use Rattle.queries.proofs.Names.{Call, arith, le-ltb, lt-ltb, rules, }
+use Rattle.queries.proofs.Names.{Call, arith, le-ltb, lt-ltb, rules}
 use Rattle.queries.proofs.Places.{few_wait, held_lies, refusal_lies, rows_there}
 use Rattle.queries.proofs.{Theorem.crowded_row_asked, RowPresent.first_crowded_is}
 use Rattle.queries.proofs.ffi.delkuthi_crowded_row.Goals as goal

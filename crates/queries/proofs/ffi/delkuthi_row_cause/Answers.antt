@@ -1,5 +1,5 @@
 -- A row that is there has what its numbers say, and any other none.
-use Rattle.queries.proofs.Names.{arith, rules, }
+use Rattle.queries.proofs.Names.{arith, rules}
 use Rattle.queries.proofs.Places.{held_lies, numbers_lie}
 use Rattle.queries.proofs.{Theorem.cause_asked, RowPresent.is_there, RowPresent.not_there}
 use Rattle.queries.proofs.ffi.delkuthi_row_cause.Goals as goal
@@ -11,7 +11,6 @@ returns-then-held-row c = (
       let args = c.args in
       let held = held_lies args.m.now n holds _ c.held.ensures.1 in
       cause_asked n args.row (rw (not_there args.row n.len (omega (arith, held)))),
-
 )
 
 pub returns : goal.returns
@@ -24,7 +23,6 @@ returns c = (
       let row = numbers_lie m n holds args.row (omega (arith, c.if-held-row.false, c.held.ensures.0)) in
       cause_asked n args.row
       (rw (is_there args.row n.len (omega (arith, held, c.if-held-row.false)), c.cause_by.ensures.1, row.broken_is, row.head_is)),
-
 )
 
 pub bounds-m-i : goal.bounds-m-i

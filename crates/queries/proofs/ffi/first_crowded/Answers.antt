@@ -28,14 +28,18 @@ pub returns-then-step_overflows : goal.returns-then-step_overflows
 returns-then-step_overflows c =
     let a = c.args in
     let m = a.m.now in
-    let i = c.loop-i.i in
-    (omega arith, λ n holds. sym (rw c.if-step_overflows.true at (found m a.rows a.o i c.step_overflows.result n holds (omega arith) (omega arith)
-    (c.step_overflows.ensures (row_at n i) (kept_at n i) (block_lies m n holds i (omega arith))) (c.loop-i.invariant.1 n holds))))
+    let i = c.loop-i.i in (
+      omega arith,
+      λ n holds. sym (rw c.if-step_overflows.true at (found m a.rows a.o i c.step_overflows.result n holds (omega arith) (omega arith)
+          (c.step_overflows.ensures (row_at n i) (kept_at n i) (block_lies m n holds i (omega arith))) (c.loop-i.invariant.1 n holds))),
+    )
 
 pub loop-i-preserved : goal.loop-i-preserved
 loop-i-preserved c =
     let a = c.args in
     let m = a.m.now in
-    let i = c.loop-i.i in
-    (omega arith, λ n holds. rw c.if-step_overflows.false at (found m a.rows a.o i c.step_overflows.result n holds (omega arith) (omega arith)
-    (c.step_overflows.ensures (row_at n i) (kept_at n i) (block_lies m n holds i (omega arith))) (c.loop-i.invariant.1 n holds)))
+    let i = c.loop-i.i in (
+      omega arith,
+      λ n holds. rw c.if-step_overflows.false at (found m a.rows a.o i c.step_overflows.result n holds (omega arith) (omega arith)
+          (c.step_overflows.ensures (row_at n i) (kept_at n i) (block_lies m n holds i (omega arith))) (c.loop-i.invariant.1 n holds)),
+    )

@@ -1,21 +1,10 @@
 -- The table is judged and the row found; a row of an accepted table is of a known type.
-use Rattle.constraint.proofs.Library.{◌<◌, ◌≤◌, arith, rules, }
+use Rattle.constraint.proofs.Library.{◌<◌, ◌≤◌, arith}
 use Rattle.constraint.specs.Table.{ReadsTableUpTo, table_refused}
 use Rattle.fresh.proofs.Refusals.{refused_small}
 use Rattle.read_back.specs.Contract.{refused}
 use Rattle.read_back.proofs.Bodies.{table_gives, table_known, table_none}
 use Rattle.read_back.proofs.ffi.delkuthi_table_row.Goals as goal
-use Rattle.read_back.proofs.ffi.delkuthi_table_row.Tie as tie
-use Rattle.read_back.proofs.ffi.delkuthi_table_row.Reads as reads
-use Rattle.read_back.proofs.ffi.delkuthi_table_row.Lts as steps
-
--- what is read where the table is refused, and that the refusal is close to the start
-reads : (c : steps.After-answer tie.the-claims reads.Pre reads.Post) → ReadsTableUpTo 2 c.args.table.now
-    (table_refused c.in-Refused.number c.in-Refused.place)
-reads c = (rw c.in-Refused.is at c.row_numbered-found.ensures.scans).0
-
-small : (c : steps.After-answer tie.the-claims reads.Pre reads.Post) → (0 < c.in-Refused.number) × (c.in-Refused.place ≤ 5249)
-small c = refused_small _ _ _ (reads c)
 
 pub returns-then-rows-row : goal.returns-then-rows-row
 returns-then-rows-row c =
@@ -29,8 +18,12 @@ give_body-requires c =
     table_known c.args.table.now c.args.row c.args.body.now found.result found.ensures
     c.in-Accepted.is (omega (arith, c.if-rows-row.false))
 
+-- a refusal is close to the start
 pub returns-in-Refused : goal.returns-in-Refused
-returns-in-Refused c = refused _ _ (reads c.before.before) (small c.before.before).0 (omega arith)
+returns-in-Refused c =
+    let reads = (rw c.in-Refused.is at c.row_numbered-found.ensures.scans).0 in
+    let small = refused_small _ _ _ reads in
+    refused _ _ reads small.0 (omega arith)
 
 pub returns-else-rows-row : goal.returns-else-rows-row
 returns-else-rows-row c =
@@ -39,7 +32,13 @@ returns-else-rows-row c =
     c.in-Accepted.is (omega (arith, c.if-rows-row.false)) c.give_body.ensures
 
 pub overflow_mul-result : goal.overflow_mul-result
-overflow_mul-result c = omega (arith, small c.before.before)
+overflow_mul-result c =
+    let reads = (rw c.in-Refused.is at c.row_numbered-found.ensures.scans).0 in
+    let small = refused_small _ _ _ reads in
+    omega (arith, small)
 
 pub overflow_add-result : goal.overflow_add-result
-overflow_add-result c = omega (arith, small c.before.before)
+overflow_add-result c =
+    let reads = (rw c.in-Refused.is at c.row_numbered-found.ensures.scans).0 in
+    let small = refused_small _ _ _ reads in
+    omega (arith, small)

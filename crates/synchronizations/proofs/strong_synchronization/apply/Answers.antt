@@ -1,5 +1,5 @@
 -- The length is the number of groups begun, and the tests are those of the machine, asked of the counts with the event.
-use Rattle.constraint.proofs.Library.{[], ◌∙◌, ◌∷◌, ap, arith, get_or, ltb, rules, not-false, not-true, refl, set}
+use Rattle.constraint.proofs.Library.{[], ◌∙◌, ◌∷◌, ap, arith, get_or, le-ltb, lt-ltb, rules, refl, set}
 use Rattle.synchronizations.proofs.Laws.Places.{place_small, register_read, register_stored}
 use Rattle.synchronizations.specs.StrongSynchronization.{decide_strong_synchronization}
 use Rattle.row_type.specs.Words.{changed_words, number_words, row_as_words}
@@ -16,7 +16,7 @@ returns-then-not-count-row c parameters times state past e =
     rw (
       c.one_more_waits.ensures parameters times _ _ words,
       ring_length,
-      not-true (ltb _ state.len) (rw (words, count) at c.if-not-count-row.true),
+      le-ltb _ _ (rw (words, count) at c.if-not-count-row.true),
     ) refl
 
 pub returns-then-each_above : goal.returns-then-each_above
@@ -26,11 +26,11 @@ returns-then-each_above c parameters times state past e =
     let count = register_read _ parameters times state _ _ _ kept c.place-at.ensures in
     let words = register_stored _ parameters times state _ _ _ kept c.place-at.ensures _ _ (c.plus.ensures ∙ ap (λ n. plus n 1) count) in
     let gone = c.forget.ensures parameters _ _ (ap (λ m. get_or m 1 []) words) in
-    let left = ap (λ m. set m 1 c.forget.new.0) words ∙ ap (λ w. times ∷ w ∷ []) gone in
+    let left = ap (λ m. set m 1 c.forget.new.w) words ∙ ap (λ w. times ∷ w ∷ []) gone in
     rw (
       c.fewer_wait.ensures parameters times _ _ left,
       ring_length,
-      not-false (ltb _ state.len) (rw (words, count) at c.if-not-count-row.false),
+      lt-ltb _ _ (rw (words, count) at c.if-not-count-row.false),
       ← rw words at c.each_above.ensures,
       c.if-each_above.true,
     ) refl
@@ -44,7 +44,7 @@ returns c parameters times state past e =
     rw (
       c.fewer_wait-2.ensures parameters times _ _ words,
       ring_length,
-      not-false (ltb _ state.len) (rw (words, count) at c.if-not-count-row.false),
+      lt-ltb _ _ (rw (words, count) at c.if-not-count-row.false),
       ← rw words at c.each_above.ensures,
       c.if-each_above.false,
     ) refl

@@ -1,5 +1,5 @@
 -- Whatever the number of its type, a row's machine fits a row: each type's does, and so does that of no type.
-use Rattle.row.proofs.Names.{FitsRow, List, List·getD-eq-default, Machine, [], ◌+◌, ◌<◌, ◌∷◌, ◌≡◌, ◌≢◌, ◌⊎◌, arith, fits_none, get_or, inl, inr}
+use Rattle.row.proofs.Names.{FitsRow, List, List·getD-eq-default, Machine, [], ◌<◌, ◌∷◌, ◌≡◌, ◌≢◌, arith, fits_none, get_or}
 use Rattle.row.proofs.Names.{Bool, ◌%◌, ◌∙◌, ap, cond, eq-eqb, eqb, eqb-true, machine_of, machines, min, no_machine, refl, split, suc}
 use Rattle.row.proofs.Names.{sym, zero, ℕ}
 use Rattle.constraint.proofs.Library.{by_cases, dec_lt}

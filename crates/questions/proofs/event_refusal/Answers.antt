@@ -1,5 +1,5 @@
 -- The tests are those of `own_refusal`, in its order.
-use Rattle.constraint.proofs.Library.{le-leb, le-ltb, lt-leb, lt-ltb, rules}
+use Rattle.constraint.proofs.Library.{le-leb, le-ltb, lt-leb, lt-ltb}
 use Rattle.questions.proofs.event_refusal.Goals as goal
 
 pub returns-then-kind-gt-LAST_KIND : goal.returns-then-kind-gt-LAST_KIND

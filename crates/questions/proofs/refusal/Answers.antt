@@ -1,5 +1,5 @@
 -- The close and the count are asked for first, then what is the call's own.
-use Rattle.constraint.proofs.Library.{le-leb, le-ltb, lt-leb, lt-ltb, rules}
+use Rattle.constraint.proofs.Library.{le-leb, le-ltb, lt-leb, lt-ltb}
 use Rattle.questions.proofs.refusal.Goals as goal
 
 pub returns-then-closed-gt0 : goal.returns-then-closed-gt0

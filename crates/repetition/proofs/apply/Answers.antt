@@ -1,5 +1,5 @@
 -- Half the length of the ring is the number of its points; the three cases are those of `placed`.
-use Rattle.constraint.proofs.Library.{List, [], ◌/◌, ◌∙◌, ◌≡◌, ap, get_or, le-leb, le-ltb, lt-leb, lt-ltb, rules, refl, ℕ}
+use Rattle.constraint.proofs.Library.{List, [], ◌/◌, ◌∙◌, ◌≡◌, ap, get_or, le-leb, le-ltb, lt-leb, lt-ltb, refl, ℕ}
 use Rattle.row_type.specs.{Parts.front, Words.changed_words, Words.number_words, Words.row_as_words, declared.Registers.Registers}
 use Rattle.row_type.specs.{declared.Parameters.Parameters}
 use Rattle.ring.proofs.Laws.{ring_length}

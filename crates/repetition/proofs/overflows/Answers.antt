@@ -1,5 +1,5 @@
 -- The test is that of `overflows_repetition`.
-use Rattle.constraint.proofs.Library.{rules, refl}
+use Rattle.constraint.proofs.Library.{refl}
 use Rattle.repetition.specs.Repetition.{overflows_repetition}
 use Rattle.repetition.proofs.overflows.Goals as goal
 

@@ -1,5 +1,5 @@
 -- The tests are those of the definition, in their order.
-use Rattle.row.proofs.Names.{le-ltb, lt-ltb, moves_by, rules}
+use Rattle.row.proofs.Names.{le-ltb, lt-ltb, moves_by}
 use Rattle.row.proofs.moves.Goals as goal
 
 pub returns-then-now-gt0 : goal.returns-then-now-gt0

@@ -1,9 +1,7 @@
 -- The target answers every source that the loop has passed; once it has passed 64 it has passed every time of the ring, which repeats itself.
-use Rattle.constraint.proofs.Library.{Bool, List, [], ◌%◌, ◌+◌, ◌-◌, ◌<◌, ◌∙◌, ◌∷◌, ◌≡◌, ◌≤◌, ◌⊎◌, ap, arith, by_cases, false, get_or, inl, inr, leb}
-use Rattle.constraint.proofs.Library.{length, ltb-false, ltb-true, not-false, not-true, refl, suc, sym, true, zero, ℕ, ℕ_discrete}
-use Rattle.delay_order.specs.Delay.{answered_by}
-use Rattle.ring.proofs.{Laws.ring_length, Laws.ring_read, Laws.ring_round}
-use Rattle.ring.specs.Ring.{ring, time_at}
+use Rattle.constraint.proofs.Library.{◌+◌, ◌-◌, ◌<◌, ◌≡◌, ◌≤◌, leb}
+use Rattle.constraint.proofs.Library.{true, ℕ}
+use Rattle.ring.specs.Ring.{time_at}
 use Rattle.delay_order.proofs.delay.answered.Given as goal
 
 abbrev pub invariant-loop-n : goal.invariant-loop-n

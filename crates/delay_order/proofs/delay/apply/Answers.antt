@@ -1,5 +1,5 @@
 -- A source joins the times unless the last target answers it; a target leaves with those that it answers.
-use Rattle.constraint.proofs.Library.{eq-eqb, ne_eqb, rules, refl}
+use Rattle.constraint.proofs.Library.{eq-eqb, ne_eqb, refl}
 use Rattle.row_type.specs.Words.{changed_words, last_saved, number_words, undo_with, row_as_words}
 use Rattle.delay_order.specs.Delay.{decide_delay}
 use Rattle.delay_order.proofs.delay.apply.Goals as goal

@@ -1,5 +1,5 @@
 -- The tests are those of `overflows_delay`, in its order.
-use Rattle.constraint.proofs.Library.{eq-eqb, le-ltb, lt-ltb, ne_eqb, rules}
+use Rattle.constraint.proofs.Library.{eq-eqb, le-ltb, lt-ltb, ne_eqb}
 use Rattle.delay_order.specs.Delay.{overflows_delay}
 use Rattle.delay_order.proofs.delay.overflows.Goals as goal
 

@@ -1,5 +1,5 @@
 -- Each event is the partner of one beyond of the other kind, or one more beyond itself; what is beyond is stored.
-use Rattle.constraint.proofs.Library.{Bool, List, [], ◌-◌, ◌<◌, ◌≡◌, ap, arith, cond, eq-eqb, eqb, false, get_or, ne_eqb, rules, refl, true, ℕ}
+use Rattle.constraint.proofs.Library.{Bool, List, [], ◌-◌, ◌<◌, ◌≡◌, ap, arith, cond, eq-eqb, eqb, false, get_or, ne_eqb, refl, true, ℕ}
 use Rattle.constraint.specs.Limits.{no_limit}
 use Rattle.row_type.specs.Words.{UndoRecord, changed_words, first_three_saved, going_on, undo_but_registers, number_words, undo_with, row_as_words}
 use Rattle.row_type.specs.{Parts.continues_with, Parts.early_of, Parts.plus, declared.Registers.Registers, declared.Parameters.Parameters}

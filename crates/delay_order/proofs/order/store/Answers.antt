@@ -1,5 +1,5 @@
 -- The tests are those of `changes_to`; each number is stored at its place.
-use Rattle.constraint.proofs.Library.{◌∙◌, eq-eqb, ne_eqb, rules, refl}
+use Rattle.constraint.proofs.Library.{◌∙◌, eq-eqb, ne_eqb, refl}
 use Rattle.row_type.specs.{Parts.with_last, Words.number_words, Words.with_registers}
 use Rattle.delay_order.specs.Order.{changes_to, with_ahead}
 use Rattle.delay_order.proofs.order.store.Goals as goal

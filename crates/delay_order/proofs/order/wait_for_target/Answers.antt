@@ -1,5 +1,5 @@
 -- Each number is stored at its place.
-use Rattle.constraint.proofs.Library.{rules, refl}
+use Rattle.constraint.proofs.Library.{refl}
 use Rattle.row_type.specs.Words.{number_words}
 use Rattle.delay_order.proofs.order.wait_for_target.Goals as goal
 

@@ -1,5 +1,5 @@
 -- A source waits unless there is a target beyond; a target takes the oldest source that waits, if that is long enough before it, or is one beyond.
-use Rattle.constraint.proofs.Library.{[], ap, eq-eqb, get_or, ne_eqb, rules, refl, set}
+use Rattle.constraint.proofs.Library.{[], ap, eq-eqb, get_or, ne_eqb, refl, set}
 use Rattle.row_type.proofs.Oldest.{none_left_ring}
 use Rattle.row_type.specs.Words.{changed_words, last_saved, number_words, undo_with, row_as_words}
 use Rattle.delay_order.specs.StrongDelay.{decide_strong_delay, source_strong_delay, target_strong_delay}

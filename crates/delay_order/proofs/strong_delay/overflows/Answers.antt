@@ -1,5 +1,5 @@
 -- The tests are those of `overflows_strong_delay`, in its order.
-use Rattle.constraint.proofs.Library.{eq-eqb, le-ltb, lt-ltb, ne_eqb, rules}
+use Rattle.constraint.proofs.Library.{eq-eqb, le-ltb, lt-ltb, ne_eqb}
 use Rattle.delay_order.specs.StrongDelay.{overflows_strong_delay}
 use Rattle.delay_order.proofs.strong_delay.overflows.Goals as goal
 

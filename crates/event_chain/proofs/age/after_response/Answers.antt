@@ -1,5 +1,5 @@
 -- The tests are those of `after_response_age`, in its order.
-use Rattle.constraint.proofs.Library.{eq-eqb, le-leb, lt-leb, ne_eqb, rules}
+use Rattle.constraint.proofs.Library.{eq-eqb, le-leb, lt-leb, ne_eqb}
 use Rattle.event_chain.proofs.age.after_response.Goals as goal
 
 pub returns-then-suits : goal.returns-then-suits

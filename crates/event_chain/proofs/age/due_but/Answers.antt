@@ -1,7 +1,6 @@
 -- The loop goes from colour to colour: the due time so far is that of those passed.
 use Rattle.event_chain.specs.Age.{due_age}
-use Rattle.constraint.proofs.Library.{◌-◌, ◌≡◌, ◌≤◌, add-one, arith, refl}
-use Rattle.ring.specs.Ring.{ring}
+use Rattle.constraint.proofs.Library.{◌≡◌, add-one, arith, refl}
 use Rattle.event_chain.proofs.age.due_but.Goals as goal
 
 pub loop-n-init : goal.loop-n-init

@@ -1,5 +1,5 @@
 -- The test is that of `owed`.
-use Rattle.constraint.proofs.Library.{eq-eqb, ne_eqb, rules}
+use Rattle.constraint.proofs.Library.{eq-eqb, ne_eqb}
 use Rattle.event_chain.proofs.age.owed.Goals as goal
 
 pub returns-then-low-eq0 : goal.returns-then-low-eq0

@@ -1,5 +1,5 @@
 -- The test is that of `owed_but`.
-use Rattle.constraint.proofs.Library.{eq-eqb, ne_eqb, rules, refl, ◌∙◌}
+use Rattle.constraint.proofs.Library.{eq-eqb, ne_eqb, refl, ◌∙◌}
 use Rattle.event_chain.proofs.age.owed_of.Goals as goal
 
 pub returns : goal.returns

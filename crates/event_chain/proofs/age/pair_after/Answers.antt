@@ -1,5 +1,5 @@
 -- The test is that of `pair_after_age`.
-use Rattle.constraint.proofs.Library.{eq-eqb, ne_eqb, rules, refl}
+use Rattle.constraint.proofs.Library.{eq-eqb, ne_eqb, refl}
 use Rattle.event_chain.proofs.age.pair_after.Goals as goal
 
 pub returns-then-coloured_kind-w : goal.returns-then-coloured_kind-w

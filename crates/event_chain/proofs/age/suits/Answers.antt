@@ -1,5 +1,5 @@
 -- The tests are those of `suits`, in its order.
-use Rattle.constraint.proofs.Library.{le-leb, le-ltb, lt-leb, lt-ltb, rules, refl}
+use Rattle.constraint.proofs.Library.{le-leb, le-ltb, lt-leb, lt-ltb, refl}
 use Rattle.event_chain.proofs.age.suits.Goals as goal
 
 pub returns-then-plus-next : goal.returns-then-plus-next

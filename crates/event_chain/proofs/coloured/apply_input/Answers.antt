@@ -3,8 +3,8 @@ use Rattle.event_chain.proofs.Laws.Words.{ring_in}
 use Rattle.event_chain.proofs.Laws.Events.{breaks_event, breaks_short, notes_event, quiet_noted, stays_event}
 use Rattle.event_chain.specs.{Coloured.noted, Coloured.one_new, Coloured.words_at, InputSynchronization.breaks_input}
 use Rattle.event_chain.specs.{InputSynchronization.owed_input, InputSynchronization.word_input, Marked.due_marked, Marked.marking}
-use Rattle.constraint.proofs.Library.{List, ◌*◌, ◌+◌, ◌<◌, ◌∙◌, ◌≡◌, ◌≤◌, ap, ap₂, arith, eqb-true, false, length}
-use Rattle.constraint.proofs.Library.{rules, subst, sym, true, ℕ}
+use Rattle.constraint.proofs.Library.{List, ◌*◌, ◌+◌, ◌<◌, ◌∙◌, ◌≡◌, ◌≤◌, ap, ap₂, arith, false, length}
+use Rattle.constraint.proofs.Library.{subst, sym, true, ℕ}
 use Rattle.event_chain.specs.InputSynchronization.{late_stimulus, next_input, owed_either}
 use Rattle.constraint.specs.Steps.{at}
 use Rattle.row_type.specs.{Words.changed_words, Words.last_saved, Words.number_words, Words.row_as_words, declared.Change.Change}

@@ -3,7 +3,7 @@ use Rattle.event_chain.proofs.Laws.Words.{ring_in}
 use Rattle.event_chain.proofs.Laws.Events.{breaks_event, breaks_short, notes_event, stays_event}
 use Rattle.event_chain.specs.{Coloured.first_word, Coloured.noted, Coloured.words_at, OutputSynchronization.breaks_output}
 use Rattle.event_chain.specs.{OutputSynchronization.owed_output, OutputSynchronization.word_output}
-use Rattle.constraint.proofs.Library.{List, ◌<◌, ◌∙◌, ◌≡◌, ◌≤◌, ap, length, rules, subst, sym, ℕ}
+use Rattle.constraint.proofs.Library.{List, ◌<◌, ◌∙◌, ◌≡◌, ◌≤◌, ap, length, subst, sym, ℕ}
 use Rattle.event_chain.specs.InputSynchronization.{owed_either}
 use Rattle.constraint.specs.Steps.{at}
 use Rattle.row_type.specs.{Words.changed_words, Words.last_saved, Words.number_words, Words.row_as_words, declared.Change.Change}

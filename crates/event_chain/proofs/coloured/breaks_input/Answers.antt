@@ -1,5 +1,5 @@
 -- The tests are those of `late_stimulus`, in its order.
-use Rattle.constraint.proofs.Library.{le-ltb, lt-ltb, rules, refl}
+use Rattle.constraint.proofs.Library.{le-ltb, lt-ltb, refl}
 use Rattle.event_chain.proofs.coloured.breaks_input.Goals as goal
 
 pub returns-then-response-gt0 : goal.returns-then-response-gt0

@@ -1,7 +1,7 @@
 -- The tests are those of `due_next`, in its order.
 use Rattle.event_chain.proofs.Laws.Events.{next_all, next_before, next_new}
 use Rattle.event_chain.specs.{Coloured.words_at, InputSynchronization.owed_either}
-use Rattle.constraint.proofs.Library.{List, ◌∙◌, ◌≡◌, ap, rules, set, ℕ}
+use Rattle.constraint.proofs.Library.{List, ◌∙◌, ◌≡◌, ap, set, ℕ}
 use Rattle.ring.specs.Ring.{ring}
 use Rattle.event_chain.proofs.coloured.due_after.Goals as goal
 

@@ -1,8 +1,6 @@
 -- The loop goes from colour to colour: the due time so far is that of those passed.
 use Rattle.event_chain.specs.Coloured.{due_words, least_of}
-use Rattle.event_chain.specs.InputSynchronization.{owed_either}
-use Rattle.constraint.proofs.Library.{◌-◌, ◌≡◌, ◌≤◌, add-one, arith, refl}
-use Rattle.ring.specs.Ring.{ring}
+use Rattle.constraint.proofs.Library.{◌≡◌, add-one, arith, refl}
 use Rattle.event_chain.proofs.coloured.due_but.Goals as goal
 
 pub loop-n-init : goal.loop-n-init

@@ -1,7 +1,7 @@
 -- The loop goes from colour to colour: the due time so far is that of those passed.
-use Rattle.event_chain.specs.Coloured.{due_words, least_of}
+use Rattle.event_chain.specs.Coloured.{due_words}
 use Rattle.event_chain.specs.InputSynchronization.{owed_either}
-use Rattle.constraint.proofs.Library.{◌-◌, ◌≡◌, ◌≤◌, add-one, arith, refl}
+use Rattle.constraint.proofs.Library.{◌-◌, ◌≡◌, ◌≤◌}
 use Rattle.ring.specs.Ring.{ring}
 use Rattle.event_chain.proofs.coloured.due_but.Given as goal
 

@@ -1,8 +1,6 @@
 -- The loop goes from kind to kind: the first response so far is that of those passed.
-use Rattle.event_chain.specs.{Coloured.least_of, Coloured.words_at, Reaction.latest}
-use Rattle.constraint.proofs.Library.{◌-◌, ◌≡◌, ◌≤◌, add-one, arith, refl, suc}
-use Rattle.constraint.specs.Steps.{at}
-use Rattle.ring.specs.Ring.{ring}
+use Rattle.event_chain.specs.{Coloured.least_of, Reaction.latest}
+use Rattle.constraint.proofs.Library.{◌≡◌, add-one, arith, refl}
 use Rattle.event_chain.proofs.coloured.first_at.Goals as goal
 
 pub loop-i-init : goal.loop-i-init

@@ -1,7 +1,6 @@
 -- The loop goes from kind to kind: the first response so far is that of those passed.
 use Rattle.event_chain.specs.{Coloured.least_of, Reaction.latest}
-use Rattle.constraint.proofs.Library.{◌-◌, ◌≡◌, ◌≤◌, add-one, arith, refl, suc}
-use Rattle.constraint.specs.Steps.{at}
+use Rattle.constraint.proofs.Library.{◌≡◌, add-one, arith, refl}
 use Rattle.event_chain.proofs.coloured.first_response.Goals as goal
 
 pub loop-i-init : goal.loop-i-init

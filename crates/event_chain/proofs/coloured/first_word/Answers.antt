@@ -1,5 +1,5 @@
 -- The test is that of `first_word`.
-use Rattle.constraint.proofs.Library.{eq-eqb, ne_eqb, rules, refl}
+use Rattle.constraint.proofs.Library.{eq-eqb, ne_eqb, refl}
 use Rattle.event_chain.proofs.coloured.first_word.Goals as goal
 
 pub returns-then-x-eq0 : goal.returns-then-x-eq0

@@ -1,5 +1,5 @@
 -- The mark is kept, the ring stays, and the due time is the one that the mark tells.
-use Rattle.constraint.proofs.Library.{[], ap, get_or, rules, refl}
+use Rattle.constraint.proofs.Library.{[], ap, get_or, refl}
 use Rattle.row_type.specs.Words.{changed_words, last_saved, number_words, row_as_words, undo_with}
 use Rattle.event_chain.proofs.coloured.keep.Goals as goal
 

@@ -1,7 +1,6 @@
 -- The loop goes from kind to kind.
 use Rattle.event_chain.specs.{Coloured.least_of}
-use Rattle.constraint.proofs.Library.{◌-◌, ◌≡◌, ◌≤◌, add-one, arith, refl}
-use Rattle.constraint.specs.Steps.{at}
+use Rattle.constraint.proofs.Library.{◌≡◌, add-one, arith, refl}
 use Rattle.event_chain.proofs.coloured.least.Goals as goal
 
 pub loop-i-init : goal.loop-i-init

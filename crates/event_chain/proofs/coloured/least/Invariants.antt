@@ -1,6 +1,6 @@
 -- The loop goes from kind to kind.
 use Rattle.event_chain.specs.{Coloured.least_of}
-use Rattle.constraint.proofs.Library.{◌-◌, ◌≡◌, ◌≤◌, add-one, arith, refl}
+use Rattle.constraint.proofs.Library.{◌-◌, ◌≡◌, ◌≤◌}
 use Rattle.constraint.specs.Steps.{at}
 use Rattle.event_chain.proofs.coloured.least.Given as goal
 

@@ -2,7 +2,7 @@
 use Rattle.event_chain.proofs.Laws.Words.{ring_in}
 use Rattle.event_chain.specs.{Coloured.due_words, Coloured.one_new, Coloured.words_at, InputSynchronization.owed_either, Marked.due_marked}
 use Rattle.event_chain.specs.Marked.{due_next, marking}
-use Rattle.constraint.proofs.Library.{List, [], ◌*◌, ◌+◌, ◌∙◌, ◌≡◌, ap, get_or, rules, set, subst, ℕ}
+use Rattle.constraint.proofs.Library.{List, [], ◌*◌, ◌+◌, ◌∙◌, ◌≡◌, ap, get_or, set, subst, ℕ}
 use Rattle.row_type.specs.Words.{changed_words, last_saved, number_words, row_as_words}
 use Rattle.ring.specs.Ring.{ring}
 use Rattle.event_chain.proofs.coloured.note.Goals as goal

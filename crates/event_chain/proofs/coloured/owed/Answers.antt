@@ -1,6 +1,5 @@
 -- The test is that of `owed_either`.
 use Rattle.event_chain.specs.InputSynchronization.{owed_either}
-use Rattle.constraint.proofs.Library.{rules}
 use Rattle.event_chain.proofs.coloured.owed.Goals as goal
 
 pub returns-then-input : goal.returns-then-input

@@ -1,5 +1,5 @@
 -- The tests are those of `owed_input`, in its order.
-use Rattle.constraint.proofs.Library.{eq-eqb, ne_eqb, rules, refl}
+use Rattle.constraint.proofs.Library.{eq-eqb, ne_eqb, refl}
 use Rattle.event_chain.proofs.coloured.owed_input.Goals as goal
 
 pub returns-then-together : goal.returns-then-together

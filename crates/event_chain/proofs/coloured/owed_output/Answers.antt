@@ -1,5 +1,5 @@
 -- The tests are those of `owed_output`, in its order.
-use Rattle.constraint.proofs.Library.{eq-eqb, le-ltb, lt-ltb, ne_eqb, rules, refl}
+use Rattle.constraint.proofs.Library.{eq-eqb, le-ltb, lt-ltb, ne_eqb, refl}
 use Rattle.event_chain.proofs.coloured.owed_output.Goals as goal
 
 pub returns-then-least_response-gt0 : goal.returns-then-least_response-gt0

@@ -1,5 +1,5 @@
 -- The word behind the new one is what it was.
-use Rattle.constraint.proofs.Library.{rules, refl}
+use Rattle.constraint.proofs.Library.{refl}
 use Rattle.row_type.specs.Words.{number_words, row_as_words}
 use Rattle.event_chain.proofs.coloured.put_word.Goals as goal
 

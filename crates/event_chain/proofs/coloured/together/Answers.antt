@@ -1,5 +1,5 @@
 -- The tests are those of `together`, in its order.
-use Rattle.constraint.proofs.Library.{◌<◌, arith, lt-ltb, rules, refl}
+use Rattle.constraint.proofs.Library.{◌<◌, arith, lt-ltb, refl}
 use Rattle.event_chain.proofs.coloured.together.Goals as goal
 
 pub returns-then-first-eq0 : goal.returns-then-first-eq0

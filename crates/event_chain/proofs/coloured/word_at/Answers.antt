@@ -1,7 +1,7 @@
 -- The place of the word is the kind's place behind that of the colour's first word.
 use Rattle.event_chain.proofs.Laws.ByWords.{words_at_lem}
 use Rattle.event_chain.proofs.Laws.Words.{behind_read}
-use Rattle.constraint.proofs.Library.{◌*◌, ◌∙◌, arith, rules, sym}
+use Rattle.constraint.proofs.Library.{◌*◌, ◌∙◌, arith, sym}
 use Rattle.ring.specs.Ring.{ring}
 use Rattle.event_chain.proofs.coloured.word_at.Goals as goal
 

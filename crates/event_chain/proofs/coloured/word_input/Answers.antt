@@ -1,5 +1,5 @@
 -- The test is that of `next_input`.
-use Rattle.constraint.proofs.Library.{le-ltb, lt-ltb, rules}
+use Rattle.constraint.proofs.Library.{le-ltb, lt-ltb}
 use Rattle.event_chain.proofs.coloured.word_input.Goals as goal
 
 pub returns-then-kind-n : goal.returns-then-kind-n

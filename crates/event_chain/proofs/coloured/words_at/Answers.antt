@@ -1,5 +1,5 @@
 -- Each word is that of the ring.
-use Rattle.constraint.proofs.Library.{rules, refl}
+use Rattle.constraint.proofs.Library.{refl}
 use Rattle.event_chain.proofs.coloured.words_at.Goals as goal
 
 pub returns : goal.returns

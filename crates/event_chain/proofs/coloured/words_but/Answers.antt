@@ -1,6 +1,6 @@
 -- The test is that of `words_but`.
 use Rattle.event_chain.specs.Coloured.{words_at}
-use Rattle.constraint.proofs.Library.{ap, eq-eqb, ne_eqb, rules, set, ℕ}
+use Rattle.constraint.proofs.Library.{ap, eq-eqb, ne_eqb, set, ℕ}
 use Rattle.ring.specs.Ring.{ring}
 use Rattle.event_chain.proofs.coloured.words_but.Goals as goal
 

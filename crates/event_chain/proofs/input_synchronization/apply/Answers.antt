@@ -1,6 +1,6 @@
 -- The numbers of the row give the number of its kinds and the place of the event's kind, which are those of the definition.
 use Rattle.event_chain.specs.{Coloured.decide_words, Coloured.kind_count, Coloured.place_among, Marked.coloured_kind}
-use Rattle.constraint.proofs.Library.{◌∙◌, ◌≡◌, rules, refl}
+use Rattle.constraint.proofs.Library.{◌∙◌, ◌≡◌, refl}
 use Rattle.row_type.specs.Words.{number_words, row_as_words}
 use Rattle.event_chain.proofs.input_synchronization.apply.Goals as goal
 

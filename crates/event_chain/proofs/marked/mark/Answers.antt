@@ -1,5 +1,5 @@
 -- The mark and the two numbers are stored at their places, and nothing else.
-use Rattle.constraint.proofs.Library.{◌-◌, ◌∙◌, rules, refl}
+use Rattle.constraint.proofs.Library.{◌-◌, ◌∙◌, refl}
 use Rattle.constraint.specs.Limits.{no_limit}
 use Rattle.row_type.specs.{Parts.with_last, Words.number_words, Words.with_registers}
 use Rattle.event_chain.proofs.marked.mark.Goals as goal

@@ -1,5 +1,5 @@
 -- The mark is kept, the words are put, and the new mark and due time are stored.
-use Rattle.constraint.proofs.Library.{[], ap, get_or, rules, refl}
+use Rattle.constraint.proofs.Library.{[], ap, get_or, refl}
 use Rattle.row_type.specs.Words.{changed_words, last_saved, number_words, row_as_words, undo_with}
 use Rattle.event_chain.proofs.marked.put_marked.Goals as goal
 

@@ -1,5 +1,5 @@
 -- The tests are those of `after_response`, in its order.
-use Rattle.constraint.proofs.Library.{eq-eqb, le-ltb, lt-ltb, ne_eqb, rules}
+use Rattle.constraint.proofs.Library.{eq-eqb, le-ltb, lt-ltb, ne_eqb}
 use Rattle.event_chain.proofs.reaction.after_response.Goals as goal
 
 pub returns-then-low-eq0 : goal.returns-then-low-eq0

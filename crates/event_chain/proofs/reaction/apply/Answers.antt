@@ -1,7 +1,7 @@
 -- A row of fewer words breaks. Else the words of the event's colour are those of the definition, and so is what the event makes of them.
 use Rattle.event_chain.proofs.Laws.Words.{first_read, long_enough, second_read}
 use Rattle.event_chain.specs.{Reaction.decide_reaction, Reaction.pair_after, Reaction.paired, declared.reaction.Pair.Pair}
-use Rattle.constraint.proofs.Library.{◌%◌, ◌*◌, ◌+◌, ◌∙◌, ◌≡◌, ◌≤◌, ap, ap₂, arith, get_or, lt-ltb, rules, refl, sym, ℕ}
+use Rattle.constraint.proofs.Library.{◌%◌, ◌*◌, ◌+◌, ◌∙◌, ◌≡◌, ◌≤◌, ap, ap₂, arith, get_or, lt-ltb, refl, sym, ℕ}
 use Rattle.row_type.specs.{Words.changed_words, Words.last_saved, Words.number_words, Words.row_as_words, declared.Change.Change}
 use Rattle.ring.proofs.Laws.{ring_length}
 use Rattle.ring.specs.Ring.{ring}

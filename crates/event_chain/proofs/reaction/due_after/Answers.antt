@@ -1,5 +1,5 @@
 -- The tests are those of `due_next`, in its order.
-use Rattle.constraint.proofs.Library.{le-leb, le-ltb, lt-leb, lt-ltb, rules, refl}
+use Rattle.constraint.proofs.Library.{le-leb, le-ltb, lt-leb, lt-ltb, refl}
 use Rattle.event_chain.proofs.reaction.due_after.Goals as goal
 
 pub returns-then-new-before : goal.returns-then-new-before

@@ -1,6 +1,6 @@
 -- The loop goes from colour to colour: the due time so far is that of those passed.
 use Rattle.event_chain.specs.Reaction.{due_but}
-use Rattle.constraint.proofs.Library.{◌-◌, ◌≡◌, ◌≤◌, add-one, arith, refl}
+use Rattle.constraint.proofs.Library.{◌-◌, ◌≡◌, ◌≤◌}
 use Rattle.ring.specs.Ring.{ring}
 use Rattle.event_chain.proofs.reaction.due_but.Given as goal
 

@@ -1,5 +1,5 @@
 -- The test is that of `high_but`.
-use Rattle.constraint.proofs.Library.{eq-eqb, ne_eqb, rules}
+use Rattle.constraint.proofs.Library.{eq-eqb, ne_eqb}
 use Rattle.event_chain.proofs.reaction.high_of.Goals as goal
 
 pub returns-then-n-colour : goal.returns-then-n-colour

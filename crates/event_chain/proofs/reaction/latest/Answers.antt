@@ -1,5 +1,5 @@
 -- The test is that of `latest`.
-use Rattle.constraint.proofs.Library.{eq-eqb, ne_eqb, rules}
+use Rattle.constraint.proofs.Library.{eq-eqb, ne_eqb}
 use Rattle.event_chain.proofs.reaction.latest.Goals as goal
 
 pub returns-then-high-eq0 : goal.returns-then-high-eq0

@@ -1,5 +1,5 @@
 -- A pair that breaks the row, or one that is stored with the due time that it leaves.
-use Rattle.constraint.proofs.Library.{rules, refl}
+use Rattle.constraint.proofs.Library.{refl}
 use Rattle.row_type.specs.Words.{changed_words, number_words, row_as_words}
 use Rattle.event_chain.proofs.reaction.store.Goals as goal
 

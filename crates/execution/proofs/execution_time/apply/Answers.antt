@@ -1,5 +1,5 @@
 -- Two events never share a time; each phase has its own changes.
-use Rattle.constraint.proofs.Library.{eq-eqb, le-ltb, lt-ltb, ne_eqb, rules, refl}
+use Rattle.constraint.proofs.Library.{eq-eqb, le-ltb, lt-ltb, ne_eqb, refl}
 use Rattle.row_type.specs.Words.{changed_words, number_words, row_as_words}
 use Rattle.execution.specs.ExecutionTime.{decide_execution_time, while_preempted}
 use Rattle.execution.proofs.execution_time.apply.Goals as goal
@@ -10,7 +10,6 @@ returns-then-t-row c parameters times state past e = rw (
   c.break_at.ensures parameters times state past e,
   lt-ltb _ _ (rw e at
       c.if-t-row.true),
-
 ) refl
 
 pub returns-then-phase-eq-IDLE : goal.returns-then-phase-eq-IDLE

@@ -1,5 +1,5 @@
 -- The two tests are those of `while_idle`.
-use Rattle.constraint.proofs.Library.{eq-eqb, le-ltb, lt-ltb, ne_eqb, rules, refl}
+use Rattle.constraint.proofs.Library.{eq-eqb, le-ltb, lt-ltb, ne_eqb, refl}
 use Rattle.row_type.specs.Words.{changed_words, number_words, row_as_words}
 use Rattle.execution.specs.ExecutionTime.{while_idle}
 use Rattle.execution.proofs.execution_time.apply_idle.Goals as goal

@@ -1,5 +1,5 @@
 -- The due time is the one that `running_from` says.
-use Rattle.constraint.proofs.Library.{rules, refl}
+use Rattle.constraint.proofs.Library.{refl}
 use Rattle.row_type.specs.Words.{number_words, row_as_words}
 use Rattle.execution.proofs.execution_time.run.Goals as goal
 

@@ -1,12 +1,13 @@
 -- The first event may have its point anywhere within its jitter; a later one goes on where the three tests hold.
-use Rattle.constraint.proofs.Library.{Bool, List, ◌&&◌, ◌∙◌, ◌≡◌, ap, eq-eqb, eqb, false, le-leb, leb, lt-leb, ne_eqb, rules, refl, sym, true, ℕ}
+use Rattle.constraint.proofs.Library.{Bool, List, ◌&&◌, ◌∙◌, ◌≡◌, ap, eq-eqb, eqb, false, le-leb, leb, lt-leb, ne_eqb, refl, sym, true, ℕ}
 use Rattle.ring.specs.Ring.{ring}
 use Rattle.row_type.specs.{Parts.breaking, Parts.far_enough, declared.Parameters.Parameters, declared.Registers.Registers}
 use Rattle.row_type.specs.Words.{changed_words, number_words, row_as_words}
 use Rattle.hidden_points.specs.Sporadic.{decide_sporadic, highest, later_sporadic, lowest, stride}
 use Rattle.hidden_points.proofs.sporadic.apply.Goals as goal
 use Rattle.hidden_points.proofs.sporadic.apply.Goals.{then-stride-upper+then-far_enough+else-low-high, else-stride-upper}
-use Rattle.hidden_points.proofs.sporadic.apply.Goals.{else-stride-upper-via-then-stride-upper+else-far_enough, else-stride-upper-via-else-stride-upper}
+use Rattle.hidden_points.proofs.sporadic.apply.Goals.{else-stride-upper-via-then-stride-upper+else-far_enough}
+use Rattle.hidden_points.proofs.sporadic.apply.Goals.{else-stride-upper-via-else-stride-upper}
 
 -- the three tests of a later event
 abbrev goes : Parameters → Registers → ℕ → Bool
@@ -76,11 +77,11 @@ returns c parameters times state past e =
           let none : room ≡ false = rw (← low, ← high) (lt-leb _ _ w.if-low-high.false) in
           third_fails far wide room none
       | else-stride-upper v ↦ elim v.else-stride-upper.branch [
-          | else-stride-upper-via-then-stride-upper+else-far_enough w ↦
-              first_fails far (wide && room) (sym (rw e at w.far_enough.ensures) ∙ w.if-far_enough.false)
-          | else-stride-upper-via-else-stride-upper w ↦
-              second_fails far wide room (ap (λ (x : ℕ). leb x parameters.upper) (sym strides) ∙ lt-leb _ _ (rw e at w.if-stride-upper.false))
-        ]
+        | else-stride-upper-via-then-stride-upper+else-far_enough w ↦
+            first_fails far (wide && room) (sym (rw e at w.far_enough.ensures) ∙ w.if-far_enough.false)
+        | else-stride-upper-via-else-stride-upper w ↦
+            second_fails far wide room (ap (λ (x : ℕ). leb x parameters.upper) (sym strides) ∙ lt-leb _ _ (rw e at w.if-stride-upper.false))
+      ]
     ] in
     let kept = ring times state.head state.len in
     let decided = breaks parameters state.registers kept a.stream a.t (ne_eqb _ _ (rw e at c.if-last-eq0.false)) stops in

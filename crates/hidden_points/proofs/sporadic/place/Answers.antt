@@ -1,5 +1,5 @@
 -- The past is kept, and each number stored is the one that `point_at` says.
-use Rattle.constraint.proofs.Library.{List, [], ap, get_or, rules, refl, set, ℕ}
+use Rattle.constraint.proofs.Library.{List, [], ap, get_or, refl, set, ℕ}
 use Rattle.row_type.specs.Words.{changed_words, first_three_saved, number_words, undo_with, row_as_words}
 use Rattle.hidden_points.proofs.sporadic.place.Goals as goal
 

@@ -1,5 +1,5 @@
 -- Where the event's point can be is what the definition says, of the first event and of a later one.
-use Rattle.constraint.proofs.Library.{List, ◌&&◌, ◌-◌, ◌||◌, ◌∙◌, ◌≡◌, ap, eq-eqb, eqb, false, ltb, ne_eqb, rules, refl, sym, true, ℕ}
+use Rattle.constraint.proofs.Library.{List, ◌&&◌, ◌-◌, ◌||◌, ◌∙◌, ◌≡◌, ap, eq-eqb, eqb, false, ltb, ne_eqb, refl, sym, true, ℕ}
 use Rattle.constraint.specs.Steps.{at}
 use Rattle.row_type.specs.Parts.{breaking, far_enough, plus}
 use Rattle.row_type.specs.Words.{changed_words, counts_saved, number_words, row_as_words}
@@ -14,11 +14,13 @@ module _ (n period jitter minimum : ℕ) (offset : ℕ → ℕ) (registers : Reg
       → placed_in n period jitter minimum offset registers t registers.first low high ≡ decide_pattern n period jitter minimum offset registers t
   unfolding decide_pattern
   first none low_is high_is = rw (low_is, high_is, none) refl
+
   later : eqb registers.fourth 0 ≡ false → (far_enough minimum registers.fourth t && (ltb 0 registers.first || ltb 0 period)) ≡ true
       → low ≡ low_after n period jitter minimum offset registers t → high ≡ high_after n period jitter minimum offset registers t
       → placed_in n period jitter minimum offset registers t registers.first low high ≡ decide_pattern n period jitter minimum offset registers t
   unfolding decide_pattern later_pattern
   later some follows low_is high_is = rw (low_is, high_is, follows, some) refl
+
   stops : eqb registers.fourth 0 ≡ false → (far_enough minimum registers.fourth t && (ltb 0 registers.first || ltb 0 period)) ≡ false
       → breaking ≡ decide_pattern n period jitter minimum offset registers t
   unfolding decide_pattern later_pattern

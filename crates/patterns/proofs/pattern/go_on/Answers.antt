@@ -1,5 +1,5 @@
 -- The past is kept, and each number stored is the one that is asked for.
-use Rattle.constraint.proofs.Library.{List, [], ap, get_or, rules, refl, set, ℕ}
+use Rattle.constraint.proofs.Library.{List, [], ap, get_or, refl, set, ℕ}
 use Rattle.row_type.specs.Words.{changed_words, counts_saved, number_words, undo_with, row_as_words}
 use Rattle.patterns.proofs.pattern.go_on.Goals as goal
 

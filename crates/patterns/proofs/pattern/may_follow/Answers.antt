@@ -1,5 +1,4 @@
 -- Both tests hold, or one of them fails.
-use Rattle.constraint.proofs.Library.{rules}
 use Rattle.patterns.proofs.pattern.may_follow.Goals as goal
 
 pub returns-then-far_enough : goal.returns-then-far_enough

@@ -1,5 +1,5 @@
 -- The two cases are those of the definition.
-use Rattle.constraint.proofs.Library.{eq-eqb, ne_eqb, rules, refl}
+use Rattle.constraint.proofs.Library.{eq-eqb, ne_eqb, refl}
 use Rattle.patterns.proofs.pattern.number_after.Goals as goal
 
 pub returns-then-next-n : goal.returns-then-next-n

@@ -1,5 +1,5 @@
 -- The offsets, the number behind and the due time are those of the definition, and so are the three tests.
-use Rattle.constraint.proofs.Library.{List, ◌&&◌, ◌∙◌, ◌≡◌, ap, false, le-leb, leb, lt-leb, rules, refl, true, ℕ}
+use Rattle.constraint.proofs.Library.{List, ◌&&◌, ◌∙◌, ◌≡◌, ap, false, le-leb, leb, lt-leb, refl, true, ℕ}
 use Rattle.constraint.specs.Steps.{at}
 use Rattle.row_type.specs.Parts.{breaking, continues_with, plus}
 use Rattle.row_type.specs.Words.{changed_words, counts_saved, number_words, row_as_words}
@@ -19,6 +19,7 @@ module _ (n period jitter minimum : ℕ) (offset : ℕ → ℕ) (registers : Reg
       ≡ placed_in n period jitter minimum offset registers t registers.first low high
   unfolding placed_in
   goes a b c later later-is = rw (next_is, later-is, ← o_is, ← due_is, a, b, c) refl
+
   stops : (leb o t && (leb low high && leb t due)) ≡ false
       → breaking ≡ placed_in n period jitter minimum offset registers t registers.first low high
   unfolding placed_in

@@ -1,5 +1,5 @@
 -- The test, the due time, the place and the word behind it are those of the definition.
-use Rattle.constraint.proofs.Library.{List, ◌%◌, ◌+◌, ◌∙◌, ◌≡◌, ap, false, min, rules, refl, sym, true, ℕ}
+use Rattle.constraint.proofs.Library.{List, ◌%◌, ◌+◌, ◌∙◌, ◌≡◌, ap, false, min, refl, sym, true, ℕ}
 use Rattle.constraint.specs.Steps.{at}
 use Rattle.row_type.specs.Parts.{breaking, continues_with, registers_of, plus}
 use Rattle.row_type.specs.Words.{changed_words, counts_saved, number_words, row_as_words}
@@ -17,6 +17,7 @@ module _ (n : ℕ) (registers : Registers) (words : List ℕ) (t : ℕ) where
       ≡ decide_arbitrary n (lower_in words) (upper_in words) 16 registers words t
   unfolding decide_arbitrary
   goes late place word behind next due place_is word_is behind-is next_is due_is = rw (behind-is, place_is, word_is, next_is, due_is, late) refl
+
   stops : late_enough n (lower_in words) 16 registers.first words t ≡ false
       → breaking ≡ decide_arbitrary n (lower_in words) (upper_in words) 16 registers words t
   unfolding decide_arbitrary

@@ -1,7 +1,6 @@
 -- The loop goes from pair to pair: the due time so far is that of those passed.
-use Rattle.constraint.proofs.Library.{◌-◌, ◌≡◌, ◌≤◌, add-one, arith, refl}
-use Rattle.ring.specs.Ring.{ring}
-use Rattle.repeat_burst.specs.Arbitrary.{due_after, upper_in}
+use Rattle.constraint.proofs.Library.{◌≡◌, add-one, arith, refl}
+use Rattle.repeat_burst.specs.Arbitrary.{due_after}
 use Rattle.repeat_burst.proofs.arbitrary.due_after.Goals as goal
 
 pub loop-i-init : goal.loop-i-init
@@ -10,19 +9,18 @@ loop-i-init c = (omega arith, omega arith, refl)
 
 pub loop-i-preserved : goal.loop-i-preserved
 unfolding due_after
-loop-i-preserved c =
-    (
-      omega arith,
-      omega arith,
-      rw (
-        add-one c.loop-i.i,
-        c.smaller-due.ensures,
-        c.plus.ensures,
-        c.time_after-from.ensures,
-        c.word-upper.ensures,
-        ← c.loop-i.invariant.2,
-      ),
-    )
+loop-i-preserved c = (
+  omega arith,
+  omega arith,
+  rw (
+    add-one c.loop-i.i,
+    c.smaller-due.ensures,
+    c.plus.ensures,
+    c.time_after-from.ensures,
+    c.word-upper.ensures,
+    ← c.loop-i.invariant.2,
+  ),
+)
 
 pub returns : goal.returns
 returns c =

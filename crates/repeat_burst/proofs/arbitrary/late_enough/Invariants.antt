@@ -1,5 +1,5 @@
 -- The loop goes from pair to pair: the answer so far is that of those passed.
-use Rattle.constraint.proofs.Library.{◌-◌, ◌≡◌, ◌≤◌, add-one, arith, refl}
+use Rattle.constraint.proofs.Library.{◌-◌, ◌≡◌, ◌≤◌}
 use Rattle.ring.specs.Ring.{ring}
 use Rattle.repeat_burst.specs.Arbitrary.{late_enough, lower_in}
 use Rattle.repeat_burst.proofs.arbitrary.late_enough.Given as goal

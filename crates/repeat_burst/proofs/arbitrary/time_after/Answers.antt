@@ -1,5 +1,5 @@
 -- The four cases are those of the definition.
-use Rattle.constraint.proofs.Library.{eq-eqb, ne_eqb, rules, refl}
+use Rattle.constraint.proofs.Library.{eq-eqb, ne_eqb, refl}
 use Rattle.repeat_burst.proofs.arbitrary.time_after.Goals as goal
 
 pub returns-then-oldest-eq0 : goal.returns-then-oldest-eq0

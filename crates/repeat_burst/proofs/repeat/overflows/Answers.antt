@@ -1,5 +1,5 @@
 -- The tests are those of `overflows_repeat`, in its order.
-use Rattle.constraint.proofs.Library.{le-ltb, lt-ltb, rules}
+use Rattle.constraint.proofs.Library.{le-ltb, lt-ltb}
 use Rattle.repeat_burst.specs.Repeat.{overflows_repeat}
 use Rattle.repeat_burst.proofs.repeat.overflows.Goals as goal
 

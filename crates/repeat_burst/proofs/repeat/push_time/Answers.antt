@@ -1,5 +1,5 @@
 -- The test is that of `leaving`.
-use Rattle.constraint.proofs.Library.{le-ltb, lt-ltb, rules, refl}
+use Rattle.constraint.proofs.Library.{le-ltb, lt-ltb, refl}
 use Rattle.row_type.specs.Words.{number_words, row_as_words}
 use Rattle.ring.proofs.Laws.{ring_length}
 use Rattle.repeat_burst.proofs.repeat.push_time.Goals as goal

@@ -1,5 +1,5 @@
 -- The numbers are the constraint's, and its constants stand in the first places of the ring.
-use Rattle.constraint.proofs.Library.{List, ◌∙◌, ap, ap₂, rules, replicate, ℕ}
+use Rattle.constraint.proofs.Library.{List, ◌∙◌, ap, ap₂, replicate, ℕ}
 use Rattle.row_type.specs.declared.Parameters.{Parameters}
 use Rattle.row.specs.Machine.{fresh_state, row_from}
 use Rattle.row.specs.declared.Row.{Row}

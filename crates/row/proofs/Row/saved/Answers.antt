@@ -1,5 +1,5 @@
 -- A row that may move takes the step where it lies, its own state being its past before, and what is kept of it is read off there.
-use Rattle.row.proofs.Names.{RowUndo, StepInput, Row, ◌∙◌, ◌≡◌, ap, row_undo_of, moves_by, rules, refl, saved_by, sym, true}
+use Rattle.row.proofs.Names.{RowUndo, StepInput, Row, ◌∙◌, ◌≡◌, ap, row_undo_of, moves_by, refl, saved_by, sym, true}
 use Rattle.row.proofs.Names.{words_of_row, ℕ}
 use Rattle.row.proofs.{UndoComplete.keeps_own, EncodedRow.step_keeps_all}
 use Rattle.row.proofs.Row.saved.Goals as goal

@@ -1,5 +1,5 @@
 -- A row that is crowded stays as it was, and any other takes the step where it lies.
-use Rattle.row.proofs.Names.{◌∙◌, ap, false, rules, stays, sym, true}
+use Rattle.row.proofs.Names.{◌∙◌, ap, false, stays, sym, true}
 use Rattle.row.proofs.{Overflow.step_by}
 use Rattle.row.proofs.Row.step.Goals as goal
 

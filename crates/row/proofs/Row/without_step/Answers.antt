@@ -1,5 +1,4 @@
 -- The words that the row is are put back where they lie.
-use Rattle.row.proofs.Names.{rules}
 use Rattle.row.proofs.Row.without_step.Goals as goal
 
 pub returns : goal.returns

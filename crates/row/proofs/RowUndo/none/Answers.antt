@@ -1,5 +1,4 @@
 -- Each part is what `no_row_undo` says.
-use Rattle.row.proofs.Names.{rules}
 use Rattle.row.proofs.RowUndo.none.Goals as goal
 
 pub returns : goal.returns

@@ -1,5 +1,5 @@
 -- The test is that of `kept_without`.
-use Rattle.row.proofs.Names.{eq-eqb, free, kept_without, ne_eqb}
+use Rattle.row.proofs.Names.{eq-eqb, kept_without, ne_eqb}
 use Rattle.row.proofs.RowUndo.without_step.Goals as goal
 
 pub returns-then-self-number : goal.returns-then-self-number

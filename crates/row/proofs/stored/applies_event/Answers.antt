@@ -1,5 +1,5 @@
 -- The tests are those of the definition, in their order, of the words that the row is.
-use Rattle.row.proofs.Names.{RowUndo, Bool, List, StepInput, Row, [], ◌∙◌, ◌≡◌, ap, applies_by, false, get_or, le-ltb, lt-ltb, rules, number_words}
+use Rattle.row.proofs.Names.{RowUndo, Bool, List, StepInput, Row, [], ◌∙◌, ◌≡◌, ap, applies_by, false, get_or, le-ltb, lt-ltb, number_words}
 use Rattle.row.proofs.Names.{row_as_words, parameters_at, state_at, words_of_row, ℕ}
 use Rattle.row.proofs.stored.applies_event.Goals as goal
 

@@ -1,7 +1,7 @@
 -- The word for the row's type picks the machine that `machine_of` does, and the type's function makes its change; only of a broken row it is 31.
 use Rattle.row.proofs.Names.{Applies, Changes, List, Machine, [], ◌%◌, ◌∙◌, ◌≡◌, ◌⊎◌, ap, arith, changed_words, eq-eqb, get_or, machine_of}
-use Rattle.row.proofs.Names.{Parameters, State, ne_eqb, rules, no_machine, number_words, refl, ring, row_as_words, sym, ℕ, ⊎_elim}
-use Rattle.row.proofs.{Machines.live_none, Machines.live_type, Machines.none_of}
+use Rattle.row.proofs.Names.{Parameters, State, ne_eqb, no_machine, number_words, refl, ring, row_as_words, sym, ℕ, ⊎_elim}
+use Rattle.row.proofs.{Machines.live_none, Machines.live_type}
 use Rattle.row_type.specs.Words.{UndoRecord, live_of}
 use Rattle.delay_order.specs.Delay.{machine_delay}
 use Rattle.delay_order.specs.StrongDelay.{machine_strong_delay}

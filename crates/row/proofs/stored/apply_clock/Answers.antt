@@ -1,6 +1,6 @@
 -- A broken row stays; an overdue one breaks; the close keeps the past of one that it does not concern, and breaks it where it is not kept.
 use Rattle.row.proofs.Names.{List, [], ◌∙◌, ap, broken_row, concerns, ended_state, ends_by}
-use Rattle.row.proofs.Names.{eq-eqb, eqb, get_or, le-ltb, lt-ltb, ltb, ne_eqb, rules, not-false}
+use Rattle.row.proofs.Names.{eq-eqb, eqb, get_or, le-ltb, lt-ltb, ltb, ne_eqb, not-false}
 use Rattle.row.proofs.Names.{not-true, number_words, undo_record_of, row_as_words, parameters_at, sym, words_of_row, ℕ}
 use Rattle.row.proofs.Names.{Row, RowUndo, ◌≡◌, ended_row, ended_saves, refl, saved_at}
 use Rattle.constraint.proofs.Library.{ap₂}

@@ -1,5 +1,5 @@
 -- The words are those of a row of the constraint's numbers with an empty ring, and then its constants are put into the ring.
-use Rattle.constraint.proofs.Library.{List, [], ◌∙◌, ◌≡◌, ap, ap₂, get_or, rules, refl, replicate, set, ℕ}
+use Rattle.constraint.proofs.Library.{List, [], ◌∙◌, ◌≡◌, ap, ap₂, get_or, refl, replicate, set, ℕ}
 use Rattle.row_type.specs.Parameters.{parameters_of}
 use Rattle.row_type.specs.declared.Parameters.{Parameters}
 use Rattle.table_row.specs.Records.{row_read}

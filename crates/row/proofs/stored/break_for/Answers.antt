@@ -1,5 +1,5 @@
 -- The row breaks, and the cause and the moment are stored over the numbers of the broken row.
-use Rattle.row.proofs.Names.{broken_row, rules, number_words, refl, row_as_words, undo_record_of, words_of_row}
+use Rattle.row.proofs.Names.{broken_row, number_words, refl, row_as_words, undo_record_of, words_of_row}
 use Rattle.row.proofs.stored.break_for.Goals as goal
 
 pub returns : goal.returns

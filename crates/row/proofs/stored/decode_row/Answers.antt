@@ -1,5 +1,5 @@
 -- The rule and the state are read off the numbers, and the times are the first array.
-use Rattle.row.proofs.Names.{rules, number_words, refl, row_as_words, words_of_row}
+use Rattle.row.proofs.Names.{number_words, refl, row_as_words, words_of_row}
 use Rattle.row.proofs.stored.decode_row.Goals as goal
 
 pub returns : goal.returns

@@ -1,5 +1,5 @@
 -- The times are the first array; the numbers are put into the second, part after part.
-use Rattle.row.proofs.Names.{List, [], ◌∷◌, ap, rules, no_state, nothing, refl, row_as_words, words_of_row, ℕ}
+use Rattle.row.proofs.Names.{List, [], ◌∷◌, ap, no_state, nothing, refl, row_as_words, words_of_row, ℕ}
 use Rattle.row.proofs.stored.encode_row.Goals as goal
 
 pub returns : goal.returns

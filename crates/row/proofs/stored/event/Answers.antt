@@ -1,5 +1,5 @@
 -- The dispatch by type makes the row's words those after the event; a broken row stays.
-use Rattle.row.proofs.Names.{◌∙◌, applied_keeps, change_by, event_at, rules, undo_record_of, words_of_row}
+use Rattle.row.proofs.Names.{◌∙◌, applied_keeps, change_by, event_at, undo_record_of, words_of_row}
 use Rattle.row.proofs.EncodedRow.{event_words}
 use Rattle.row.proofs.stored.event.Goals as goal
 

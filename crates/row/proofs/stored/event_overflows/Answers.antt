@@ -1,5 +1,5 @@
 -- The tests are those of `event_overflows`, in its order, of the words that the row is.
-use Rattle.row.proofs.Names.{RowUndo, Bool, List, Row, [], ◌∙◌, ◌≡◌, ap, false, event_overflows, get_or, le-ltb, lt-ltb, rules, number_words}
+use Rattle.row.proofs.Names.{RowUndo, Bool, List, Row, [], ◌∙◌, ◌≡◌, ap, false, event_overflows, get_or, le-ltb, lt-ltb, number_words}
 use Rattle.row.proofs.Names.{row_as_words}
 use Rattle.row.proofs.Names.{parameters_at, state_at, words_of_row, ℕ}
 use Rattle.row.proofs.stored.event_overflows.Goals as goal

@@ -1,5 +1,5 @@
 -- The code picks the type by its number, as `machine_of` does.
-use Rattle.row.proofs.Names.{arith, Bool, List, Machine, ◌∙◌, ◌≡◌, ap, asked_of, overflows, free, get_or, machine_of, rules, no_machine, refl, sym, ℕ}
+use Rattle.row.proofs.Names.{arith, Bool, List, Machine, ◌∙◌, ◌≡◌, ap, asked_of, overflows, get_or, machine_of, no_machine, refl, sym, ℕ}
 use Rattle.row.proofs.Names.{⊎_elim}
 use Rattle.row.proofs.{Machines.none_of}
 use Rattle.delay_order.specs.Delay.{machine_delay}

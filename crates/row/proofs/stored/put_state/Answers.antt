@@ -1,5 +1,5 @@
 -- Each number of the state is stored in its place.
-use Rattle.row.proofs.Names.{rules, number_words, refl}
+use Rattle.row.proofs.Names.{number_words, refl}
 use Rattle.row.proofs.stored.put_state.Goals as goal
 
 pub returns : goal.returns

@@ -1,5 +1,5 @@
 -- What is read off the past is put in the place of the state, and nothing in that of the past.
-use Rattle.row.proofs.Names.{rules, number_words}
+use Rattle.row.proofs.Names.{number_words}
 use Rattle.row.proofs.stored.restore.Goals as goal
 
 pub returns : goal.returns

@@ -1,6 +1,6 @@
 -- An overdue row and one that is not concerned are ended, and any other applies the event.
 use Rattle.row.proofs.Names.{Bool, List, Row, [], ◌∙◌, ◌≡◌, ap, concerns, cond, ended_saves, event_at, event_keeps, false, get_or, le-ltb, lt-ltb}
-use Rattle.row.proofs.Names.{ltb, rules, number_words, refl, row_as_words, parameters_at, step_keeps, sym, true, words_of_row, ℕ}
+use Rattle.row.proofs.Names.{ltb, number_words, refl, row_as_words, parameters_at, step_keeps, sym, true, words_of_row, ℕ}
 use Rattle.row.proofs.{EncodedRow.stepped_applied, EncodedRow.stepped_ended}
 use Rattle.row.proofs.stored.step.Goals as goal
 

@@ -1,5 +1,5 @@
 -- The rule is read off the words that the row is; an event of one of its kinds is asked for.
-use Rattle.row.proofs.Names.{◌∙◌, ◌≡◌, concerns, crowded_by, false, rules, number_words, refl, row_as_words, sym, true, words_of_row}
+use Rattle.row.proofs.Names.{◌∙◌, ◌≡◌, concerns, crowded_by, false, number_words, refl, row_as_words, sym, true, words_of_row}
 use Rattle.row.proofs.stored.step_overflows.Goals as goal
 
 pub returns-then-concerns : goal.returns-then-concerns

@@ -1,5 +1,5 @@
 -- Each part is read off its place.
-use Rattle.row.proofs.Names.{[], ap, get_or, rules, number_words, undo_record_of, refl, row_as_words, words_of_row}
+use Rattle.row.proofs.Names.{[], ap, get_or, number_words, undo_record_of, refl, row_as_words, words_of_row}
 use Rattle.row.proofs.stored.undo_at.Goals as goal
 
 pub returns : goal.returns

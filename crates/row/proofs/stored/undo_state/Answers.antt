@@ -1,5 +1,5 @@
 -- The state is read off the places of the past.
-use Rattle.row.proofs.Names.{rules, number_words, refl}
+use Rattle.row.proofs.Names.{number_words, refl}
 use Rattle.row.proofs.stored.undo_state.Goals as goal
 
 pub returns : goal.returns

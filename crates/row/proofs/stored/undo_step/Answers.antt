@@ -1,5 +1,5 @@
 -- Where the past is of that step, its two words and its state are put back; else nothing is done.
-use Rattle.row.proofs.Names.{List, [], ◌∙◌, ap, back_row, eq-eqb, get_or, kept_without, ne_eqb, rules, number_words, undo_record_of, refl}
+use Rattle.row.proofs.Names.{List, [], ◌∙◌, ap, back_row, eq-eqb, get_or, kept_without, ne_eqb, number_words, undo_record_of, refl}
 use Rattle.row.proofs.Names.{row_without}
 use Rattle.row.proofs.Names.{row_as_words, set, sym, words_of_row, ℕ}
 use Rattle.row.proofs.stored.undo_step.Goals as goal

@@ -1,5 +1,5 @@
 -- More than 64 times are crowded by each event that goes to the row; at most 64 by what the type says.
-use Rattle.row.proofs.Names.{RowUndo, Bool, List, Row, [], ◌<◌, ◌∙◌, ◌≡◌, ◌≤◌, ap, cond, false, get_or, lt-ltb, rules, number_words, refl}
+use Rattle.row.proofs.Names.{RowUndo, Bool, List, Row, [], ◌<◌, ◌∙◌, ◌≡◌, ◌≤◌, ap, cond, false, get_or, lt-ltb, number_words, refl}
 use Rattle.row.proofs.Names.{row_as_words, subst, sym, true, words_of_row, ℕ}
 use Rattle.row.proofs.{Overflow.crowded_known, Overflow.step_crowds}
 use Rattle.row.proofs.stored.would_overflow.Goals as goal

@@ -1,5 +1,5 @@
 -- The tests are those of `each_above`, in its order.
-use Rattle.constraint.proofs.Library.{eq-eqb, le-ltb, lt-ltb, ne_eqb, rules, refl}
+use Rattle.constraint.proofs.Library.{eq-eqb, le-ltb, lt-ltb, ne_eqb, refl}
 use Rattle.synchronizations.proofs.kinds.each_above.Goals as goal
 
 pub returns-then-w : goal.returns-then-w

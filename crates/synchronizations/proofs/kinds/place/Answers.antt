@@ -1,5 +1,5 @@
 -- The tests are those of `by_kind`, in its order.
-use Rattle.constraint.proofs.Library.{eq-eqb, ne_eqb, rules}
+use Rattle.constraint.proofs.Library.{eq-eqb, ne_eqb}
 use Rattle.synchronizations.specs.Kinds.{register_place}
 use Rattle.synchronizations.proofs.kinds.place.Goals as goal
 

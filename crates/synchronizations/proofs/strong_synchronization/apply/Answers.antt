@@ -1,5 +1,5 @@
 -- The length is the number of groups begun, and the tests are those of the machine, asked of the counts with the event.
-use Rattle.constraint.proofs.Library.{[], ◌∙◌, ◌∷◌, ap, arith, get_or, le-ltb, lt-ltb, rules, refl, set}
+use Rattle.constraint.proofs.Library.{[], ◌∙◌, ◌∷◌, ap, arith, get_or, le-ltb, lt-ltb, refl, set}
 use Rattle.synchronizations.proofs.Laws.Places.{place_small, register_read, register_stored}
 use Rattle.synchronizations.specs.StrongSynchronization.{decide_strong_synchronization}
 use Rattle.row_type.specs.Words.{changed_words, number_words, row_as_words}

@@ -1,5 +1,5 @@
 -- Each count is one less, and is stored at its place.
-use Rattle.constraint.proofs.Library.{rules, refl}
+use Rattle.constraint.proofs.Library.{refl}
 use Rattle.row_type.specs.Words.{number_words}
 use Rattle.synchronizations.proofs.strong_synchronization.forget.Goals as goal
 

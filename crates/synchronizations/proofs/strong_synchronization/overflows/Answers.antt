@@ -1,5 +1,5 @@
 -- The tests are those of `overflows_strong_synchronization`, in its order.
-use Rattle.constraint.proofs.Library.{arith, le-ltb, lt-ltb, rules, }
+use Rattle.constraint.proofs.Library.{arith, le-ltb, lt-ltb}
 use Rattle.synchronizations.proofs.Laws.Places.{place_small, register_at}
 use Rattle.row_type.specs.Words.{parameters_at}
 use Rattle.synchronizations.specs.StrongSynchronization.{overflows_strong_synchronization}

@@ -1,5 +1,5 @@
 -- The past is saved and the last time stored first; the tests are those of the machine.
-use Rattle.constraint.proofs.Library.{List, [], ap, arith, eq-eqb, get_or, ne_eqb, rules, refl, set, ℕ}
+use Rattle.constraint.proofs.Library.{List, [], ap, arith, eq-eqb, get_or, ne_eqb, refl, set, ℕ}
 use Rattle.synchronizations.proofs.Laws.Places.{place_small, register_stored}
 use Rattle.synchronizations.specs.Synchronization.{decide_synchronization}
 use Rattle.row_type.specs.Words.{changed_words, number_words, row_as_words}

@@ -28,7 +28,7 @@
  *     one is withdrawn. After a withdrawal every row reads as if the withdrawn
  *     step had never been taken.
  * A machine has checked these statements. They are one theorem,
- * session-is-exact. It speaks of any memory and any list of the calls that
+ * session_is_exact. It speaks of any memory and any list of the calls that
  * change it: delkuthi_fresh, events, ticks, closes, withdrawals,
  * delkuthi_take and delkuthi_report_on, with any arguments, in both forms. It
  * says what each of these calls answers, and what each of the eighteen calls

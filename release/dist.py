@@ -28,6 +28,8 @@ from pathlib import Path
 
 ROOT = Path(__file__).resolve().parent.parent
 KIT = re.compile(rb"rattle logic=[0-9a-f]{64}")
+# The definitions that a source file uses, with the crate or the library of Rattle that they are of.
+USED = re.compile(r"^ghost use Rattle\.(\w+)[^{;]*\{([^}]*)\}", re.M)
 NEEDED_OF_C = {"memcpy", "memmove", "memset", "memcmp"}
 
 
@@ -105,13 +107,16 @@ def declared(function):
     crate, *within = before or ["*", "*"]
     of_type = "".join(rf"^impl {word}\b[\s\S]*?" for word in within if word[0].isupper())
     module = next((word for word in within if not word[0].isupper()), "lib")
-    for file in sorted(ROOT.glob(f"crates/{crate}/src/{module}.rt")):
+    # What C calls is declared in the thin crates for C; the function that each of them calls has the same name.
+    files = ROOT.glob(f"crates/{crate}/src/{module}.rt")
+    for file in sorted(files, key=lambda file: (not file.parts[-3].endswith("_c"), file)):
         text = file.read_text(encoding="utf-8")
         found = re.search(rf"{of_type}^ *(?:pub(?:\(\w+\))? )?(?:extern \"C\" )?(?P<here>fn {name}\b)", text, re.M)
         if found:
             start = found.start("here")
             clause = re.search(r"ensures \{(.*?)\n *\{", text[start:], re.S)
-            brought = set(re.findall(r"\w+", " ".join(re.findall(r"^ghost use Rattle·[^{]*\{([^}]*)\}", text, re.M))))
+            own = [names for crate, names in USED.findall(text) if (ROOT / "crates" / crate).is_dir()]
+            brought = set(re.findall(r"\w+", " ".join(own)))
             cited = [word for word in re.findall(r"\w+", clause[1]) if word in brought] if clause else []
             line = text[:start].count("\n") + 1
             return f"{file.relative_to(ROOT)}:{line}", ", ".join(dict.fromkeys(cited)) or "its result"

@@ -37,7 +37,9 @@ class Source:
         proof = file.suffix == ".antt"
         found = (PROOF if proof else CODE).findall(text)
         self.names = {name for _, name in found}
-        self.public = {name for before, name in found if "pub" in before} if file.name not in ("Proof.antt", "Answers.antt", "Invariants.antt") or file.parent.name == "proofs" else set()
+        # The answers and invariants of a function are public for the prover alone.
+        of_function = file.name in ("Proof.antt", "Answers.antt", "Invariants.antt") and file.parent.name != "proofs"
+        self.public = set() if of_function else {name for before, name in found if "pub" in before}
         crate, folder = self.path.parts[1:3] if self.path.parts[0] == "crates" else ("", "")
         self.folder = folder
         self.qualifiers = {crate, file.stem, *IMPLEMENTED.findall(text)} | (self.names if proof else set())

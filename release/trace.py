@@ -79,8 +79,12 @@ def owner_of(lines, line):
 
 def declared_in(path):
     """The declarations of a file that have tags."""
-    lines, form, tagged = read(path).split("\n"), PROOF if path.suffix == ".antt" else CODE, []
+    lines, form, tagged, of_file = read(path).split("\n"), PROOF if path.suffix == ".antt" else CODE, [], False
     for line, text in enumerate(lines):
+        # What the file says to the prover, with the blank line below it, may stand between the first declaration and its comment.
+        of_file = text.startswith("#![") or of_file and not text.strip()
+        if of_file:
+            continue
         tags, head = TAGS.match(text), form.match(text)
         if tags:
             tagged += numbers(tags[1])

@@ -3,7 +3,6 @@ pub use Prim.Native.Nat.{◌%◌, ◌*◌, ◌+◌, ◌-◌, ◌/◌, ◌<◌, �
 pub use borrow.Author.Rules.{rules}
 pub use borrow.Author.Tests.{eq-eqb, eqb-false, eqb-true, le-leb, le-ltb, leb-false, leb-true, lt-leb, lt-ltb, ltb-false, ltb-true, ne_eqb, not-false}
 pub use borrow.Author.Tests.{not-true}
-pub use denote.Ref.{mut_Tells}
 pub use lib.Dec.{eqb, leb, ltb}
 pub use lib.ListN.{get_or-append as List·getD-append, get_or-eq_default as List·getD-eq-default, get_or-map as List·getD-map, drop, drop_of_length-le}
 pub use lib.ListN.{get_or, get_or-replicate, get_elem?, length}

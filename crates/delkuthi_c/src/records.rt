@@ -1,5 +1,4 @@
 // The exported functions of `delkuthi::records`, for C.
-ghost use Rattle.in_place.specs.Contract.{Takes};
 ghost use Rattle.delkuthi.specs.TakingRecords.{NumbersTaken};
 
 use in_place::{Words};

@@ -1,5 +1,4 @@
 // The exported functions of `delkuthi::writing`, for C.
-ghost use Rattle.std.specs.Prelude.{◌⊎◌};
 ghost use Rattle.constraint.specs.declared.Call.{Call};
 ghost use Rattle.delkuthi.specs.Writing.{PutsRecord};
 

@@ -82,6 +82,8 @@ fn a_promise_without_a_row_or_a_test_is_named() {
     let said = |definitions: &str, by_hand: &str, test: &str| traced(definitions, by_hand, test).1;
     let (things, both) = ("-- §2.2: things\npub Thing : Type 0\n", "//! Clauses: §2.1 to §2.2.\n");
     assert_eq!(said(things, "", both), "");
+    // what a file says to the prover may stand below the comment of its first declaration
+    assert_eq!(said("-- §2.2: things\n#![tactic(auto)]\n\npub Thing : Type 0\n", "", both), "");
     assert_eq!(said("", "| §2.2 | tested |  |  |\n", both), "");
     assert!(said("", "", both).starts_with("§2.2 has no row"));
     assert!(said(things, "", "//! Clauses: §2.1.\n").starts_with("§2.2 has no test"));

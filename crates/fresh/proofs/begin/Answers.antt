@@ -1,5 +1,5 @@
 -- The words are cleared, the numbers are stored that are not 0, and then the rows.
-use Rattle.fresh.proofs.Names.{RowsPut, Words, [], ◌∙◌, ◌≡◌, after, ap, arith, length, rules, no_words, replicate, subst, ℕ}
+use Rattle.fresh.proofs.Names.{RowsPut, Words, [], ◌∙◌, ◌≡◌, after, ap, arith, length, no_words, replicate, subst, ℕ}
 use Rattle.fresh.proofs.{Freshness.begun_words, Freshness.numbered}
 use Rattle.fresh.proofs.begin.Goals as goal
 

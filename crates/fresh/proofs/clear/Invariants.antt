@@ -1,6 +1,6 @@
 -- Block after block: before the turn of number i the first i are cleared.
-use Rattle.fresh.proofs.Names.{Words, [], ◌++◌, ◌-◌, ◌∙◌, ◌∷◌, ◌≡◌, ◌≤◌, add-one, ap, arith, length, length-set, no_words, refl, replicate}
-use Rattle.fresh.proofs.Names.{replicate-append-replicate, set, sym, take, take_all, take-suc-set, ℕ}
+use Rattle.fresh.proofs.Names.{◌-◌, ◌≡◌, ◌≤◌, length, no_words, replicate}
+use Rattle.fresh.proofs.Names.{take}
 use Rattle.fresh.proofs.clear.Given as goal
 
 abbrev pub invariant-loop-i : goal.invariant-loop-i

@@ -1,5 +1,5 @@
 -- Kind after kind: before the turn of a kind the sets of those before it are stored.
-use Rattle.fresh.proofs.Names.{Lent, List, ListsLie, Shaped, [], ◌-◌, ◌∙◌, ◌≡◌, ◌≤◌, add-one, ap, arith, padded, sets_to, subst, sym, with_lists}
+use Rattle.fresh.proofs.Names.{List, ListsLie, ◌∙◌, ◌≡◌, add-one, ap, arith, padded, sets_to, subst, sym, with_lists}
 use Rattle.fresh.proofs.Names.{words_of_lent, ℕ}
 use Rattle.fresh.proofs.{Freshness.sets_next, Freshness.sets_whole, Lists.shaped_lists}
 use Rattle.fresh.proofs.enlist.Goals as goal
@@ -18,7 +18,8 @@ loop-kind-preserved c =
           let h' = with_lists h (padded 64 (sets_to m n kind)) in
           let wide = shaped_lists h s (sets_to m n kind) in
           c.put_set.ensures h' so_far wide
-          ∙ ap (λ (lists : List ℕ). words_of_lent (with_lists h lists)) (sets_next m n kind c.set_of-rows.result (c.set_of-rows.ensures h' so_far wide)
+          ∙ ap (λ (lists : List ℕ). words_of_lent (with_lists h lists)) (sets_next m n kind c.set_of-rows.result
+              (c.set_of-rows.ensures h' so_far wide)
           ∙ ap (λ (k : ℕ). padded 64 (sets_to m n k)) (sym (add-one kind))),
     )
 

@@ -1,7 +1,5 @@
 -- Kind after kind: before the turn of a kind the sets of those before it are stored.
-use Rattle.fresh.proofs.Names.{Lent, List, ListsLie, Shaped, [], ◌-◌, ◌∙◌, ◌≡◌, ◌≤◌, add-one, ap, arith, padded, sets_to, subst, sym, with_lists}
-use Rattle.fresh.proofs.Names.{words_of_lent, ℕ}
-use Rattle.fresh.proofs.{Freshness.sets_next, Freshness.sets_whole, Lists.shaped_lists}
+use Rattle.fresh.proofs.Names.{Lent, ListsLie, Shaped, [], ◌-◌, ◌≤◌, sets_to}
 use Rattle.fresh.proofs.enlist.Given as goal
 
 abbrev pub invariant-loop-kind : goal.invariant-loop-kind

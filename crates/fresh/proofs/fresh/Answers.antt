@@ -1,5 +1,5 @@
 -- The bytes are judged before anything is stored; where they are accepted, every word is stored, those of the lists last.
-use Rattle.fresh.proofs.Names.{BeginsUpTo, Constraint, List, Words, [], ◌∙◌, ◌≡◌, after, ap, arith, begun, fresh_lent, rules}
+use Rattle.fresh.proofs.Names.{BeginsUpTo, Constraint, List, Words, [], ◌∙◌, ◌≡◌, after, ap, arith, begun, fresh_lent}
 use Rattle.fresh.proofs.Names.{refused, scan_start, sets_to, subst, subst₂, sym, with_lists, words_of_lent, ℕ}
 use Rattle.fresh.proofs.{Freshness.fresh_indexes, Freshness.fresh_shaped}
 use Rattle.fresh.proofs.fresh.Goals as goal

@@ -1,5 +1,5 @@
 -- The set is stored at the kind's place.
-use Rattle.fresh.proofs.Names.{[], ◌∙◌, ap, get_or, rules, set}
+use Rattle.fresh.proofs.Names.{[], ◌∙◌, ap, get_or, set}
 use Rattle.fresh.proofs.{Lists.set_written}
 use Rattle.fresh.proofs.put_set.Goals as goal
 

@@ -1,6 +1,6 @@
 -- Row after row, the last first: before the turn of the row below number i the set of those from i on is there, one digit for each.
-use Rattle.fresh.proofs.Names.{Lent, Shaped, ◌*◌, ◌+◌, ◌-◌, ◌<◌, ◌^◌, ◌∙◌, ◌≡◌, ◌≤◌, ap, ap₂, arith, is_of, pow-le-pow_right, pow-suc}
-use Rattle.fresh.proofs.Names.{set_from, subst, suc, words_of_lent, ℕ}
+use Rattle.fresh.proofs.Names.{◌*◌, ◌+◌, ◌-◌, ◌<◌, ◌^◌, ◌∙◌, ◌≡◌, ◌≤◌, ap, ap₂, arith, is_of, pow-le-pow_right, pow-suc}
+use Rattle.fresh.proofs.Names.{set_from, subst, suc, ℕ}
 use Rattle.fresh.proofs.set_of.Goals as goal
 
 pub loop-i-init : goal.loop-i-init

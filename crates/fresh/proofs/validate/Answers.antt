@@ -1,5 +1,5 @@
 -- The answer is numbered; a refusal's place is small enough for the number to hold it.
-use Rattle.fresh.proofs.Names.{◌<◌, ◌≤◌, arith, refl}
+use Rattle.fresh.proofs.Names.{arith, refl}
 use Rattle.fresh.proofs.{Refusals.refused_small}
 use Rattle.fresh.proofs.validate.Goals as goal
 

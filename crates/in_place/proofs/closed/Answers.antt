@@ -1,5 +1,5 @@
 -- The word for "open" stands at its place.
-use Rattle.in_place.proofs.Names.{◌-◌, ◌∙◌, ap, rules, ℕ}
+use Rattle.in_place.proofs.Names.{◌-◌, ◌∙◌, ap, ℕ}
 use Rattle.in_place.proofs.{Parts.number_at}
 use Rattle.in_place.proofs.closed.Goals as goal
 

@@ -1,5 +1,5 @@
 -- The number of rows stands at its place, and is cut at 32.
-use Rattle.in_place.proofs.Names.{List, [], ◌∙◌, ap, arith, get_or, rules, ℕ}
+use Rattle.in_place.proofs.Names.{List, [], ◌∙◌, ap, arith, get_or, ℕ}
 use Rattle.in_place.proofs.{Parts.numbers_read}
 use Rattle.in_place.proofs.held.Goals as goal
 

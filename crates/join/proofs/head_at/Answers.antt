@@ -1,5 +1,4 @@
 -- A tick is read the short way, any other record as a call.
-use Rattle.join.proofs.Names.{free, }
 use Rattle.join.proofs.Heads.{tick_head}
 use Rattle.join.proofs.head_at.Goals as goal
 

@@ -1,5 +1,4 @@
 -- Each variant has its own head.
-use Rattle.join.proofs.Names.{rules}
 use Rattle.join.proofs.head_of.Goals as goal
 
 pub returns-in-Event : goal.returns-in-Event

@@ -1,5 +1,5 @@
 -- Each answer is that of the first "no"; where there is none the joined recording is measured and then written.
-use Rattle.join.proofs.Names.{arith, free, rules, }
+use Rattle.join.proofs.Names.{arith}
 use Rattle.join.proofs.Answers.{answer_common, answer_first, answer_second, answer_short, answer_written}
 use Rattle.join.proofs.join.Goals as goal
 

@@ -1,5 +1,5 @@
 -- Past the last kind there is no mark.
-use Rattle.join.proofs.Names.{arith, le-ltb, lt-ltb, rules}
+use Rattle.join.proofs.Names.{arith, le-ltb, lt-ltb}
 use Rattle.join.proofs.mark.Goals as goal
 
 pub returns-then-place-ge64 : goal.returns-then-place-ge64

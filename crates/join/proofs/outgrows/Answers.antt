@@ -1,5 +1,5 @@
 -- The joined recording is no longer than both together; where the limit is smaller the walk measures it.
-use Rattle.join.proofs.Names.{arith, free, rules, }
+use Rattle.join.proofs.Names.{arith}
 use Rattle.join.proofs.Bounds.{joined_size, measured_decides}
 use Rattle.join.proofs.outgrows.Goals as goal
 

@@ -1,6 +1,6 @@
 -- The loop reads record after record: the kinds of those read are marked, and the first one to avoid is kept.
-use Rattle.join.proofs.Names.{[], ◌-◌, ap, arith, clock_with, failed, length, not, passed, ticks_on, version_refused}
-use Rattle.join.proofs.Passing.{PassedTo, pass_end, pass_more, pass_refused, pass_start, pass_ticks}
+use Rattle.join.proofs.Names.{[], ap, arith, clock_with, failed, not, passed, ticks_on, version_refused}
+use Rattle.join.proofs.Passing.{pass_end, pass_more, pass_refused, pass_start, pass_ticks}
 use Rattle.join.proofs.pass.Goals as goal
 
 pub returns-then-not-version_known : goal.returns-then-not-version_known

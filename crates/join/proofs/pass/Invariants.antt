@@ -1,6 +1,6 @@
 -- The loop reads record after record: the kinds of those read are marked, and the first one to avoid is kept.
-use Rattle.join.proofs.Names.{[], ◌-◌, arith, clock_with, failed, free, length, passed, ticks_on, version_refused}
-use Rattle.join.proofs.Passing.{PassedTo, pass_end, pass_more, pass_refused, pass_start, pass_ticks}
+use Rattle.join.proofs.Names.{◌-◌, clock_with, length}
+use Rattle.join.proofs.Passing.{PassedTo}
 use Rattle.join.proofs.pass.Given as goal
 
 abbrev pub invariant-loop-place : goal.invariant-loop-place

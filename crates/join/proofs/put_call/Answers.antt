@@ -1,5 +1,5 @@
 -- Length field, kind and colour are stored first, and the time behind them.
-use Rattle.join.proofs.Names.{[], ◌∷◌, arith, bytes_of, free, rules, refl}
+use Rattle.join.proofs.Names.{[], ◌∷◌, arith, bytes_of, refl}
 use Rattle.join.proofs.{Heads.stored_behind}
 use Rattle.join.proofs.put_call.Goals as goal
 

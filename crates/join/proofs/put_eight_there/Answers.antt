@@ -1,5 +1,5 @@
 -- The bytes are stored one by one, each cut out by a shift.
-use Rattle.join.proofs.Names.{arith, rules, }
+use Rattle.join.proofs.Names.{arith}
 use Rattle.join.proofs.Heads.{eight_bytes, long_eight, long_five, long_four, long_one, long_seven, long_six, long_three, long_two}
 use Rattle.join.proofs.put_eight_there.Goals as goal
 

@@ -1,5 +1,5 @@
 -- The length field, the kind of an event and its colour are stored one by one.
-use Rattle.join.proofs.Names.{◌-◌, arith, rules, }
+use Rattle.join.proofs.Names.{◌-◌, arith}
 use Rattle.join.proofs.Heads.{front_coloured, front_event, front_tick, long_one, long_three, long_two}
 use Rattle.join.proofs.put_front.Goals as goal
 

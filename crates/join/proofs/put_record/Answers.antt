@@ -1,5 +1,5 @@
 -- The time stands behind what stands before it.
-use Rattle.join.proofs.Names.{◌-◌, bytes_of, head_front, rules, }
+use Rattle.join.proofs.Names.{◌-◌, bytes_of, head_front}
 use Rattle.join.proofs.Heads.{front_length, stored_behind}
 use Rattle.join.proofs.put_record.Goals as goal
 

@@ -1,5 +1,5 @@
 -- In a buffer that is shorter than the limit nothing is stored.
-use Rattle.join.proofs.Names.{arith, rules, refl}
+use Rattle.join.proofs.Names.{arith, refl}
 use Rattle.join.proofs.put_within.Goals as goal
 
 pub returns-then-buffer-limit : goal.returns-then-buffer-limit

@@ -1,5 +1,5 @@
 -- At the same place it is the same record.
-use Rattle.join.proofs.Names.{HeadAt, free, subst, sym, ℕ}
+use Rattle.join.proofs.Names.{HeadAt, subst, sym, ℕ}
 use Rattle.join.proofs.read_again.Goals as goal
 
 pub returns-then-next-place : goal.returns-then-next-place

@@ -1,5 +1,5 @@
 -- The length field has two bytes, a time eight, a kind and a colour one each.
-use Rattle.join.proofs.Names.{bytes_of, rules}
+use Rattle.join.proofs.Names.{bytes_of}
 use Rattle.join.proofs.size_of.Goals as goal
 
 pub returns-in-Event : goal.returns-in-Event

@@ -1,7 +1,7 @@
 -- The version is stored, and then, turn by turn, what is left of the record that comes next.
-use Rattle.join.proofs.Names.{HeadAt, List, Records, Step, [], ◌+◌, ◌-◌, ◌∙◌, ◌∷◌, ◌≡◌, ◌≤◌, ap, arith, both, free, joined, length}
+use Rattle.join.proofs.Names.{List, [], ◌∙◌, ◌∷◌, ◌≡◌, ap, arith, both, joined, length}
 use Rattle.join.proofs.Names.{length-sets, not-false, not-true, sets, steps_bytes, refl, sym, ℕ}
-use Rattle.join.proofs.{Heads.keeps_within, Walking.Walking, Walking.head_fits, Walking.next_whole, Walking.walk_end, Walking.walk_more}
+use Rattle.join.proofs.{Heads.keeps_within, Walking.head_fits, Walking.next_whole, Walking.walk_end, Walking.walk_more}
 use Rattle.join.proofs.{Walking.walk_short, Walking.walk_start}
 use Rattle.join.proofs.walk.Goals as goal
 
@@ -80,7 +80,8 @@ returns-then-not-kept c =
       fits = λ e. both (sym e);
       short = λ e a b records others. walk_short args.first.now args.second.now _ args.limit loop.place loop.other loop.clock
           loop.size loop.buffer a b (loop.invariant.6 a b records others) c.following-next.result
-          (c.following-next.ensures.0 _ _ loop.invariant.2 loop.invariant.3) (omega (arith, c.if-head-eq0.false)) c.keep-kept.result _ loop.invariant.1
+          (c.following-next.ensures.0 _ _ loop.invariant.2 loop.invariant.3) (omega (arith,
+              c.if-head-eq0.false)) c.keep-kept.result _ loop.invariant.1
           c.keep-kept.ensures (not-true _ c.if-not-kept.true);
     }
 
@@ -105,7 +106,8 @@ loop-a-preserved c =
           (omega (arith, c.following-next.ensures.2, loop.invariant.5)),
       λ a b records others. walk_more args.first.now args.second.now _ args.limit loop.place loop.other loop.clock
           loop.size loop.buffer a b (loop.invariant.6 a b records others) c.following-next.result
-          (c.following-next.ensures.0 _ _ loop.invariant.2 loop.invariant.3) (omega (arith, c.if-head-eq0.false)) c.keep-kept.result _ loop.invariant.1
+          (c.following-next.ensures.0 _ _ loop.invariant.2 loop.invariant.3) (omega (arith,
+              c.if-head-eq0.false)) c.keep-kept.result _ loop.invariant.1
           c.keep-kept.ensures (not-false _ c.if-not-kept.false),
       loop.invariant.7,
       loop.invariant.8,

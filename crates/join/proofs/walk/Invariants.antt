@@ -1,8 +1,7 @@
 -- The version is stored, and then, turn by turn, what is left of the record that comes next.
-use Rattle.join.proofs.Names.{HeadAt, List, Records, Step, [], ◌+◌, ◌-◌, ◌∙◌, ◌∷◌, ◌≡◌, ◌≤◌, ap, arith, both, free, joined, length}
-use Rattle.join.proofs.Names.{length-sets, not-false, not-true, sets, steps_bytes, refl, sym, ℕ}
-use Rattle.join.proofs.{Heads.keeps_within, Walking.Walking, Walking.head_fits, Walking.next_whole, Walking.walk_end, Walking.walk_more}
-use Rattle.join.proofs.{Walking.walk_short, Walking.walk_start}
+use Rattle.join.proofs.Names.{HeadAt, List, Records, Step, ◌+◌, ◌-◌, ◌≡◌, ◌≤◌, length}
+use Rattle.join.proofs.Names.{ℕ}
+use Rattle.join.proofs.{Walking.Walking}
 use Rattle.join.proofs.walk.Given as goal
 
 -- the last place
@@ -11,9 +10,11 @@ last = 18446744073709551615
 
 abbrev pub invariant-loop-a : goal.invariant-loop-a
 invariant-loop-a l =
-    (l.size ≤ l.limit) × (length l.buffer ≡ length l.initial.buffer) × HeadAt l.first l.place l.a × HeadAt l.second l.other l.b × (l.place + l.a.size ≤ last)
+    (l.size ≤ l.limit) × (length l.buffer ≡ length l.initial.buffer) × HeadAt l.first l.place l.a × HeadAt l.second l.other l.b
+        × (l.place + l.a.size ≤ last)
     × (l.other + l.b.size ≤ last)
-    × ((a b : List Step) → Records l.first 1 a → Records l.second 1 b → Walking l.first l.second l.initial.buffer l.limit l.place l.other l.clock l.size l.buffer a b)
+    × ((a b : List Step) → Records l.first 1 a → Records l.second 1 b
+        → Walking l.first l.second l.initial.buffer l.limit l.place l.other l.clock l.size l.buffer a b)
     × (length l.first ≤ last) × (length l.second ≤ last)
 
 abbrev pub decreases-loop-a : goal.decreases-loop-a

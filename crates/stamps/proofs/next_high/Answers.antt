@@ -1,5 +1,5 @@
 -- The test is that of `next_high`.
-use Rattle.stamps.proofs.Names.{eq-eqb, free, ne_eqb}
+use Rattle.stamps.proofs.Names.{eq-eqb, ne_eqb}
 use Rattle.stamps.proofs.next_high.Goals as goal
 
 pub returns-then-upper-eq-NO_LIMIT : goal.returns-then-upper-eq-NO_LIMIT

@@ -1,6 +1,6 @@
 -- The loop reads record after record: what is kept of the stamps is that of the steps read so far.
-use Rattle.stamps.proofs.Names.{[], ◌-◌, ap, arith, clock_with, failed, length, not, passed, ticks_on, version_refused}
-use Rattle.stamps.proofs.Progress.{PassedTo, pass_end, pass_more, pass_refused, pass_start, pass_ticks}
+use Rattle.stamps.proofs.Names.{[], ap, arith, clock_with, failed, not, passed, ticks_on, version_refused}
+use Rattle.stamps.proofs.Progress.{pass_end, pass_more, pass_refused, pass_start, pass_ticks}
 use Rattle.stamps.proofs.pass.Goals as goal
 
 pub returns-then-not-version_known : goal.returns-then-not-version_known

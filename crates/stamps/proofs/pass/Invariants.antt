@@ -1,6 +1,6 @@
 -- The loop reads record after record: what is kept of the stamps is that of the steps read so far.
-use Rattle.stamps.proofs.Names.{[], ◌-◌, arith, clock_with, failed, free, length, passed, ticks_on, version_refused}
-use Rattle.stamps.proofs.Progress.{PassedTo, pass_end, pass_more, pass_refused, pass_start, pass_ticks}
+use Rattle.stamps.proofs.Names.{◌-◌, clock_with, length}
+use Rattle.stamps.proofs.Progress.{PassedTo}
 use Rattle.stamps.proofs.pass.Given as goal
 
 abbrev pub invariant-loop-place : goal.invariant-loop-place

@@ -1,5 +1,5 @@
 -- Each answer is that of the first "no"; where there is none the pass has read what the row reads.
-use Rattle.stamps.proofs.Names.{arith, no_table, row_in}
+use Rattle.stamps.proofs.Names.{arith, no_table}
 use Rattle.stamps.proofs.{Answers.answer_range, Answers.answer_reads, Answers.answer_recording, Answers.answer_row}
 use Rattle.stamps.proofs.read.Goals as goal
 

@@ -1,5 +1,5 @@
 -- The tests are on the row's type and values.
-use Rattle.stamps.proofs.Names.{arith, free, rules, row_in}
+use Rattle.stamps.proofs.Names.{arith, row_in}
 use Rattle.stamps.proofs.{Rows.finds_it, Rows.finds_none, Rows.finds_other}
 use Rattle.stamps.proofs.row_of.Goals as goal
 

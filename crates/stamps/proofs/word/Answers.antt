@@ -1,5 +1,4 @@
 -- By cases on the verdict.
-use Rattle.stamps.proofs.Names.{rules}
 use Rattle.stamps.proofs.word.Goals as goal
 
 pub returns-in-Kept : goal.returns-in-Kept

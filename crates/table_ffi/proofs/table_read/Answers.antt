@@ -1,5 +1,5 @@
 -- The code is that of the reader's answer.
-use Rattle.constraint.proofs.Library.{rules, sym}
+use Rattle.constraint.proofs.Library.{sym}
 use Rattle.table_row.proofs.Tables.{rows_length}
 use Rattle.table.proofs.Answers.{reads_as}
 use Rattle.table_ffi.proofs.table_read.Goals as goal

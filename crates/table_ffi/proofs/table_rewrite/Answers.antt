@@ -1,5 +1,4 @@
 -- The rows that are written are those that were read.
-use Rattle.constraint.proofs.Library.{rules, }
 use Rattle.table.proofs.Answers.{reads_as}
 use Rattle.table_ffi.specs.Codes.{not_read, rewritten}
 use Rattle.table_ffi.proofs.table_rewrite.Goals as goal

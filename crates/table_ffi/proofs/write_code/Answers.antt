@@ -1,5 +1,4 @@
 -- Each case has its code.
-use Rattle.constraint.proofs.Library.{rules}
 use Rattle.table_ffi.proofs.write_code.Goals as goal
 
 pub returns-in-Refused : goal.returns-in-Refused

@@ -1,22 +1,16 @@
 -- The number is that of the first "no"; where there is none the clock, the count, the first free time and the mark are those after the call.
 use Rattle.clock.proofs.{Laws.refusal_of, Laws.takes_refused, Laws.takes_taken}
 use Rattle.clock.specs.Clock.{clock_with}
-use Rattle.constraint.proofs.Library.{◌≡◌, arith, rules, }
+use Rattle.constraint.proofs.Library.{◌≡◌, arith}
 use Rattle.questions.proofs.Places.{place_small}
 use Rattle.clock.proofs.Clock.take.Goals as goal
-use Rattle.clock.proofs.Clock.take.Tie as tie
-use Rattle.clock.proofs.Clock.take.Reads as reads
-use Rattle.clock.proofs.Clock.take.Lts as steps
-
--- what is asked
-number_is : (c : steps.After-refusal tie.the-claims reads.Pre reads.Post) →
-    let args = c.args in c.refusal-number.result ≡ refusal_of (clock_with args.self args.next.now) args.call
-number_is c = rw c.place-at.ensures at c.refusal-number.ensures
 
 pub returns-then-number-gt0 : goal.returns-then-number-gt0
 returns-then-number-gt0 c =
     let args = c.args in
-    takes_refused (clock_with args.self args.next.now) args.call c.refusal-number.result (number_is c.before.before) c.if-number-gt0.true
+    let asked : c.refusal-number.result ≡ refusal_of (clock_with args.self args.next.now) args.call =
+        rw c.place-at.ensures at c.refusal-number.ensures in
+    takes_refused (clock_with args.self args.next.now) args.call c.refusal-number.result asked c.if-number-gt0.true
 
 pub offset_bounds-next-at-2 : goal.offset_bounds-next-at-2
 offset_bounds-next-at-2 c =
@@ -29,7 +23,9 @@ bounds-next-at-2 c =
 pub returns : goal.returns
 returns c =
     let args = c.args in
-    takes_taken (clock_with args.self args.next.now) args.call c.refusal-number.result (number_is c.before.before.before.before.before.before) c.if-number-gt0.false _
+    let asked : c.refusal-number.result ≡ refusal_of (clock_with args.self args.next.now) args.call =
+        rw c.place-at.ensures at c.refusal-number.ensures in
+    takes_taken (clock_with args.self args.next.now) args.call c.refusal-number.result asked c.if-number-gt0.false _
     (simp (c.closed.ensures, c.plus.ensures, c.free.ensures, c.step_input-o.ensures, c.place-at.ensures))
 
 pub offset_bounds-next-at : goal.offset_bounds-next-at

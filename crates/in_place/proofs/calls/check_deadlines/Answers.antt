@@ -1,5 +1,5 @@
 -- The soonest due time that is stored says whether a row may be overdue.
-use Rattle.in_place.proofs.Names.{◌∙◌, ◌≡◌, ap, false, le-ltb, lt-ltb, ltb, rules, sym, true, ℕ}
+use Rattle.in_place.proofs.Names.{◌∙◌, ◌≡◌, ap, false, le-ltb, lt-ltb, ltb, sym, true, ℕ}
 use Rattle.in_place.proofs.{Parts.number_at}
 use Rattle.in_place.proofs.calls.check_deadlines.Goals as goal
 

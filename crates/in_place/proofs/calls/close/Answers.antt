@@ -1,5 +1,5 @@
 -- The questions are put first; then the numbers are counted on, and the close goes to every row.
-use Rattle.in_place.proofs.Names.{Call, ◌∙◌, ap, arith, close_at, recorded_to, clock_applied, held_rows, rules, next_number, refl, words_of_lent}
+use Rattle.in_place.proofs.Names.{Call, ◌∙◌, ap, arith, close_at, recorded_to, clock_applied, held_rows, next_number, refl, words_of_lent}
 use Rattle.in_place.proofs.Names.{ℕ}
 use Rattle.in_place.proofs.RefusalOrder.{first_number, own_number, refused_stores, taken_stores}
 use Rattle.in_place.proofs.{Parts.number_at, Parts.shaped_ended, Parts.shaped_to}
@@ -8,7 +8,8 @@ use Rattle.in_place.proofs.calls.close.Goals as goal
 pub returns-then-refusal-gt0 : goal.returns-then-refusal-gt0
 returns-then-refusal-gt0 c =
     let a = c.args in
-    refused_stores a.m.now Call.Close _ (λ h e s. first_number h Call.Close _ (c.first_refusal-refusal.ensures h e s) c.if-refusal-gt0.true) c.if-refusal-gt0.true
+    refused_stores a.m.now Call.Close _ (λ h e s. first_number h Call.Close _
+        (c.first_refusal-refusal.ensures h e s) c.if-refusal-gt0.true) c.if-refusal-gt0.true
 
 pub returns : goal.returns
 returns c =

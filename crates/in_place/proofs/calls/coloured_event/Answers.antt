@@ -1,5 +1,5 @@
 -- The questions are put first; the stream of one that is answered is its kind’s and colour’s.
-use Rattle.in_place.proofs.Names.{Call, OnStream, arith, rules, subst, ℕ}
+use Rattle.in_place.proofs.Names.{Call, OnStream, arith, subst, ℕ}
 use Rattle.in_place.proofs.{RefusalOrder.refused_stores, RefusalOrder.taken_stores}
 use Rattle.in_place.proofs.calls.coloured_event.Goals as goal
 

@@ -1,5 +1,5 @@
 -- The questions are put in their order, and the first "no" gives the number.
-use Rattle.in_place.proofs.Names.{Call, ◌∙◌, ap, ap₂, arith, first_coloured, get_or, last_colour, last_kind, le-ltb, lt-ltb, rules, refl}
+use Rattle.in_place.proofs.Names.{Call, ◌∙◌, ap, ap₂, arith, first_coloured, get_or, last_colour, last_kind, le-ltb, lt-ltb, refl}
 use Rattle.in_place.proofs.Names.{stream}
 use Rattle.in_place.proofs.Names.{stream_count, time_refusal, ℕ}
 use Rattle.in_place.proofs.{RefusalOrder.first_number, RefusalOrder.own_number, Parts.number_at}
@@ -49,7 +49,8 @@ returns-then-colour-gt-LAST_COLOUR c =
 pub returns : goal.returns
 returns c =
     let a = c.args in (
-      λ z. (omega (arith, c.if-kind-lt-FIRST_COLOURED.false), (omega (arith, c.if-kind-gt-LAST_KIND.false), omega (arith, c.if-colour-gt-LAST_COLOUR.false))),
+      λ z. (omega (arith, c.if-kind-lt-FIRST_COLOURED.false), (omega (arith, c.if-kind-gt-LAST_KIND.false), omega (arith,
+          c.if-colour-gt-LAST_COLOUR.false))),
       λ h e s.
           own_number h (Call.ColouredEvent a.kind a.colour a.time) _ _ (c.first_refusal-first.ensures h e s)
           (omega (arith, c.if-first-gt0.false))

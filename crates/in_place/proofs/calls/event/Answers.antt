@@ -1,5 +1,5 @@
 -- The questions come first. An event whose questions are answered "yes" goes to the rows of its kind.
-use Rattle.in_place.proofs.Names.{Call, arith, rules}
+use Rattle.in_place.proofs.Names.{Call, arith}
 use Rattle.in_place.proofs.{RefusalOrder.refused_stores, RefusalOrder.taken_stores}
 use Rattle.in_place.proofs.calls.event.Goals as goal
 

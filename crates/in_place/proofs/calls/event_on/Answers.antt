@@ -1,5 +1,5 @@
 -- Where the event crowds a row nothing is stored; else the numbers, the rows to which the clock goes, and the rows of its kind, one after the other.
-use Rattle.in_place.proofs.Names.{◌∙◌, ◌≡◌, ap, deadlines_checked, dispatched, recorded_on, crowded_on, event_at, false, get_or, rules, refl, rows_in}
+use Rattle.in_place.proofs.Names.{◌∙◌, ◌≡◌, ap, deadlines_checked, dispatched, recorded_on, crowded_on, event_at, false, get_or, refl, rows_in}
 use Rattle.in_place.proofs.Names.{without_asked, sym, true, words_of_lent}
 use Rattle.in_place.proofs.Parts.{begun_alone, begun_count, begun_lists, shaped_begun, shaped_counted, shaped_full}
 use Rattle.in_place.proofs.calls.event_on.Goals as goal
@@ -11,7 +11,8 @@ returns-then-event_would_overflow c =
     record {
       untouched = λ _. same;
       stores = λ h e s going.
-          let crowds : crowded_on h a.kind a.stream a.time ≡ true = sym (c.event_would_overflow.ensures.asked h e s) ∙ c.if-event_would_overflow.true in
+          let crowds : crowded_on h a.kind a.stream a.time ≡ true = sym (c.event_would_overflow.ensures.asked h e s)
+              ∙ c.if-event_would_overflow.true in
           (rw crowds refl, rw crowds (same ∙ e));
     }
 

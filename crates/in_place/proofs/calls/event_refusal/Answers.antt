@@ -1,5 +1,5 @@
 -- The questions are put in their order, and the first "no" gives the number.
-use Rattle.in_place.proofs.Names.{Call, ◌<◌, ◌∙◌, ap₂, arith, first_coloured, last_kind, le-leb, le-ltb, lt-leb, lt-ltb, rules, refl}
+use Rattle.in_place.proofs.Names.{Call, ◌<◌, ◌∙◌, ap₂, arith, first_coloured, last_kind, le-leb, le-ltb, lt-leb, lt-ltb, refl}
 use Rattle.in_place.proofs.Names.{stream_count, time_refusal}
 use Rattle.in_place.proofs.{RefusalOrder.first_number, RefusalOrder.own_number, Parts.number_at}
 use Rattle.in_place.proofs.calls.event_refusal.Goals as goal

@@ -1,5 +1,5 @@
 -- A row that is not nearly full is not asked; where none of the others is crowded they lose their mark, and are looked at again after the event.
-use Rattle.in_place.proofs.Names.{Lent, List, Shaped, [], ◌-◌, ◌∙◌, ◌≡◌, ap, ap₂, arith, asked_of, bit_and, both, crowded, get_or, rules}
+use Rattle.in_place.proofs.Names.{Lent, List, Shaped, [], ◌-◌, ◌∙◌, ◌≡◌, ap, ap₂, arith, asked_of, bit_and, both, crowded, get_or}
 use Rattle.in_place.proofs.Names.{refl, rows_in}
 use Rattle.in_place.proofs.Names.{sym, with_full, words_of_lent, ℕ}
 use Rattle.in_place.proofs.Parts.{number_at, set_at}

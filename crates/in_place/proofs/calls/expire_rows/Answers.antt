@@ -1,5 +1,5 @@
 -- Where the soonest due time is past, the rows that are overdue end; else it is stored.
-use Rattle.in_place.proofs.Names.{◌∙◌, ◌≡◌, ap, ap₂, clock_applied, false, held_rows, le-ltb, lt-ltb, ltb, rules, soonest_all, soonest_of}
+use Rattle.in_place.proofs.Names.{◌∙◌, ◌≡◌, ap, ap₂, clock_applied, false, held_rows, le-ltb, lt-ltb, ltb, soonest_all, soonest_of}
 use Rattle.in_place.proofs.Names.{sym, tick_at}
 use Rattle.in_place.proofs.Names.{true, up_to_four, with_soonest, words_of_lent, ℕ}
 use Rattle.in_place.proofs.{Parts.number_at, Parts.shaped_ended}

@@ -1,5 +1,5 @@
 -- The questions are put first; then the numbers are counted on, and the clock goes to the rows.
-use Rattle.in_place.proofs.Names.{Call, arith, recorded_to, rules, refl}
+use Rattle.in_place.proofs.Names.{Call, arith, recorded_to, refl}
 use Rattle.in_place.proofs.{RefusalOrder.refused_stores, RefusalOrder.taken_stores, Parts.shaped_to}
 use Rattle.in_place.proofs.calls.tick.Goals as goal
 

@@ -1,5 +1,5 @@
 -- The questions are put in their order, and the first "no" gives the number.
-use Rattle.in_place.proofs.Names.{Call, ◌<◌, ◌≤◌, arith, last_time, le-leb, le-ltb, lt-leb, lt-ltb, rules, refl}
+use Rattle.in_place.proofs.Names.{Call, ◌<◌, ◌≤◌, arith, last_time, le-leb, le-ltb, lt-leb, lt-ltb, refl}
 use Rattle.in_place.proofs.{RefusalOrder.first_number, RefusalOrder.own_number, Parts.number_at}
 use Rattle.in_place.proofs.calls.tick_refusal.Goals as goal
 

@@ -1,7 +1,7 @@
 -- Where a step may be withdrawn, each row and then each number is put back.
 use Rattle.in_place.proofs.Names.{List, Words, [], ◌<◌, ◌∙◌, ◌≡◌, ap, ap₂, arith, all_rows_undone, rows_undone, cond, get_or, held_rows, le-ltb}
 use Rattle.in_place.proofs.Names.{lt-ltb, ltb}
-use Rattle.in_place.proofs.Names.{ltb-true, rules, place_in, refl, set, split, stream_count, suc, sym, take, restored_monitor, with_monitor}
+use Rattle.in_place.proofs.Names.{ltb-true, place_in, refl, set, split, stream_count, suc, sym, take, restored_monitor, with_monitor}
 use Rattle.in_place.proofs.Names.{all_rows, with_full, with_next, with_soonest, words_of_lent, zero, ℕ}
 use Rattle.in_place.proofs.Parts.{block_written, number_at, numbers_read, shaped_backed, shaped_next}
 use Rattle.in_place.proofs.calls.withdraw.Goals as goal

@@ -1,5 +1,5 @@
 -- A word of 0 says closed, and the count stands beside it.
-use Rattle.in_place.proofs.Names.{List, [], ◌-◌, ◌<◌, ◌∙◌, ◌≡◌, ◌≤◌, ap, arith, get_or, last_count, le-leb, le-ltb, lt-leb, lt-ltb, rules, refl}
+use Rattle.in_place.proofs.Names.{List, [], ◌-◌, ◌<◌, ◌∙◌, ◌≡◌, ◌≤◌, ap, arith, get_or, last_count, le-leb, le-ltb, lt-leb, lt-ltb, refl}
 use Rattle.in_place.proofs.Names.{suc}
 use Rattle.in_place.proofs.Names.{sym, zero, ℕ}
 use Rattle.in_place.proofs.{Parts.numbers_read}

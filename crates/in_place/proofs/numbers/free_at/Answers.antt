@@ -1,5 +1,5 @@
 -- The first 48 streams stand behind the numbers, the others in a block of their own.
-use Rattle.in_place.proofs.Names.{[], ◌%◌, ◌+◌, ◌-◌, ◌/◌, ◌<◌, ◌∙◌, ◌≡◌, ap, arith, get_or, rules, ℕ}
+use Rattle.in_place.proofs.Names.{[], ◌%◌, ◌+◌, ◌-◌, ◌/◌, ◌<◌, ◌∙◌, ◌≡◌, ap, arith, get_or, ℕ}
 use Rattle.in_place.proofs.{Parts.coloured_free, Parts.plain_free}
 use Rattle.in_place.proofs.numbers.free_at.Goals as goal
 

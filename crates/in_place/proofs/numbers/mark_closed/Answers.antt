@@ -1,5 +1,5 @@
 -- The word for "open" is stored as 0.
-use Rattle.in_place.proofs.Names.{List, Words, [], ◌∙◌, ap, get_or, rules, refl, set, with_closed, words_of_lent, ℕ}
+use Rattle.in_place.proofs.Names.{List, Words, [], ◌∙◌, ap, get_or, refl, set, with_closed, words_of_lent, ℕ}
 use Rattle.in_place.proofs.{Parts.block_written, Parts.numbers_read}
 use Rattle.in_place.proofs.numbers.mark_closed.Goals as goal
 

@@ -1,5 +1,5 @@
 -- A store at the stream’s place is a store in the list of first free times.
-use Rattle.in_place.proofs.Names.{[], ◌%◌, ◌+◌, ◌-◌, ◌/◌, ◌<◌, ◌∙◌, ◌≡◌, ap, arith, get_or, rules, set, with_next, words_of_lent, ℕ}
+use Rattle.in_place.proofs.Names.{[], ◌%◌, ◌+◌, ◌-◌, ◌/◌, ◌<◌, ◌∙◌, ◌≡◌, ap, arith, get_or, set, with_next, words_of_lent, ℕ}
 use Rattle.in_place.proofs.{Parts.coloured_written, Parts.plain_written}
 use Rattle.in_place.proofs.numbers.put_free.Goals as goal
 

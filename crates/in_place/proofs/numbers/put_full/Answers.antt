@@ -1,5 +1,5 @@
 -- The set is stored at its place.
-use Rattle.in_place.proofs.Names.{[], ◌∙◌, ap, get_or, rules, set}
+use Rattle.in_place.proofs.Names.{[], ◌∙◌, ap, get_or, set}
 use Rattle.in_place.proofs.{Parts.full_written}
 use Rattle.in_place.proofs.numbers.put_full.Goals as goal
 

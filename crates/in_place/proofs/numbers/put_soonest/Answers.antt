@@ -1,5 +1,5 @@
 -- The time is stored at its place.
-use Rattle.in_place.proofs.Names.{[], ◌∙◌, ap, get_or, rules, set}
+use Rattle.in_place.proofs.Names.{[], ◌∙◌, ap, get_or, set}
 use Rattle.in_place.proofs.{Parts.soonest_written}
 use Rattle.in_place.proofs.numbers.put_soonest.Goals as goal
 

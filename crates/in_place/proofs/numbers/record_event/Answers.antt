@@ -1,5 +1,5 @@
 -- The first free time of the stream is stored, and then the numbers are counted on.
-use Rattle.in_place.proofs.Names.{List, Words, [], ◌∙◌, ◌∷◌, ap, ap₂, recorded_monitor, get_or, rules, number_array, plus, refl, set, sym, take}
+use Rattle.in_place.proofs.Names.{List, Words, [], ◌∙◌, ◌∷◌, ap, ap₂, recorded_monitor, get_or, number_array, plus, refl, set, sym, take}
 use Rattle.in_place.proofs.Names.{with_monitor, with_next, words_of_lent, ℕ}
 use Rattle.in_place.proofs.{Parts.block_written, Parts.numbers_read, Parts.shaped_next}
 use Rattle.in_place.proofs.numbers.record_event.Goals as goal

@@ -1,5 +1,5 @@
 -- The numbers are counted on, with the first free time of stream 0 as it is.
-use Rattle.in_place.proofs.Names.{List, Words, [], ◌∙◌, ◌∷◌, ap, ap₂, recorded_monitor, recorded_to, get_or, rules, number_array, refl, set, take}
+use Rattle.in_place.proofs.Names.{List, Words, [], ◌∙◌, ◌∷◌, ap, ap₂, recorded_monitor, recorded_to, get_or, number_array, refl, set, take}
 use Rattle.in_place.proofs.Names.{words_of_lent, ℕ}
 use Rattle.in_place.proofs.{Parts.block_written, Parts.numbers_read}
 use Rattle.in_place.proofs.numbers.record_tick.Goals as goal

@@ -1,5 +1,5 @@
 -- Row after row: before the turn of number i the first i have taken it.
-use Rattle.in_place.proofs.Names.{Lent, Shaped, ◌-◌, ◌<◌, ◌∙◌, ◌≡◌, ◌≤◌, add-one, ap, arith, clock_applied, ended_row, ended_saves, kept_at, row_at}
+use Rattle.in_place.proofs.Names.{◌<◌, ◌∙◌, ◌≡◌, add-one, ap, arith, clock_applied, ended_row, ended_saves, kept_at, row_at}
 use Rattle.in_place.proofs.Names.{sym}
 use Rattle.in_place.proofs.Names.{words_of_lent, ℕ}
 use Rattle.in_place.proofs.{Blocks.row_lies, Blocks.row_stored, Parts.shaped_ended}

@@ -1,8 +1,6 @@
 -- Row after row: before the turn of number i the first i have taken it.
-use Rattle.in_place.proofs.Names.{Lent, Shaped, ◌-◌, ◌<◌, ◌∙◌, ◌≡◌, ◌≤◌, add-one, ap, arith, clock_applied, ended_row, ended_saves, kept_at, row_at}
-use Rattle.in_place.proofs.Names.{sym}
-use Rattle.in_place.proofs.Names.{words_of_lent, ℕ}
-use Rattle.in_place.proofs.{Blocks.row_lies, Blocks.row_stored, Parts.shaped_ended}
+use Rattle.in_place.proofs.Names.{Lent, Shaped, ◌-◌, ◌≡◌, ◌≤◌, clock_applied}
+use Rattle.in_place.proofs.Names.{words_of_lent}
 use Rattle.in_place.proofs.rows.apply_clock_all.Given as goal
 
 abbrev pub invariant-loop-i : goal.invariant-loop-i

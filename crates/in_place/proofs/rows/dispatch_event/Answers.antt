@@ -1,5 +1,5 @@
 -- The rows of a kind are those of its set, and the number of the step stands at its place.
-use Rattle.in_place.proofs.Names.{◌∙◌, ap, dispatched, event_at, rules, rows_in, words_of_lent}
+use Rattle.in_place.proofs.Names.{◌∙◌, ap, dispatched, event_at, rows_in, words_of_lent}
 use Rattle.in_place.proofs.{Parts.number_at, Parts.set_at, RowSets.rows_low}
 use Rattle.in_place.proofs.rows.dispatch_event.Goals as goal
 

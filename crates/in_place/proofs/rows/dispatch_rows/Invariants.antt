@@ -1,6 +1,6 @@
 -- Row after row, the lowest first: what the event makes of the rows that are left, after those before, is what it makes of all; the soonest time is
 -- kept beside, and stored at the end.
-use Rattle.in_place.proofs.Names.{Lent, Shaped, ◌<◌, ◌≡◌, words_of_lent, ℕ}
+use Rattle.in_place.proofs.Names.{Lent, Shaped, ◌<◌, ◌≡◌, words_of_lent}
 use Rattle.in_place.proofs.Midways.{Midway}
 use Rattle.in_place.proofs.rows.dispatch_rows.Given as goal
 

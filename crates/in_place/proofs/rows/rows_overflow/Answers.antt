@@ -1,6 +1,6 @@
 -- Row after row, the lowest first: what is left to ask decides, as none of the rows before was crowded.
-use Rattle.in_place.proofs.Names.{Bool, Lent, List, Shaped, ◌-◌, ◌<◌, ◌||◌, ◌∙◌, ◌≡◌, ap, arith, bit_and, crowded, crowded_at, kept_at}
-use Rattle.in_place.proofs.Names.{refl, row_at, rows_in, sym, words_of_lent, ℕ}
+use Rattle.in_place.proofs.Names.{Bool, Lent, List, ◌-◌, ◌<◌, ◌||◌, ◌∙◌, ◌≡◌, ap, arith, bit_and, crowded, crowded_at, kept_at}
+use Rattle.in_place.proofs.Names.{refl, row_at, rows_in, sym, ℕ}
 use Rattle.in_place.proofs.{Blocks.row_lies, RowSets.Lowest, RowSets.lowest, RowSets.no_rows, RowSets.rows_first}
 use lib.Bits.{and_le_r}
 use lib.Count.{count_trailing_zeros}

@@ -1,6 +1,6 @@
 -- Four rows after four: before the turn of number i it is the soonest due time of the first i.
-use Rattle.in_place.proofs.Names.{Lent, List, Row, Shaped, ◌%◌, ◌+◌, ◌-◌, ◌∙◌, ◌≡◌, ◌≤◌, ap, ap₂, arith, get_or, min, no_row, refl, soonest_of}
-use Rattle.in_place.proofs.Names.{soonest_of_four, suc, up_to_four, words_of_lent, ℕ}
+use Rattle.in_place.proofs.Names.{Lent, Shaped, ◌%◌, ◌-◌, ◌≡◌, ◌≤◌, soonest_of}
+use Rattle.in_place.proofs.Names.{up_to_four, words_of_lent}
 use Rattle.in_place.proofs.rows.soonest.Given as goal
 
 abbrev pub invariant-loop-i : goal.invariant-loop-i

@@ -1,5 +1,5 @@
 -- Row after row: before the turn of number i the first i are without the step.
-use Rattle.in_place.proofs.Names.{Lent, Shaped, ◌-◌, ◌<◌, ◌∙◌, ◌≡◌, ◌≤◌, add-one, ap, arith, rows_undone, kept_at, kept_without, row_at}
+use Rattle.in_place.proofs.Names.{◌<◌, ◌∙◌, ◌≡◌, add-one, ap, arith, rows_undone, kept_at, kept_without, row_at}
 use Rattle.in_place.proofs.Names.{row_without, sym}
 use Rattle.in_place.proofs.Names.{words_of_lent, ℕ}
 use Rattle.in_place.proofs.{Blocks.row_lies, Blocks.row_stored, Parts.shaped_backed}

@@ -11,7 +11,6 @@ returns-then-closed-gt0 c = simp (
   lt-ltb _ _ c.if-row-ge-ROW_LIMIT.false,
   le-ltb _ _ c.if-broken-gt0.false,
   lt-ltb _ _ c.if-closed-gt0.true,
-
 )
 
 pub returns : goal.returns
@@ -20,7 +19,6 @@ returns c = simp (
   lt-ltb _ _ c.if-row-ge-ROW_LIMIT.false,
   le-ltb _ _ c.if-broken-gt0.false,
   le-ltb _ _ c.if-closed-gt0.false,
-
 )
 
 pub returns-then-len-row : goal.returns-then-len-row

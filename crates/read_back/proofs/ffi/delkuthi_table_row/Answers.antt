@@ -1,6 +1,5 @@
 -- The table is judged and the row found; a row of an accepted table is of a known type.
-use Rattle.constraint.proofs.Library.{◌<◌, ◌≤◌, arith}
-use Rattle.constraint.specs.Table.{ReadsTableUpTo, table_refused}
+use Rattle.constraint.proofs.Library.{arith}
 use Rattle.fresh.proofs.Refusals.{refused_small}
 use Rattle.read_back.specs.Contract.{refused}
 use Rattle.read_back.proofs.Bodies.{table_gives, table_known, table_none}

@@ -1,5 +1,5 @@
 -- The test is that of `behind_field`.
-use Rattle.constraint.proofs.Library.{◌∙◌, rules, sym}
+use Rattle.constraint.proofs.Library.{◌∙◌, sym}
 use Rattle.read_back.proofs.words.behind_field.Goals as goal
 
 pub returns-then-is_kind : goal.returns-then-is_kind

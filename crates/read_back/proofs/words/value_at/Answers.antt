@@ -1,5 +1,5 @@
 -- A constant is one of the first 16 words, as a row has at most 18 places and the first two are none.
-use Rattle.constraint.proofs.Library.{◌-◌, arith, get_or-take, le-leb, lt-leb, rules, sym}
+use Rattle.constraint.proofs.Library.{◌-◌, arith, get_or-take, le-leb, lt-leb, sym}
 use Rattle.read_back.proofs.words.value_at.Goals as goal
 
 pub returns-then-first-i : goal.returns-then-first-i

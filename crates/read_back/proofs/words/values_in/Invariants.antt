@@ -1,7 +1,6 @@
 -- The loop stores value after value: storing those left in what there is now gives the whole.
-use Rattle.constraint.proofs.Library.{List, ◌-◌, ◌∙◌, ◌≡◌, ◌≤◌, ap, ap₂, arith, drop, length, rules, replicate, sets, sym, take, ℕ}
+use Rattle.constraint.proofs.Library.{◌-◌, ◌≡◌, ◌≤◌, drop, sets, take}
 use Rattle.read_back.specs.Back.{constant_limit, values_back}
-use Rattle.read_back.proofs.Values.{all_stored, constants_late, value_more, none_left}
 use Rattle.read_back.proofs.words.values_in.Given as goal
 
 abbrev pub invariant-loop-i : goal.invariant-loop-i

@@ -1,5 +1,5 @@
 -- An event of the row's kind is a stamp.
-use Rattle.stamps.proofs.Names.{eq-eqb, free, ne_eqb, rules}
+use Rattle.stamps.proofs.Names.{eq-eqb, ne_eqb}
 use Rattle.stamps.proofs.Stamps.after.Goals as goal
 
 pub returns-then-kind-asked : goal.returns-then-kind-asked

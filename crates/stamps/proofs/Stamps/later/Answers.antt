@@ -1,5 +1,5 @@
 -- The parts are those of `later_stamp`.
-use Rattle.stamps.proofs.Names.{free, later_stamp}
+use Rattle.stamps.proofs.Names.{later_stamp}
 use Rattle.stamps.proofs.Stamps.later.Goals as goal
 
 pub returns : goal.returns

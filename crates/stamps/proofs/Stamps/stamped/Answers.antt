@@ -1,5 +1,5 @@
 -- The test is that of `stamp_after`.
-use Rattle.stamps.proofs.Names.{free, later_stamp, stamp_after}
+use Rattle.stamps.proofs.Names.{later_stamp, stamp_after}
 use Rattle.stamps.proofs.Stamps.stamped.Goals as goal
 
 pub returns-then-self : goal.returns-then-self

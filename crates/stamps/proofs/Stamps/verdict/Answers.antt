@@ -1,5 +1,5 @@
 -- Before the first stamp the row is kept.
-use Rattle.stamps.proofs.Names.{close_verdict, free, stamps_verdict}
+use Rattle.stamps.proofs.Names.{close_verdict, stamps_verdict}
 use Rattle.stamps.proofs.Stamps.verdict.Goals as goal
 
 pub returns-then-self : goal.returns-then-self

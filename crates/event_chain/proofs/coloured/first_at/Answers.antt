@@ -1,9 +1,5 @@
 -- The loop goes from kind to kind: the first response so far is that of those passed.
-<<<<<<< HEAD
-use Rattle.event_chain.specs.{Coloured.least_of, Reaction.latest}
-=======
 use Rattle.event_chain.specs.{Coloured.least_of}
->>>>>>> 50d2bb0c9db46fe5702e9aea895a8106f7249625
 use Rattle.constraint.proofs.Library.{◌≡◌, add-one, arith, refl}
 use Rattle.event_chain.proofs.coloured.first_at.Goals as goal
 

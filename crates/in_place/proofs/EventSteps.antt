@@ -5,7 +5,6 @@ use Rattle.in_place.proofs.Names.{deadlines_checked}
 use Rattle.in_place.proofs.Names.{cond, recorded_on, crowded_on, crowds, event_at, false, held_rows, is_in, is_of, kind_of, le_trans, left_on}
 use Rattle.in_place.proofs.Names.{length-set}
 use Rattle.in_place.proofs.Names.{next_step, numbers, step_input_by, plus, quiet_len, refl, refuses, row_at, rows_of_kind, row_step, set, split}
-use Rattle.in_place.proofs.Names.{stream}
 use Rattle.in_place.proofs.Names.{sym, taken_call, takes, with_full, without_asked, ℕ}
 use Rattle.in_place.proofs.RecordedNumbers.{Answered, all_rows, renumbered_indexes, taken_from, undo_at}
 use Rattle.in_place.proofs.{Concerned.moved, Concerned.saves, RowLists.all_stepped, RowLists.rows_listed, RowLists.step_indexes}

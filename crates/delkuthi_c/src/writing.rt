@@ -2,7 +2,7 @@
 ghost use Rattle.constraint.specs.declared.Call.{Call};
 ghost use Rattle.delkuthi.specs.Writing.{PutsRecord};
 
-use constraint::{Call};
+use constraint::Call;
 
 // Writes an event of a plain kind. Returns 256 times the size of the recording then, or the number of the refusal.
 #[unsafe(no_mangle)]

@@ -112,9 +112,9 @@ all_computed : (all_compute examples ≡ true) × (all_compute unlimited_delays 
 unfolding all_compute computes play_of same_answers is_verdict play row_of broken_row applied changed_row row_step row_verdict ring push_ring
     put_ring put_back
     moves_by step_place saved_by back_row row_without kept_without monitor_of map_first zip_first any_first taken_call step_of withdrawn
-        withdraw_of verdict_of
+    withdraw_of verdict_of
     answered_by decide_delay source_strong_delay target_strong_delay decide_strong_delay decide_repeat later_sporadic decide_sporadic changes_to
-        decide_order
+    decide_order
     decide_strong_synchronization while_idle while_running while_preempted decide_execution_time due_but decide_reaction placed decide_repetition
     decide_synchronization
 all_computed = (refl, refl, refl, refl, refl, refl, refl, refl)
@@ -124,7 +124,7 @@ chains_computed : (all_compute ages ≡ true) × (all_compute output_synchroniza
 unfolding all_compute computes play_of same_answers is_verdict play row_of broken_row applied changed_row row_step row_verdict ring push_ring
     put_ring put_back
     moves_by step_place saved_by back_row row_without kept_without monitor_of map_first zip_first any_first taken_call step_of withdrawn
-        withdraw_of verdict_of
+    withdraw_of verdict_of
     due_age decide_age decide_words due_words least_of most_of
 chains_computed = (refl, refl, refl)
 
@@ -203,7 +203,7 @@ patterns_computed : all_compute patterns ≡ true
 unfolding all_compute computes play_of same_answers is_verdict play row_of broken_row applied changed_row row_step row_verdict ring push_ring
     put_ring put_back
     moves_by step_place saved_by back_row row_without kept_without monitor_of map_first zip_first any_first taken_call step_of withdrawn
-        withdraw_of verdict_of
+    withdraw_of verdict_of
     decide_pattern later_pattern placed_in decidePatternWords
 patterns_computed = refl
 
@@ -211,7 +211,7 @@ arbitraries_computed : all_compute arbitraries ≡ true
 unfolding all_compute computes play_of same_answers is_verdict play row_of broken_row applied changed_row row_step row_verdict ring push_ring
     put_ring put_back
     moves_by step_place saved_by back_row row_without kept_without monitor_of map_first zip_first any_first taken_call step_of withdrawn
-        withdraw_of verdict_of
+    withdraw_of verdict_of
     decide_arbitrary late_enough due_after decideArbitraryWords
 arbitraries_computed = refl
 
@@ -219,7 +219,7 @@ comparisons_computed : all_compute comparisons ≡ true
 unfolding all_compute computes play_of same_answers is_verdict play row_of broken_row applied changed_row row_step row_verdict ring push_ring
     put_ring put_back
     moves_by step_place saved_by back_row row_without kept_without monitor_of map_first zip_first any_first taken_call step_of withdrawn
-        withdraw_of verdict_of
+    withdraw_of verdict_of
 comparisons_computed = refl
 
 -- §5.15

@@ -127,7 +127,7 @@ module _ (h : Lent) (s : Shaped h) where
 
   pub coloured_written : (i v : ℕ) → i < 128
       → set (words_of_lent h) 34 (set (get_or (words_of_lent h) 34 []) (i / 64) (set (get_or (get_or (words_of_lent h) 34 []) (i / 64) [])
-          (i % 64) v))
+      (i % 64) v))
       ≡ words_of_lent (with_next h (set h.monitor.next (48 + i) v))
   unfolding words_of_lent
   coloured_written i v l =

@@ -25,7 +25,7 @@ module _ (f : Row → Row) where
   none_more : (i : ℕ) (rows : List Row) (d : Row) → f (get_or rows i d) ≡ get_or rows i d → map_first i f rows ≡ map_first (suc i) f rows
   none_more i rows d e =
       let same : f (get_or (map_first i f rows) i d) ≡ get_or (map_first i f rows) i d = ap f (map_behind f rows i d) ∙ e
-          ∙ sym (map_behind f rows i d) in
+      ∙ sym (map_behind f rows i d) in
       sym (set-get_or (map_first i f rows) i d) ∙ ap (set (map_first i f rows) i) (sym same) ∙ one_more i rows d
 
   pub mapped : (n i : ℕ) (rows : List Row) (d : Row) → i < n → i < length rows → get_or (map_first n f rows) i d ≡ f (get_or rows i d)
@@ -54,7 +54,7 @@ map_twice f g same (suc n) (r ∷ rows) =
 module _ (save : Row → RowUndo → RowUndo) where
   zip_more : (rows : List Row) (kept : List RowUndo) (i : ℕ) → i < length rows → i < length kept
       → set (zip_first i save rows kept) i (save (get_or rows i no_row) (get_or (zip_first i save rows kept) i no_row_undo)) ≡ zip_first
-          (suc i) save rows kept
+      (suc i) save rows kept
   zip_more rows kept i there too = zip_next save rows kept i no_row no_row_undo there too ∙ ap (λ (n : ℕ). zip_first n save rows kept) (add-one i)
 
   -- one that is left as it is
@@ -67,7 +67,7 @@ module _ (save : Row → RowUndo → RowUndo) where
       let same : save (get_or rows i no_row) (get_or (zip_first i save rows kept) i no_row_undo) ≡ get_or (zip_first i save rows kept) i no_row_undo =
       ap (save (get_or rows i no_row)) behind ∙ e ∙ sym behind in
       sym (set-get_or (zip_first i save rows kept) i no_row_undo) ∙ ap (set (zip_first i save rows kept) i) (sym same)
-          ∙ zip_more rows kept i there too
+      ∙ zip_more rows kept i there too
 
   pub zipped : (n i : ℕ) (rows : List Row) (kept : List RowUndo) → i < n → i < length rows → i < length kept
       → get_or (zip_first n save rows kept) i no_row_undo ≡ save (get_or rows i no_row) (get_or kept i no_row_undo)

@@ -204,7 +204,7 @@ kind_applied kind stream t h = dispatched h (rows_of_kind h kind) (event_at stre
 abbrev pub left_on : Lent → ℕ → ℕ → ℕ → Lent
 left_on h kind stream time =
     dispatched (deadlines_checked (recorded_on (without_asked h kind) stream time) (event_at stream time)) (rows_of_kind h kind)
-        (event_at stream time)
+    (event_at stream time)
     (next_number h)
 
 -- what the question on words promises: where a row is crowded nothing is stored, else that these rows are looked at again
@@ -218,7 +218,7 @@ pub record OnStream (entry : Words) (kind stream time number : ℕ) (exit : Word
   pub untouched : ¬ (number ≡ 0) → exit ≡ entry
   pub stores : (h : Lent) → entry ≡ words_of_lent h → Shaped h → h.monitor.closed ≡ 0
       → (number ≡ cond (crowded_on h kind stream time) 12 0) × (exit ≡ words_of_lent (cond (crowded_on h kind stream time) h
-          (left_on h kind stream time)))
+      (left_on h kind stream time)))
 
 -- ---- a tick and the close that are taken
 

@@ -67,7 +67,7 @@ module _ (s : ℕ) where
   times_first (a ∷ first) [] e = refl
   times_first (a ∷ first) (b ∷ second) e =
       split (leb (time_of a) (time_of b)) (λ x. times s (cond x (a ∷ merged first (b ∷ second)) (b ∷ merged (a ∷ first) second)) ≡ times s
-          (a ∷ first))
+      (a ∷ first))
       (λ t. times_append s (a ∷ []) (merged first (b ∷ second)) ∙ ap (λ (l : List ℕ). times s (a ∷ []) ++ l) (times_first first (b ∷ second) e)
       ∙ sym (times_append s (a ∷ []) first))
       (λ t. let none = none_both (times s (b ∷ [])) (times s second) (sym (times_append s (b ∷ []) second) ∙ e) in
@@ -80,7 +80,7 @@ module _ (s : ℕ) where
   times_second (a ∷ first) [] e = e
   times_second (a ∷ first) (b ∷ second) e =
       split (leb (time_of a) (time_of b)) (λ x. times s (cond x (a ∷ merged first (b ∷ second)) (b ∷ merged (a ∷ first) second)) ≡ times s
-          (b ∷ second))
+      (b ∷ second))
       (λ t. let none = none_both (times s (a ∷ [])) (times s first) (sym (times_append s (a ∷ []) first) ∙ e) in
       times_append s (a ∷ []) (merged first (b ∷ second)) ∙ ap (λ (l : List ℕ). l ++ times s (merged first (b ∷ second))) none.0
       ∙ times_second first (b ∷ second) none.1)

@@ -35,7 +35,7 @@ all_from (c ∷ calls) (request {left = left} _ _ judged rest) e = all_from call
 
 reached_all : {end : Memory} (rows : List Constraint) (calls : List Call) (steps : List Step) → Accepted rows → Indexes (fresh_lent rows)
     → TakesAll rows calls steps → Host (words_of_lent (fresh_lent rows)) (map asks calls) (none_refused calls) end
-        → Reached end rows (S.all_left steps)
+    → Reached end rows (S.all_left steps)
 reached_all {end} rows calls steps accepted indexes taken host =
     subst (Reached end rows) (all_from calls taken.1 refl) (reached_taken rows calls steps accepted indexes taken host)
 

@@ -17,7 +17,7 @@ loop-place-init c =
     let args = c.args in
     gather_start (args.bytes.now) args.streams.now args.times.now
     (passed c.version_known.result c.version_known.ensures (ap not c.if-not-version_known.false))
-        (clock_with c.start-clock.result _) c.start-clock.ensures
+    (clock_with c.start-clock.result _) c.start-clock.ensures
     c.requires.0 c.requires.1
 
 pub returns-then-read-gt0 : goal.returns-then-read-gt0

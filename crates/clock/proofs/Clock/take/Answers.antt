@@ -9,7 +9,7 @@ pub returns-then-number-gt0 : goal.returns-then-number-gt0
 returns-then-number-gt0 c =
     let args = c.args in
     let asked : c.refusal-number.result ≡ refusal_of (clock_with args.self args.next.now) args.call =
-        rw c.place-at.ensures at c.refusal-number.ensures in
+    rw c.place-at.ensures at c.refusal-number.ensures in
     takes_refused (clock_with args.self args.next.now) args.call c.refusal-number.result asked c.if-number-gt0.true
 
 pub offset_bounds-next-at-2 : goal.offset_bounds-next-at-2
@@ -24,7 +24,7 @@ pub returns : goal.returns
 returns c =
     let args = c.args in
     let asked : c.refusal-number.result ≡ refusal_of (clock_with args.self args.next.now) args.call =
-        rw c.place-at.ensures at c.refusal-number.ensures in
+    rw c.place-at.ensures at c.refusal-number.ensures in
     takes_taken (clock_with args.self args.next.now) args.call c.refusal-number.result asked c.if-number-gt0.false _
     (simp (c.closed.ensures, c.plus.ensures, c.free.ensures, c.step_input-o.ensures, c.place-at.ensures))
 

@@ -18,5 +18,7 @@ returns c h e s =
     c.smaller.ensures
     ∙ ap₂ min
     (c.smaller-one.ensures ∙ ap₂ min (due_read h s m e a.i (omega (arith, c.requires))) (due_read h s m e (a.i + 1) (omega (arith, c.requires))))
-    (c.smaller-two.ensures ∙ ap₂ min (due_read h s m e (a.i + 2) (omega (arith, c.requires))) (due_read h s m e (a.i + 3) (omega (arith,
-        c.requires))))
+    (c.smaller-two.ensures ∙ ap₂ min (due_read h s m e (a.i + 2) (omega (arith, c.requires))) (due_read h s m e (a.i + 3) (omega (
+      arith,
+      c.requires,
+    ))))

@@ -7,9 +7,13 @@ use Rattle.queries.proofs.ffi.delkuthi_crowded_row.Goals as goal
 pub returns-then-event_refusal-gt0 : goal.returns-then-event_refusal-gt0
 returns-then-event_refusal-gt0 c =
     let refusal = c.event_refusal in let args = c.args in
-    let call = Call.Event args.kind args.time in
-    (omega arith, λ n holds. crowded_row_asked n call (rw (← refusal_lies _ n holds call _ refusal.ensures.1,
-        lt-ltb _ _ c.if-event_refusal-gt0.true)))
+    let call = Call.Event args.kind args.time in (
+      omega arith,
+      λ n holds. crowded_row_asked n call (rw (
+        ← refusal_lies _ n holds call _ refusal.ensures.1,
+        lt-ltb _ _ c.if-event_refusal-gt0.true,
+      )),
+    )
 
 pub returns : goal.returns
 returns c =

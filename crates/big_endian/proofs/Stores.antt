@@ -1,5 +1,6 @@
 -- Stores one after the other: a list of bytes is stored as its parts are, and nothing is stored past the end.
-use Rattle.constraint.proofs.Library.{List, [], ◌++◌, ◌+◌, ◌<◌, ◌∙◌, ◌∷◌, ◌≡◌, ◌≤◌, add-one, add-suc, add-zero, arith, drop, drop-cons, get_or, length}
+use Rattle.constraint.proofs.Library.{List, [], ◌++◌, ◌+◌, ◌<◌, ◌∙◌, ◌∷◌, ◌≡◌, ◌≤◌, add-one, add-suc, add-zero, arith, drop, drop-cons, get_or}
+use Rattle.constraint.proofs.Library.{length}
 use Rattle.constraint.proofs.Library.{refl, set, set_out, sets, sets-eq, suc, suc-add, zero-add, ℕ}
 
 pub stores_past : (l : List ℕ) (i : ℕ) (vs : List ℕ) → length l ≤ i → sets l i vs ≡ l

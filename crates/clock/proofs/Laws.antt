@@ -3,7 +3,8 @@
 use Rattle.clock.specs.Clock.{After, AsksCall, Clock, ReadsNext, TakesCall, Ticks, clock_of, clock_with, more_ticks, no_tick}
 use Rattle.clock.specs.declared.Clock.{Clock as ClockNumbers}
 use Rattle.clock.specs.declared.RecordRead.{RecordRead}
-use Rattle.constraint.proofs.Library.{List, [], ◌++◌, ◌+◌, ◌<◌, ◌∙◌, ◌∷◌, ◌≡◌, ◌≤◌, ap, arith, false, get_or, length, lt-ltb, map, refl, replicate, set}
+use Rattle.constraint.proofs.Library.{List, [], ◌++◌, ◌+◌, ◌<◌, ◌∙◌, ◌∷◌, ◌≡◌, ◌≤◌, ap, arith, false, get_or, length, lt-ltb, map, refl, replicate}
+use Rattle.constraint.proofs.Library.{set}
 use Rattle.constraint.proofs.Library.{subst, sym, ℕ}
 use Rattle.constraint.proofs.{History.Valid, History.valid_none, Judged.judged_none, Runs.run_valid, Sanity.run_once}
 use Rattle.constraint.specs.Recording.{ReadsInOrder, ReadsRecords, RecordAt, RecordingRead, VersionKnown, call_at, no_more, record_refused}

@@ -31,7 +31,10 @@ module _ (edition : ℕ) where
       → rows_questions edition i rows after ≡ rows_questions edition i rows [] ++ after
   unfolding rows_questions
   rows_then i [] after = refl
-  rows_then i (c ∷ rows) after = ap (λ (later : List Question). (3, i < row_limit) ∷ row_questions_in edition c ++ later) (rows_then (i + 1) rows after)
+  rows_then i (c ∷ rows) after = ap (λ (later : List Question). (
+    3,
+    i < row_limit,
+  ) ∷ row_questions_in edition c ++ later) (rows_then (i + 1) rows after)
 
   -- accepted rows are at most 32
   pub rows_room : (i : ℕ) (rows : List Constraint) → i ≤ row_limit → Judged (rows_questions edition i rows []) Taken → i + length rows ≤ row_limit

@@ -3,13 +3,14 @@ pub use Prim.Native.Nat.{◌%◌, ◌*◌, ◌+◌, ◌-◌, ◌/◌, ◌<◌, �
 pub use borrow.Author.Rules.{rules}
 pub use borrow.Author.Tests.{eq-eqb, eqb-false, eqb-true, le-leb, le-ltb, leb-false, leb-true, lt-leb, lt-ltb, ltb-false, ltb-true, ne_eqb, not-false}
 pub use borrow.Author.Tests.{not-true}
-pub use denote.Ref.{mut_Tells, shr_vals, mut_vals}
 pub use lib.Dec.{eqb, leb, ltb}
-pub use lib.ListN.{get_or-append as List·getD-append, get_or-eq_default as List·getD-eq-default, get_or-map as List·getD-map, drop, drop_of_length-le, get_or, get_or-replicate, get_elem?, length}
+pub use lib.ListN.{get_or-append as List·getD-append, get_or-eq_default as List·getD-eq-default, get_or-map as List·getD-map, drop, drop_of_length-le}
+pub use lib.ListN.{get_or, get_or-replicate, get_elem?, length}
 pub use lib.ListN.{length-append, length-drop, length-map, length-replicate, length-set, length-take, replicate, replicate-append-replicate, set}
 pub use lib.ListN.{take, take-append-drop}
 pub use lib.Seq.{append_snoc, drop-append-add, drop-append-le, drop-append_seam, drop_at, drop-cons, drop-drop, drop-length, drop-nil, drop-set-add}
-pub use lib.Seq.{drop-set-lt, ext_get_or, get_or-append-add, get_or_at, get_or-drop, get_or-set_other, get_or-set_same, get_or-take, length-sets, length-take-le}
+pub use lib.Seq.{drop-set-lt, ext_get_or, get_or-append-add, get_or_at, get_or-drop, get_or-set_other, get_or-set_same, get_or-take, length-sets}
+pub use lib.Seq.{length-take-le}
 pub use lib.Seq.{set_at, set-get_or, set_out, set-set, sets, sets-eq, take-add, take_all, take-append-le, take-append_seam, take_at, take-length}
 pub use lib.Seq.{take-nil, take-set-le, take-set-lt, take-suc, take-suc-set, take-take}
 pub use mathlib.Core.Bool.{Bool, ◌&&◌, ◌||◌, and-eq-true_iff, cond, false, false≢true, not, or-true, true, true≢false}

@@ -231,7 +231,8 @@ run_from (request_before withdraws Taken judged rest) none v small =
 run_from (request_before withdraws (Refused n) judged rest) none v small = request withdraws (Refused n) judged (run_from rest none.1 v small)
 
 -- §1.11: a list of calls and withdrawals none of which was refused with 10 has the answers that it had, and leaves the same steps
-pub run_still : {rows : List Constraint} {end : Left} {requests : List Request} {answers : List Answer} → RunBefore rows none_left requests answers end
+pub run_still : {rows : List Constraint} {end : Left} {requests : List Request} {answers : List Answer}
+    → RunBefore rows none_left requests answers end
     → NoneTooLate answers → Run rows none_left requests answers end
 unfolding clock_from
 run_still before none = run_from before none valid_none (omega arith)

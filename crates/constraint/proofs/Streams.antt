@@ -87,7 +87,11 @@ among_append s (k ∷ a) b = split (eqb s k) (λ x. (x || among s (a ++ b)) ≡ 
 plain_alone : (s k : ℕ) → k < first_coloured → eqb (kind_of s) k ≡ eqb s k
 plain_alone s k h =
     by_cases (dec_lt s first_coloured) (λ plain. rw (plain_kind s plain))
-    (λ late. rw (coloured_kind_lem s (omega arith), ne_eqb (first_coloured + (s - first_coloured) / 8) k (λ e. omega arith), ne_eqb s k (λ e. omega arith)))
+    (λ late. rw (
+      coloured_kind_lem s (omega arith),
+      ne_eqb (first_coloured + (s - first_coloured) / 8) k (λ e. omega arith),
+      ne_eqb s k (λ e. omega arith),
+    ))
 
 -- a coloured kind is that of its eight streams
 coloured_alone : (s k : ℕ) → first_coloured ≤ k → eqb (kind_of s) k ≡ among s (colours k)

@@ -6,7 +6,8 @@ use Rattle.constraint.specs.Constraint.{Constraint, Delay, StrongDelay, Repeat, 
 use Rattle.constraint.specs.Constraint.{Reaction, Repetition, Synchronization, Age, OutputSynchronization, InputSynchronization, Pattern}
 use Rattle.constraint.specs.Constraint.{Arbitrary, Comparison}
 
--- §6.1: tests whether t is lower to upper after s, where upper may be the mark for no limit. It agrees with `Apart` (`answered_true`, `answered_by_lem`)
+-- §6.1: tests whether t is lower to upper after s, where upper may be the mark for no limit. It agrees with `Apart` (`answered_true`,
+-- `answered_by_lem`)
 abbrev pub in_interval : ℕ → ℕ → ℕ → ℕ → Bool
 in_interval lower upper s t = leb (s + lower) t && (eqb upper no_limit || leb t (s + upper))
 

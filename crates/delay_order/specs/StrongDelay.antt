@@ -12,7 +12,8 @@ use Rattle.row_type.specs.declared.Change.{Change}
 
 -- 64 waiting, one more waits: a source, and no target is beyond
 unfoldable pub overflows_strong_delay : Parameters → Registers → ℕ → ℕ → ℕ → Bool
-overflows_strong_delay parameters registers len kind t = cond (eqb kind parameters.first) (cond (ltb len waiting_limit) false (eqb (early_of registers)
+overflows_strong_delay parameters registers len kind t =
+    cond (eqb kind parameters.first) (cond (ltb len waiting_limit) false (eqb (early_of registers)
     0)) false
 
 -- a source: one that waits, or the partner of the target beyond

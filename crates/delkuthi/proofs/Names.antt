@@ -1,11 +1,11 @@
 -- The names of the definitions and laws below this crate that its proofs use, passed on from one place.
 pub use Rattle.constraint.proofs.Judged.{failed, judged_all, judged_no, judged_none, judged_once, judged_parts, judged_yes, never, passed}
 pub use Rattle.constraint.proofs.Library.{Bool, List, List·getD-map, Option, [], ◌%◌, ◌&&◌, ◌*◌, ◌++◌, ◌+◌, ◌-◌, ◌/◌, ◌<◌, ◌↔◌, ◌∙◌, ◌∷◌, ◌≡◌, ◌≤◌}
-pub use Rattle.constraint.proofs.Library.{add-one, ap, append-nil, append_snoc, ap₂, arith, by_cases, cond, dec_lt, drop, drop-cons, drop_of_length-le}
+pub use Rattle.constraint.proofs.Library.{add-one, ap, append-nil, append_snoc, ap₂, arith, by_cases, cond, dec_lt, drop, drop-cons}
+pub use Rattle.constraint.proofs.Library.{drop_of_length-le}
 pub use Rattle.constraint.proofs.Library.{eq-eqb, eqb, eqb-true, false, get_or, get_or-take, inl, inr, le-ltb, length, length-append, length-map}
-pub use Rattle.constraint.proofs.Library.{length-take, length-take-le, lt-ltb, lt_of_le_of_lt, ltb, ltb-false, ltb-true, map, min, ne_eqb, rules}
+pub use Rattle.constraint.proofs.Library.{length-take, length-take-le, lt-ltb, lt_of_le_of_lt, ltb, ltb-true, map, min, ne_eqb}
 pub use Rattle.constraint.proofs.Library.{none, refl, replicate, set, set_at, some, subst, suc, sym, take, take_all, take-suc, true, zero, ℕ}
-pub use Rattle.constraint.proofs.Library.{⊎_elim}
 pub use Rattle.constraint.proofs.{Accepted.rows_room, Accepted.rows_then, Editions.reads_same, History.Valid, History.closed_close, History.count_of}
 pub use Rattle.constraint.proofs.{History.valid_none, Lists.both, Lists.get_d_within, Lists.split, Runs.run_valid, Sanity.run_once}
 pub use Rattle.constraint.specs.Continuation.{Reads, reads_broken, reads_kept, reads_open}
@@ -13,7 +13,8 @@ pub use Rattle.constraint.specs.Joined.{AnswersJoin, in_common, no_first, no_sec
 pub use Rattle.constraint.specs.Page.{PageOf, Pages, name_of, page_of, page_too_short, page_written, page_text, verdict_at}
 pub use Rattle.constraint.specs.Recording.{ReadsInOrder, ReadsRecording, ReadsRecords, RecordAt, RecordingRead, VersionKnown, call_at, no_more}
 pub use Rattle.constraint.specs.Recording.{record_refused, record_taken, recording_of, recording_refused, version_refused, version_taken}
-pub use Rattle.constraint.specs.Report.{EachReads, ReportOfUpTo, Reports, ReportsUpTo, all_taken_lem, closed_text, no_recording, no_table, refused_text}
+pub use Rattle.constraint.specs.Report.{EachReads, ReportOfUpTo, Reports, ReportsUpTo, all_taken_lem, closed_text, no_recording, no_table}
+pub use Rattle.constraint.specs.Report.{refused_text}
 pub use Rattle.constraint.specs.Report.{row_reads}
 pub use Rattle.constraint.specs.Run.{Left, Request, asks, done, step_for}
 pub use Rattle.constraint.specs.Stamps.{AnswersStampsUpTo, RepeatRow, not_asked, stamps_questions}
@@ -48,7 +49,6 @@ pub use Rattle.monitor.specs.{Beside.TakesAll, Beside.all_taken, Machine.no_row,
 pub use Rattle.monitor.specs.{declared.Monitor.Monitor, declared.RowVerdict.RowVerdict, declared.Stepped.Stepped}
 pub use Rattle.page.proofs.{Pages.same_rows, ReadBack.StepFits, ReadBack.equal_pages, ReadBack.page_reads_back}
 pub use Rattle.page.specs.{ReadBack.line_read, Sheet.text_of, Sheet.verdict_for, Sheet.verdicts_of, declared.Summary.Summary}
-pub use Rattle.ring.proofs.Shared.{free}
 pub use Rattle.recording.proofs.Records.{record_judged, record_refused as record-not-there, unclosed_more}
 pub use Rattle.recording.specs.{Record.CallAt, declared.CallRead.CallRead}
 pub use Rattle.row.proofs.{EveryType.every_type_exact, Steps.fits_reads}

@@ -139,7 +139,8 @@ module _ (buffer : List ℕ) (size : ℕ) (call : Call) where
       let small = refusal_write buffer size call (suc n) judged in refused (suc n) judged small.0 small.1
 
   -- there is room where no question says no
-  pub put_room : (n : ℕ) → n ≡ 0 → Judged (write_questions buffer size call) (answer_from n) → place_for size + length (call_bytes call) ≤ length buffer
+  pub put_room : (n : ℕ) → n ≡ 0 → Judged (write_questions buffer size call) (answer_from n)
+      → place_for size + length (call_bytes call) ≤ length buffer
   put_room zero none judged = (judged_form buffer size call judged).1
   put_room (suc n) none judged = never (omega (arith, none))
 

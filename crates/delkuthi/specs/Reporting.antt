@@ -22,7 +22,8 @@ pub data LeftBy (newest : ℕ) (before : Words) (table recording : List ℕ) : R
   unused : (n place : ℕ) → ReadsTableUpTo newest table (table_refused n place)
       → LeftBy newest before table recording (ReadAnswer.Refused n place) before
   used : (rows : List Constraint) (answer : ReadAnswer) (after : Words) → ReadsTableUpTo newest table (table_of rows)
-      → BeginsUpTo newest table before 0 (words_of_lent (fresh_lent rows)) → RecordingLeaves rows recording answer (words_of_lent (fresh_lent rows)) after
+      → BeginsUpTo newest table before 0 (words_of_lent (fresh_lent rows))
+      → RecordingLeaves rows recording answer (words_of_lent (fresh_lent rows)) after
       → LeftBy newest before table recording answer after
 
 -- §7.22: the number and the buffer are the report's, whatever lay in the monitor; and the monitor has been used, however short the buffer is

@@ -6,7 +6,7 @@ ghost use Rattle.in_place.specs.Contract.{Takes, ReadOff};
 ghost use Rattle.fresh.specs.Fresh.{BeginsUpTo, Begins};
 ghost use Rattle.delkuthi.specs.Lent.{KnownWord, WordOfVerdict, StepOfVerdict, NumberOfRows, version, monitor_size};
 
-use in_place::{Words};
+use in_place::Words;
 
 // Returns the version of the library. The host compares it with the version of its header.
 #[unsafe(no_mangle)]

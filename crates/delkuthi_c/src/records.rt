@@ -1,8 +1,7 @@
 // The exported functions of `delkuthi::records`, for C.
-ghost use Rattle.in_place.specs.Contract.{Takes};
 ghost use Rattle.delkuthi.specs.TakingRecords.{NumbersTaken};
 
-use in_place::{Words};
+use in_place::Words;
 
 // Takes the records of a recording, without a close. Returns 0 if all are taken. Otherwise it returns 256 times the place of the first record that
 // is refused plus the number of the refusal; the records before it are taken.

@@ -1,7 +1,7 @@
 // The exported functions of `delkuthi::withdrawing`, for C.
 ghost use Rattle.delkuthi.specs.WithdrawingStep.{WithdrawsStep};
 
-use in_place::{Words};
+use in_place::Words;
 
 // Withdraws the last step if its number is `step`. Returns 0, 21 if no step may be withdrawn, or 26 if the last step has another number.
 #[unsafe(no_mangle)]

@@ -1,9 +1,8 @@
 // The exported functions of `delkuthi::writing`, for C.
-ghost use Rattle.std.specs.Prelude.{◌⊎◌};
 ghost use Rattle.constraint.specs.declared.Call.{Call};
 ghost use Rattle.delkuthi.specs.Writing.{PutsRecord};
 
-use constraint::{Call};
+use constraint::Call;
 
 // Writes an event of a plain kind. Returns 256 times the size of the recording then, or the number of the refusal.
 #[unsafe(no_mangle)]

@@ -23,7 +23,8 @@ most_of f (suc n) = max (most_of f n) (f n)
 -- the words of a colour
 abbrev pub words_at : List ℕ → ℕ → List ℕ
 words_at words d =
-    get_or words (5 * d + 0) 0 ∷ get_or words (5 * d + 1) 0 ∷ get_or words (5 * d + 2) 0 ∷ get_or words (5 * d + 3) 0 ∷ get_or words (5 * d + 4) 0 ∷ []
+    get_or words (5 * d + 0) 0 ∷ get_or words (5 * d + 1) 0 ∷ get_or words (5 * d + 2) 0 ∷ get_or words (5 * d + 3) 0 ∷ get_or words
+    (5 * d + 4) 0 ∷ []
 
 -- the place of a kind among some
 abbrev pub place_in : List ℕ → ℕ → ℕ
@@ -80,5 +81,6 @@ place_among parameters kind = place_in (four_kinds parameters) kind
 unfoldable pub decide_words : (ℕ → ℕ → List ℕ → ℕ) → (ℕ → List ℕ → ℕ → ℕ → Bool) → (ℕ → List ℕ → ℕ → ℕ → ℕ)
     → Parameters → Registers → List ℕ → ℕ → ℕ → Change
 decide_words owed breaks word parameters registers words s t =
-    event_words (owed (kind_count parameters) parameters.upper) (breaks (kind_count parameters)) (word (kind_count parameters)) registers words (s % 8)
+    event_words (owed (kind_count parameters) parameters.upper) (breaks (kind_count parameters)) (word (kind_count parameters)) registers words
+    (s % 8)
     (place_among parameters (coloured_kind s)) t

@@ -109,17 +109,22 @@ all_compute (e ∷ later) = computes e && all_compute later
 all_computed : (all_compute examples ≡ true) × (all_compute unlimited_delays ≡ true) × (all_compute silences ≡ true)
     × (all_compute execution_times ≡ true) × (all_compute repetitions ≡ true) × (all_compute long_clocks ≡ true) × (all_compute reactions ≡ true)
     × (all_compute synchronizations ≡ true)
-unfolding all_compute computes play_of same_answers is_verdict play row_of broken_row applied changed_row row_step row_verdict ring push_ring put_ring put_back
-    moves_by step_place saved_by back_row row_without kept_without monitor_of map_first zip_first any_first taken_call step_of withdrawn withdraw_of verdict_of
-    answered_by decide_delay source_strong_delay target_strong_delay decide_strong_delay decide_repeat later_sporadic decide_sporadic changes_to decide_order
+unfolding all_compute computes play_of same_answers is_verdict play row_of broken_row applied changed_row row_step row_verdict ring push_ring
+    put_ring put_back
+    moves_by step_place saved_by back_row row_without kept_without monitor_of map_first zip_first any_first taken_call step_of withdrawn
+    withdraw_of verdict_of
+    answered_by decide_delay source_strong_delay target_strong_delay decide_strong_delay decide_repeat later_sporadic decide_sporadic changes_to
+    decide_order
     decide_strong_synchronization while_idle while_running while_preempted decide_execution_time due_but decide_reaction placed decide_repetition
     decide_synchronization
 all_computed = (refl, refl, refl, refl, refl, refl, refl, refl)
 
 -- rows with words for each colour
 chains_computed : (all_compute ages ≡ true) × (all_compute output_synchronizations ≡ true) × (all_compute input_synchronizations ≡ true)
-unfolding all_compute computes play_of same_answers is_verdict play row_of broken_row applied changed_row row_step row_verdict ring push_ring put_ring put_back
-    moves_by step_place saved_by back_row row_without kept_without monitor_of map_first zip_first any_first taken_call step_of withdrawn withdraw_of verdict_of
+unfolding all_compute computes play_of same_answers is_verdict play row_of broken_row applied changed_row row_step row_verdict ring push_ring
+    put_ring put_back
+    moves_by step_place saved_by back_row row_without kept_without monitor_of map_first zip_first any_first taken_call step_of withdrawn
+    withdraw_of verdict_of
     due_age decide_age decide_words due_words least_of most_of
 chains_computed = (refl, refl, refl)
 
@@ -195,20 +200,26 @@ synchronizations_hold = all_read synchronizations all_computed.7
 -- ---- rows with offsets and pairs, and a row of no kind
 
 patterns_computed : all_compute patterns ≡ true
-unfolding all_compute computes play_of same_answers is_verdict play row_of broken_row applied changed_row row_step row_verdict ring push_ring put_ring put_back
-    moves_by step_place saved_by back_row row_without kept_without monitor_of map_first zip_first any_first taken_call step_of withdrawn withdraw_of verdict_of
+unfolding all_compute computes play_of same_answers is_verdict play row_of broken_row applied changed_row row_step row_verdict ring push_ring
+    put_ring put_back
+    moves_by step_place saved_by back_row row_without kept_without monitor_of map_first zip_first any_first taken_call step_of withdrawn
+    withdraw_of verdict_of
     decide_pattern later_pattern placed_in decidePatternWords
 patterns_computed = refl
 
 arbitraries_computed : all_compute arbitraries ≡ true
-unfolding all_compute computes play_of same_answers is_verdict play row_of broken_row applied changed_row row_step row_verdict ring push_ring put_ring put_back
-    moves_by step_place saved_by back_row row_without kept_without monitor_of map_first zip_first any_first taken_call step_of withdrawn withdraw_of verdict_of
+unfolding all_compute computes play_of same_answers is_verdict play row_of broken_row applied changed_row row_step row_verdict ring push_ring
+    put_ring put_back
+    moves_by step_place saved_by back_row row_without kept_without monitor_of map_first zip_first any_first taken_call step_of withdrawn
+    withdraw_of verdict_of
     decide_arbitrary late_enough due_after decideArbitraryWords
 arbitraries_computed = refl
 
 comparisons_computed : all_compute comparisons ≡ true
-unfolding all_compute computes play_of same_answers is_verdict play row_of broken_row applied changed_row row_step row_verdict ring push_ring put_ring put_back
-    moves_by step_place saved_by back_row row_without kept_without monitor_of map_first zip_first any_first taken_call step_of withdrawn withdraw_of verdict_of
+unfolding all_compute computes play_of same_answers is_verdict play row_of broken_row applied changed_row row_step row_verdict ring push_ring
+    put_ring put_back
+    moves_by step_place saved_by back_row row_without kept_without monitor_of map_first zip_first any_first taken_call step_of withdrawn
+    withdraw_of verdict_of
 comparisons_computed = refl
 
 -- §5.15
@@ -243,7 +254,8 @@ both_read calls answers first second answered one two =
 
 -- §5.3.5
 pub crowded_silence_holds : CrowdedSilence
-unfolding crowded_play play monitor_of map_first any_first taken_call step_of verdict_of row_of broken_row applied changed_row row_step row_verdict ring
+unfolding crowded_play play monitor_of map_first any_first taken_call step_of verdict_of row_of broken_row applied changed_row row_step row_verdict
+    ring
     push_ring put_ring answered_by decide_delay decide_repeat
 crowded_silence_holds =
     record {

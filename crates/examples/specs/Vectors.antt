@@ -380,7 +380,8 @@ output_synchronizations =
     ∷ reads two_responses (ColouredEvent 48 1 5 ∷ ColouredEvent 48 1 6 ∷ ColouredEvent 49 1 6 ∷ ColouredEvent 50 1 6 ∷ Close ∷ []) Kept
     -- two colours
     ∷ reads two_responses (ColouredEvent 48 1 5 ∷ ColouredEvent 48 2 5 ∷ ColouredEvent 49 1 6 ∷ ColouredEvent 50 2 7 ∷ Tick 8 ∷ []) Open
-    ∷ reads two_responses (ColouredEvent 48 1 5 ∷ ColouredEvent 48 2 5 ∷ ColouredEvent 49 1 6 ∷ ColouredEvent 50 2 7 ∷ Tick 8 ∷ Tick 9 ∷ []) (Broken 6)
+    ∷ reads two_responses (ColouredEvent 48 1 5 ∷ ColouredEvent 48 2 5 ∷ ColouredEvent 49 1 6 ∷ ColouredEvent 50 2 7 ∷ Tick 8 ∷ Tick 9 ∷ [])
+    (Broken 6)
     ∷ reads two_responses
     (ColouredEvent 48 1 5 ∷ ColouredEvent 48 2 5 ∷ ColouredEvent 49 1 6 ∷ ColouredEvent 50 2 7 ∷ ColouredEvent 50 1 8
     ∷ ColouredEvent 49 2 9 ∷ Close ∷ []) Kept

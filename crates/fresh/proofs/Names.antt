@@ -6,7 +6,7 @@ pub use Rattle.constraint.proofs.Library.{eqb, eqb-false, eqb-true, false, get_o
 pub use Rattle.constraint.proofs.Library.{get_or-set_same}
 pub use Rattle.constraint.proofs.Library.{inl, inr, length, length-append, length-drop, length-map, length-replicate, length-set}
 pub use Rattle.constraint.proofs.Library.{length-take-le, ltb}
-pub use Rattle.constraint.proofs.Library.{ltb-false, ltb-true, map, rules, pow-le-pow_right, pow-suc, refl, replicate}
+pub use Rattle.constraint.proofs.Library.{ltb-false, ltb-true, map, pow-le-pow_right, pow-suc, refl, replicate}
 pub use Rattle.constraint.proofs.Library.{replicate-append-replicate, set}
 pub use Rattle.constraint.proofs.Library.{set_at, subst, subst₂, suc, sym, take, take_all, take-append-le, take_at, take-length, take-set-le}
 pub use Rattle.constraint.proofs.Library.{take-set-lt, take-suc-set, true, zero, zero-add, ℕ}

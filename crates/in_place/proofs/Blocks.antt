@@ -1,6 +1,7 @@
 -- The blocks of a lent monitor, read and written one at a time: those below 32 are the rows', and the last three stand behind them.
 use Rattle.in_place.proofs.Names.{RowUndo, Lent, List, Row, Shaped, Words, [], ◌++◌, ◌+◌, ◌<◌, ◌∙◌, ◌∷◌, ◌≡◌, ap, ap₂, arith, get_or, kept_at}
-use Rattle.in_place.proofs.Names.{last_blocks, length, no_row_undo, no_row, refl, row_at, row_blocks, set, suc, suc-add, with_row, words_of_lent, zero}
+use Rattle.in_place.proofs.Names.{last_blocks, length, no_row_undo, no_row, refl, row_at, row_blocks, set, suc, suc-add, with_row, words_of_lent}
+use Rattle.in_place.proofs.Names.{zero}
 use Rattle.in_place.proofs.Names.{zero-add}
 use Rattle.in_place.proofs.Names.{ℕ}
 use Rattle.row.specs.Stored as Stored

@@ -1,6 +1,7 @@
 -- No call and no withdrawal changes the sets of rows by kind: each of their parts stores other words.
 use Rattle.in_place.proofs.Names.{Call, Lent, List, StepInput, Request, [], ◌∙◌, ◌∷◌, ◌≡◌, asks, rows_undone, deadlines_checked, close_at, cond}
-use Rattle.in_place.proofs.Names.{recorded_on, recorded_to, crowded_on, clock_applied, dispatched_to, event_at, held_rows, leaves, left_after, left_on}
+use Rattle.in_place.proofs.Names.{recorded_on, recorded_to, crowded_on, clock_applied, dispatched_to, event_at, held_rows, leaves, left_after}
+use Rattle.in_place.proofs.Names.{left_on}
 use Rattle.in_place.proofs.Names.{ltb}
 use Rattle.in_place.proofs.Names.{next_number, refl, refusal_in, rows_of_kind, split, stream, suc, tick_at, dispatched, withdrawn_lent, withdraws}
 use Rattle.in_place.proofs.Names.{without_asked}

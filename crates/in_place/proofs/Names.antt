@@ -2,8 +2,9 @@
 pub use Rattle.constraint.proofs.Library.{Bool, List, [], ◌%◌, ◌&&◌, ◌*◌, ◌++◌, ◌+◌, ◌-◌, ◌/◌, ◌<◌, ◌^◌, ◌||◌, ◌∙◌, ◌∷◌, ◌≡◌, ◌≤◌, ◌⊎◌, add-one, ap}
 pub use Rattle.constraint.proofs.Library.{append-nil, ap₂}
 pub use Rattle.constraint.proofs.Library.{arith, by_cases, cond, drop, drop-set-add, drop-set-lt, eq-eqb, eqb, false, get_or, get_or-append-add}
-pub use Rattle.constraint.proofs.Library.{get_or-drop, get_or-set_other, get_or-set_same, get_or-take, inl, inr, le-leb, le-ltb, le_of_suc-le-suc, le_trans}
-pub use Rattle.constraint.proofs.Library.{leb, leb-false, length, length-set, lt-leb, lt-ltb, ltb, ltb-false, ltb-true, max, min, ne_eqb, rules}
+pub use Rattle.constraint.proofs.Library.{get_or-drop, get_or-set_other, get_or-set_same, get_or-take, inl, inr, le-leb, le-ltb, le_of_suc-le-suc}
+pub use Rattle.constraint.proofs.Library.{le_trans}
+pub use Rattle.constraint.proofs.Library.{leb, leb-false, length, length-set, lt-leb, lt-ltb, ltb, ltb-false, ltb-true, max, min, ne_eqb}
 pub use Rattle.constraint.proofs.Library.{not, not-suc-le-zero, one-le-pow, pow-suc, refl, set, set-get_or, subst, subst₂, suc, suc-add, sym, take}
 pub use Rattle.constraint.proofs.Library.{take-set-le, take-set-lt}
 pub use Rattle.constraint.proofs.Library.{true, zero, zero-add, ℕ, ℕ_discrete, ⊎_elim}

@@ -4,7 +4,8 @@ use Rattle.in_place.proofs.Names.{RowUndo, Lent, List, Monitor, StepInput, RestZ
 use Rattle.in_place.proofs.Names.{◌∷◌}
 use Rattle.in_place.proofs.Names.{◌≡◌, ap, ap₂, arith, rows_undone, deadlines_checked, by_cases, cond, recorded_on, recorded_to, drop}
 use Rattle.in_place.proofs.Names.{drop-set-add}
-use Rattle.in_place.proofs.Names.{drop-set-lt, clock_applied_at, clock_applied, ended_state, ends_by, event_at, get_or, get_or-append-add, get_or-drop}
+use Rattle.in_place.proofs.Names.{drop-set-lt, clock_applied_at, clock_applied, ended_state, ends_by, event_at, get_or, get_or-append-add}
+use Rattle.in_place.proofs.Names.{get_or-drop}
 use Rattle.in_place.proofs.Names.{get_or-set_other, get_or-set_same, get_or-take, halves, held_rows, kept_at, length, length-set, ltb, ltb-false}
 use Rattle.in_place.proofs.Names.{ltb-true, no_row_undo, no_row, no_words, number_array, number_block, rows_expired, plus, refl, rest_zero_ended}
 use Rattle.in_place.proofs.Names.{rest_zero_event, rest_zero_without, row_at, row_blocks, set, set_of, soonest_all, split, stream_count, subst₂}
@@ -74,7 +75,8 @@ module _ (h : Lent) (s : Shaped h) where
   -- a number of words that are the monitor's
   pub number_at : (m : Words) → m ≡ words_of_lent h → (k : ℕ)
       → get_or (get_or (get_or m 32 []) 0 []) k 0 ≡ get_or (number_array h.monitor h.soonest h.full (take 48 h.monitor.next)) k 0
-  number_at m is k = ap (λ (w : Words). get_or (get_or (get_or w 32 []) 0 []) k 0) is ∙ ap (λ (b : List (List ℕ)). get_or (get_or b 0 []) k 0) numbers_read
+  number_at m is k = ap (λ (w : Words). get_or (get_or (get_or w 32 []) 0 []) k 0) is
+      ∙ ap (λ (b : List (List ℕ)). get_or (get_or b 0 []) k 0) numbers_read
 
   -- the rows of a kind
   pub set_at : (m : Words) → m ≡ words_of_lent h → (kind : ℕ) → get_or (get_or (get_or m 32 []) 1 []) kind 0 ≡ set_of h kind
@@ -124,7 +126,8 @@ module _ (h : Lent) (s : Shaped h) where
       (sym (drop-set-lt 48 h.monitor.next i v l))
 
   pub coloured_written : (i v : ℕ) → i < 128
-      → set (words_of_lent h) 34 (set (get_or (words_of_lent h) 34 []) (i / 64) (set (get_or (get_or (words_of_lent h) 34 []) (i / 64) []) (i % 64) v))
+      → set (words_of_lent h) 34 (set (get_or (words_of_lent h) 34 []) (i / 64) (set (get_or (get_or (words_of_lent h) 34 []) (i / 64) [])
+      (i % 64) v))
       ≡ words_of_lent (with_next h (set h.monitor.next (48 + i) v))
   unfolding words_of_lent
   coloured_written i v l =

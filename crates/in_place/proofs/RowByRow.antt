@@ -24,7 +24,8 @@ module _ (f : Row → Row) where
   -- a row that f leaves as it is
   none_more : (i : ℕ) (rows : List Row) (d : Row) → f (get_or rows i d) ≡ get_or rows i d → map_first i f rows ≡ map_first (suc i) f rows
   none_more i rows d e =
-      let same : f (get_or (map_first i f rows) i d) ≡ get_or (map_first i f rows) i d = ap f (map_behind f rows i d) ∙ e ∙ sym (map_behind f rows i d) in
+      let same : f (get_or (map_first i f rows) i d) ≡ get_or (map_first i f rows) i d = ap f (map_behind f rows i d) ∙ e
+      ∙ sym (map_behind f rows i d) in
       sym (set-get_or (map_first i f rows) i d) ∙ ap (set (map_first i f rows) i) (sym same) ∙ one_more i rows d
 
   pub mapped : (n i : ℕ) (rows : List Row) (d : Row) → i < n → i < length rows → get_or (map_first n f rows) i d ≡ f (get_or rows i d)
@@ -52,18 +53,21 @@ map_twice f g same (suc n) (r ∷ rows) =
 
 module _ (save : Row → RowUndo → RowUndo) where
   zip_more : (rows : List Row) (kept : List RowUndo) (i : ℕ) → i < length rows → i < length kept
-      → set (zip_first i save rows kept) i (save (get_or rows i no_row) (get_or (zip_first i save rows kept) i no_row_undo)) ≡ zip_first (suc i) save rows kept
+      → set (zip_first i save rows kept) i (save (get_or rows i no_row) (get_or (zip_first i save rows kept) i no_row_undo)) ≡ zip_first
+      (suc i) save rows kept
   zip_more rows kept i there too = zip_next save rows kept i no_row no_row_undo there too ∙ ap (λ (n : ℕ). zip_first n save rows kept) (add-one i)
 
   -- one that is left as it is
-  zip_rests : (rows : List Row) (kept : List RowUndo) (i : ℕ) → i < length rows → i < length kept → save (get_or rows i no_row) (get_or kept i no_row_undo)
+  zip_rests : (rows : List Row) (kept : List RowUndo) (i : ℕ) → i < length rows → i < length kept
+      → save (get_or rows i no_row) (get_or kept i no_row_undo)
       ≡ get_or kept i no_row_undo
       → zip_first i save rows kept ≡ zip_first (suc i) save rows kept
   zip_rests rows kept i there too e =
       let behind = zip_behind save rows kept i no_row_undo in
       let same : save (get_or rows i no_row) (get_or (zip_first i save rows kept) i no_row_undo) ≡ get_or (zip_first i save rows kept) i no_row_undo =
       ap (save (get_or rows i no_row)) behind ∙ e ∙ sym behind in
-      sym (set-get_or (zip_first i save rows kept) i no_row_undo) ∙ ap (set (zip_first i save rows kept) i) (sym same) ∙ zip_more rows kept i there too
+      sym (set-get_or (zip_first i save rows kept) i no_row_undo) ∙ ap (set (zip_first i save rows kept) i) (sym same)
+      ∙ zip_more rows kept i there too
 
   pub zipped : (n i : ℕ) (rows : List Row) (kept : List RowUndo) → i < n → i < length rows → i < length kept
       → get_or (zip_first n save rows kept) i no_row_undo ≡ save (get_or rows i no_row) (get_or kept i no_row_undo)
@@ -269,7 +273,8 @@ or_assoc : (a b c : Bool) → (a || (b || c)) ≡ ((a || b) || c)
 or_assoc true b c = refl
 or_assoc false b c = refl
 
-any_suc : (f : Row → Bool) (rows : List Row) (n : ℕ) (d : Row) → n < length rows → any_first (suc n) f rows ≡ (any_first n f rows || f (get_or rows n d))
+any_suc : (f : Row → Bool) (rows : List Row) (n : ℕ) (d : Row) → n < length rows
+    → any_first (suc n) f rows ≡ (any_first n f rows || f (get_or rows n d))
 unfolding any_first
 any_suc f [] n d l = absurd (not-suc-le-zero l)
 any_suc f (r ∷ rows) zero d l = or_none (f r)

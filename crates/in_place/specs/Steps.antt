@@ -1,5 +1,6 @@
 -- What a call and a withdrawal make of a lent monitor, part by part.
-use Rattle.std.specs.Prelude.{ℕ, zero, suc, ◌+◌, ◌-◌, ◌*◌, ◌/◌, ◌^◌, ◌≤◌, ◌<◌, min, ◌≡◌, Bool, true, false, cond, ◌||◌, List, [], ◌∷◌, get_or, set, ltb, leb}
+use Rattle.std.specs.Prelude.{ℕ, zero, suc, ◌+◌, ◌-◌, ◌*◌, ◌/◌, ◌^◌, ◌≤◌, ◌<◌, min, ◌≡◌, Bool, true, false, cond, ◌||◌, List, [], ◌∷◌, get_or, set}
+use Rattle.std.specs.Prelude.{ltb, leb}
 use Rattle.std.specs.Int.Bits.{bit_and, bit_or}
 use Rattle.constraint.specs.Limits.{no_limit, last_count}
 use Rattle.constraint.specs.Streams.{stream}
@@ -17,7 +18,8 @@ use Rattle.questions.specs.Questions.{no_undo, place_in}
 use Rattle.monitor.specs.Machine.{no_row, refusal_for}
 use Rattle.monitor.specs.Parts.{with_rows}
 use Rattle.monitor.specs.declared.Monitor.{Monitor}
-use Rattle.in_place.specs.Layout.{Lent, Words, words_of_lent, Shaped, number_array, rows_in, all_rows, set_of, rows_of_kind, held_rows, row_at, kept_at}
+use Rattle.in_place.specs.Layout.{Lent, Words, words_of_lent, Shaped, number_array, rows_in, all_rows, set_of, rows_of_kind, held_rows, row_at}
+use Rattle.in_place.specs.Layout.{kept_at}
 use Rattle.in_place.specs.Layout.{due_at}
 
 -- ---- parts of the record
@@ -201,7 +203,8 @@ kind_applied kind stream t h = dispatched h (rows_of_kind h kind) (event_at stre
 
 abbrev pub left_on : Lent → ℕ → ℕ → ℕ → Lent
 left_on h kind stream time =
-    dispatched (deadlines_checked (recorded_on (without_asked h kind) stream time) (event_at stream time)) (rows_of_kind h kind) (event_at stream time)
+    dispatched (deadlines_checked (recorded_on (without_asked h kind) stream time) (event_at stream time)) (rows_of_kind h kind)
+    (event_at stream time)
     (next_number h)
 
 -- what the question on words promises: where a row is crowded nothing is stored, else that these rows are looked at again
@@ -214,7 +217,8 @@ pub record AsksOverflow (entry : Words) (kind stream time : ℕ) (crowds : Bool)
 pub record OnStream (entry : Words) (kind stream time number : ℕ) (exit : Words) : Type 0 where
   pub untouched : ¬ (number ≡ 0) → exit ≡ entry
   pub stores : (h : Lent) → entry ≡ words_of_lent h → Shaped h → h.monitor.closed ≡ 0
-      → (number ≡ cond (crowded_on h kind stream time) 12 0) × (exit ≡ words_of_lent (cond (crowded_on h kind stream time) h (left_on h kind stream time)))
+      → (number ≡ cond (crowded_on h kind stream time) 12 0) × (exit ≡ words_of_lent (cond (crowded_on h kind stream time) h
+      (left_on h kind stream time)))
 
 -- ---- a tick and the close that are taken
 

@@ -66,7 +66,8 @@ module _ (s : ℕ) where
   times_first [] second e = e
   times_first (a ∷ first) [] e = refl
   times_first (a ∷ first) (b ∷ second) e =
-      split (leb (time_of a) (time_of b)) (λ x. times s (cond x (a ∷ merged first (b ∷ second)) (b ∷ merged (a ∷ first) second)) ≡ times s (a ∷ first))
+      split (leb (time_of a) (time_of b)) (λ x. times s (cond x (a ∷ merged first (b ∷ second)) (b ∷ merged (a ∷ first) second)) ≡ times s
+      (a ∷ first))
       (λ t. times_append s (a ∷ []) (merged first (b ∷ second)) ∙ ap (λ (l : List ℕ). times s (a ∷ []) ++ l) (times_first first (b ∷ second) e)
       ∙ sym (times_append s (a ∷ []) first))
       (λ t. let none = none_both (times s (b ∷ [])) (times s second) (sym (times_append s (b ∷ []) second) ∙ e) in
@@ -78,7 +79,8 @@ module _ (s : ℕ) where
   times_second [] second e = refl
   times_second (a ∷ first) [] e = e
   times_second (a ∷ first) (b ∷ second) e =
-      split (leb (time_of a) (time_of b)) (λ x. times s (cond x (a ∷ merged first (b ∷ second)) (b ∷ merged (a ∷ first) second)) ≡ times s (b ∷ second))
+      split (leb (time_of a) (time_of b)) (λ x. times s (cond x (a ∷ merged first (b ∷ second)) (b ∷ merged (a ∷ first) second)) ≡ times s
+      (b ∷ second))
       (λ t. let none = none_both (times s (a ∷ [])) (times s first) (sym (times_append s (a ∷ []) first) ∙ e) in
       times_append s (a ∷ []) (merged first (b ∷ second)) ∙ ap (λ (l : List ℕ). l ++ times s (merged first (b ∷ second))) none.0
       ∙ times_second first (b ∷ second) none.1)

@@ -12,15 +12,17 @@ pub use Rattle.constraint.proofs.Library.{leb-false}
 pub use Rattle.constraint.proofs.Library.{◌*◌, div-one, get_or, le-leb, leb-true, length, length-append, length-drop, length-replicate, length-set}
 pub use Rattle.constraint.proofs.Library.{length-sets, length-take-le}
 pub use Rattle.constraint.proofs.Library.{lt-leb, lt-ltb}
-pub use Rattle.constraint.proofs.Library.{ltb, ltb-false, ltb-true, max, ne_eqb, rules, not, not-false, not-true, or-true as either_true, refl}
+pub use Rattle.constraint.proofs.Library.{ltb, ltb-false, ltb-true, max, ne_eqb, not, not-false, not-true, or-true as either_true, refl}
 pub use Rattle.constraint.proofs.Library.{replicate, set, set_out, sets, subst, suc, sym, true, ℕ, ⊎_elim}
 pub use Rattle.constraint.proofs.Lists.{Rising, both, or_false, or-true, rising_across, split}
 pub use Rattle.constraint.proofs.{Runs.accepts_taken, Streams.coloured_kind_lem, Streams.kind_small, Streams.plain_kind, Streams.stream_kind}
 pub use Rattle.constraint.specs.Records.{Decides}
-pub use Rattle.constraint.specs.Joined.{AnswersJoin, FirstOf, coloured_bytes, event_bytes, here, in_common, is_dropped, joined, joined_bytes, kinds_of}
+pub use Rattle.constraint.specs.Joined.{AnswersJoin, FirstOf, coloured_bytes, event_bytes, here, in_common, is_dropped, joined, joined_bytes}
+pub use Rattle.constraint.specs.Joined.{kinds_of}
 pub use Rattle.constraint.specs.Joined.{later, no_first, no_second, of_kinds, recording_bytes, tick_bytes, time_of, too_short, written}
 pub use Rattle.constraint.specs.Limits.{first_coloured, last_colour, last_count, last_kind, last_time, stream_count}
-pub use Rattle.constraint.specs.Recording.{ReadsInOrder, ReadsRecords, RecordingRead, VersionKnown, call_at, call_of, colour_in, no_more, record_taken}
+pub use Rattle.constraint.specs.Recording.{ReadsInOrder, ReadsRecords, RecordingRead, VersionKnown, call_at, call_of, colour_in, no_more}
+pub use Rattle.constraint.specs.Recording.{record_taken}
 pub use Rattle.constraint.specs.Recording.{recording_of, recording_refused, version_refused, version_taken}
 pub use Rattle.constraint.specs.Steps.{Step, among, at, clock, close, event, tick}
 pub use Rattle.constraint.specs.{Bytes.number, Bytes.number_at, Questions.Judged, Run.step_for, Streams.kind_of, Streams.stream, Table.body_at}
@@ -30,7 +32,6 @@ pub use Rattle.join.specs.Walk.{Behind, Found, Marks, Nexts, Passes, Records, Wa
 pub use Rattle.join.specs.Walk.{HeadAt, Keeps, OutgrowsIn, RecordSize, head_bytes, head_for, head_front, is_kept, more, none}
 pub use Rattle.join.specs.{declared.Head.Head, declared.Kept.Kept, declared.Next.Next, declared.Passed.Passed, declared.Walked.Walked}
 pub use Rattle.big_endian.proofs.{Numbers.number_of_bytes, Shifts.shifted_down, Stores.stores_append, Stores.stores_front}
-pub use Rattle.ring.proofs.Shared.{free}
 pub use Rattle.recording.proofs.Records.{record_judged}
 pub use Rattle.recording.specs.{Record.CallAt, Record.ReadsCall, Record.no_record_read, declared.CallRead.CallRead}
 unfoldable pub use Rattle.constraint.specs.Joined.{NoneInCommon, merged, step_bytes, steps_bytes, undropped}

@@ -48,7 +48,8 @@ module _ (version : ℕ) (steps : List Step) where
       go false false j = fits_tick (number_at 8 body 0) j
 
   -- it is no earlier than the clock, and the clock is at its time then
-  in_time : (s : Step) → Fits version s → Accepts steps s → (clock steps ≤ time_of s) × Comes (clock steps) s × (clock (steps ++ (s ∷ [])) ≡ time_of s)
+  in_time : (s : Step) → Fits version s → Accepts steps s → (clock steps ≤ time_of s) × Comes (clock steps) s
+      × (clock (steps ++ (s ∷ [])) ≡ time_of s)
   in_time (event s t) fits a = (a.in_order.0, a.in_order.0, clock_event s t steps)
   in_time (tick t) fits a = (omega (arith, a.later), a.later, clock_tick t steps)
   in_time close fits a = absurd fits

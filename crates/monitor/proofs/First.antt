@@ -12,7 +12,8 @@ module _ (f : Row → Row) where
   map_behind [] (suc n) other = refl
   map_behind (r ∷ rows) (suc n) other = map_behind rows n other
 
-  map_suc : (rows : List Row) (n : ℕ) (other : Row) → n < length rows → set (map_first n f rows) n (f (get_or rows n other)) ≡ map_first (suc n) f rows
+  map_suc : (rows : List Row) (n : ℕ) (other : Row) → n < length rows
+      → set (map_first n f rows) n (f (get_or rows n other)) ≡ map_first (suc n) f rows
   unfolding map_first
   map_suc [] n other h = absurd (omega arith)
   map_suc (r ∷ rows) zero other h = refl

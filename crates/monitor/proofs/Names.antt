@@ -4,9 +4,10 @@ pub use Rattle.constraint.proofs.History.{Accepts, Valid, clock_close, clock_eve
 pub use Rattle.constraint.proofs.History.{past_of, times_close, times_other, times_own, times_tick, valid_more, valid_none}
 pub use Rattle.constraint.proofs.Library.{Bool, Iff·trans, List, Option, [], ◌&&◌, ◌++◌, ◌+◌, ◌-◌, ◌<◌, ◌||◌, ◌↔◌, ◌∙◌, ◌∷◌, ◌≡◌, ◌≤◌, ◌⊎◌, add-one}
 pub use Rattle.constraint.proofs.Library.{ap, append_assoc, append-nil, append_snoc, ap₂, arith, by_cases, cond, dec_lt, drop-cons, eqb, eqb-false}
-pub use Rattle.constraint.proofs.Library.{false, get_or, get_or-replicate, get_or-set_other, get_or-set_same, get_elem?, inl, inr, le-ltb, leb, leb-false}
+pub use Rattle.constraint.proofs.Library.{false, get_or, get_or-replicate, get_or-set_other, get_or-set_same, get_elem?, inl, inr, le-ltb, leb}
+pub use Rattle.constraint.proofs.Library.{leb-false}
 pub use Rattle.constraint.proofs.Library.{leb-true, length, length-append, length-map, length-replicate, length-set, length-take-le, lt-ltb, ltb}
-pub use Rattle.constraint.proofs.Library.{ltb-false, ltb-true, map, map-append, min, rules, none, refl, replicate, set, set_at, set_out, set-set}
+pub use Rattle.constraint.proofs.Library.{ltb-false, ltb-true, map, map-append, min, none, refl, replicate, set, set_at, set_out, set-set}
 pub use Rattle.constraint.proofs.Library.{some, subst, subst⁻¹, subst₂, suc, sym, take, take_all, take-suc, true, zero, ℕ, ℕ_discrete, ⊎_elim}
 pub use Rattle.constraint.proofs.Lists.{both, get_d_within, or_false, or-true, split}
 pub use Rattle.constraint.proofs.Runs.{accepts_taken, broken_exactly, kept_exactly, reads_once, run_valid}
@@ -15,11 +16,13 @@ pub use Rattle.constraint.proofs.{Accepted.rows_room, Judged.judged_once, Judged
 pub use Rattle.constraint.proofs.{Sanity.run_once, Streams.stream_below}
 pub use Rattle.table_row.proofs.Tables.{rows_from, rows_length}
 pub use Rattle.constraint.specs.Continuation.{BrokenAt, EventInOrder, Open, Reads, reads_broken}
-pub use Rattle.constraint.specs.Limits.{first_coloured, last_colour, last_count, last_kind, last_time, no_limit, row_limit, stream_count, waiting_limit}
+pub use Rattle.constraint.specs.Limits.{first_coloured, last_colour, last_count, last_kind, last_time, no_limit, row_limit, stream_count}
+pub use Rattle.constraint.specs.Limits.{waiting_limit}
 pub use Rattle.constraint.specs.Run.{Keeps, Left, Request, Run, asks, done, event_questions, left_by, none_left, request, request_questions, step_for}
 pub use Rattle.constraint.specs.Run.{withdraws}
 pub use Rattle.constraint.specs.Steps.{Step, at, clock, close, event, tick}
-pub use Rattle.constraint.specs.{Accepted.Accepted, Accepted.AcceptedIn, Meets.Meets, Promise.Promise, Promise.ReadsRow, Promise.no_row_lem, Promise.row}
+pub use Rattle.constraint.specs.{Accepted.Accepted, Meets.Meets, Promise.Promise, Promise.ReadsRow, Promise.no_row_lem}
+pub use Rattle.constraint.specs.{Promise.row}
 pub use Rattle.constraint.specs.{Questions.Question, Records.filler, Types.Known, Streams.stream, Waiting.waiting, declared.Answer.Answer}
 pub use Rattle.constraint.specs.{declared.Answer.TheVariants.Refused, declared.Answer.TheVariants.Taken, declared.Call.Call}
 pub use Rattle.constraint.specs.{Constraint.Constraint, Constraint.Delay, Constraint.Repeat}

@@ -419,7 +419,8 @@ module _ (every_type_exact : (c : Constraint) → Sound c → Exact c) where
       (verdict_reads every_type_exact rows end.steps (play step m further).monitor last.part.follows i)
 
   pub stays : (rows : List Constraint) → Accepted rows → (requests : List Request) (calls : List Call) (i n : ℕ)
-      → verdict_of (after rows requests) i ≡ some (Verdict.Broken n) → verdict_of (after rows (requests ++ map asks calls)) i ≡ some (Verdict.Broken n)
+      → verdict_of (after rows requests) i ≡ some (Verdict.Broken n)
+      → verdict_of (after rows (requests ++ map asks calls)) i ≡ some (Verdict.Broken n)
   unfolding after
   stays rows accepted requests calls i n broken =
       let h = held every_type_exact rows accepted requests in

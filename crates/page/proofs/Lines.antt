@@ -1,7 +1,8 @@
 -- A line of the page, column by column: each text fits its columns, whatever the type, the verdict and the step, and none has a blank or a line end
 -- in it.
 use Rattle.constraint.proofs.Library.{Bool, List, [], ◌&&◌, ◌++◌, ◌+◌, ◌-◌, ◌<◌, ◌∙◌, ◌∷◌, ◌≡◌, ◌≤◌, ap, append_assoc, arith, drop, drop_at, false}
-use Rattle.constraint.proofs.Library.{get_or, get_or-replicate, leb, leb-true, length, length-append, length-replicate, ltb, ltb-true, refl, replicate}
+use Rattle.constraint.proofs.Library.{get_or, get_or-replicate, leb, leb-true, length, length-append, length-replicate, ltb, ltb-true, refl}
+use Rattle.constraint.proofs.Library.{replicate}
 use Rattle.constraint.proofs.Library.{replicate-append-replicate, sets, suc, true, zero, ℕ}
 use Rattle.constraint.proofs.Lists.{Each, each_append, each_cons, each_none}
 use Rattle.constraint.specs.Page.{left_in, line_text, name_of, page_line, page_width, right_in, step_text, verdict_word}
@@ -182,7 +183,8 @@ module _ (i type : ℕ) (v : Verdict) (few : i < 1000) where
   line_length = omega (arith, length-append (line_text i type v) (line_end ∷ []), text_length)
 
   pub line_is : page_line i type v ≡ number i ++ gap ++ name type ++ word v ++ step v ++ end
-  line_is = ap (λ (line : List ℕ). line ++ line_end ∷ []) text_is ∙ append_assoc (number i ++ gap ++ name type ++ word v ++ step v) rest (line_end ∷ [])
+  line_is = ap (λ (line : List ℕ). line ++ line_end ∷ []) text_is ∙ append_assoc (number i ++ gap ++ name type ++ word v ++ step v) rest
+      (line_end ∷ [])
 
 -- ---- in a buffer
 

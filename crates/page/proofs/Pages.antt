@@ -41,7 +41,8 @@ lines_append {b = b} x y (one_more {n} line later wide free some) more =
 hyphens_line : Lines 1 hyphens
 unfolding hyphens
 hyphens_line =
-    one_more (replicate page_width 45) [] refl (λ k h e. let same : 45 ≡ line_end = rw (get_or-replicate {A = ℕ} 72 k 45 0 h) at e in omega arith) no_line
+    one_more (replicate page_width 45) [] refl (λ k h e. let same : 45 ≡ line_end = rw (get_or-replicate {A = ℕ} 72 k 45 0 h) at e in
+    omega arith) no_line
 
 heading_lines : (i : ℕ) → Lines (headings i) (heading i)
 heading_lines i = by_heading (λ text. Lines (headings i) text) i (λ e. rw e hyphens_line) (λ e. rw e no_line)
@@ -156,7 +157,10 @@ module _ (types : ℕ → ℕ) (verdicts : ℕ → Verdict) where
   unfolding page_lines
   row_stored l buffer middle last place behind i few place_is so_far headed behind-is put =
       let before : length (page_lines types verdicts i) ≡ place = omega (arith, lines_length i (omega arith)) in
-      let all : length (page_lines types verdicts i ++ heading i) ≡ behind = omega (arith, length-append (page_lines types verdicts i) (heading i)) in (
+      let all : length (page_lines types verdicts i ++ heading i) ≡ behind = omega (
+        arith,
+        length-append (page_lines types verdicts i) (heading i),
+      ) in (
         omega (arith, heading_length i),
         rw (add-one i)
             (stored l 0 behind (page_lines types verdicts i ++ heading i) (line i) middle last all

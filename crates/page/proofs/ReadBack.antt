@@ -92,9 +92,15 @@ module _ (types : ℕ → ℕ) (verdicts : ℕ → Verdict) (n i : ℕ) (few : n
 -- ---- equal pages
 
 -- a page says how many rows it has
-rows_read : (types more : ℕ → ℕ) (verdicts others : ℕ → Verdict) (n k : ℕ) → n ≤ 1000 → k ≤ 1000 → page_text types verdicts n ≡ page_text more others k
+rows_read : (types more : ℕ → ℕ) (verdicts others : ℕ → Verdict) (n k : ℕ) → n ≤ 1000 → k ≤ 1000
+    → page_text types verdicts n ≡ page_text more others k
     → n ≡ k
-rows_read types more verdicts others n k few few' e = omega (arith, ap length e, page_length_lem types verdicts n few, page_length_lem more others k few')
+rows_read types more verdicts others n k few few' e = omega (
+  arith,
+  ap length e,
+  page_length_lem types verdicts n few,
+  page_length_lem more others k few',
+)
 
 -- §7.18: two pages with the same bytes have as many rows, and say the same verdict of each
 pub equal_pages : (types more : ℕ → ℕ) (verdicts others : ℕ → Verdict) (n k : ℕ) → n ≤ 1000 → k ≤ 1000

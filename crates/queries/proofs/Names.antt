@@ -3,7 +3,7 @@ pub use Rattle.constraint.proofs.History.{Accepts, Past, Valid, clock_tick, clos
 pub use Rattle.constraint.proofs.History.{valid_more}
 pub use Rattle.constraint.proofs.Library.{Bool, List, [], ◌%◌, ◌&&◌, ◌*◌, ◌++◌, ◌+◌, ◌-◌, ◌/◌, ◌<◌, ◌^◌, ◌||◌, ◌∙◌, ◌∷◌, ◌≡◌, ◌≤◌, ◌⊎◌, add-one, ap}
 pub use Rattle.constraint.proofs.Library.{ap₂, arith, by_cases, cond, dec_lt, drop, eq-eqb, eqb, false, get_or, get_or-replicate, get_elem?, inl, inr}
-pub use Rattle.constraint.proofs.Library.{le-ltb, leb, length, lt-ltb, ltb, ltb-false, ltb-true, min, rules, none, refl, replicate, some}
+pub use Rattle.constraint.proofs.Library.{le-ltb, leb, length, lt-ltb, ltb, ltb-false, ltb-true, min, none, refl, replicate, some}
 pub use Rattle.constraint.proofs.Library.{subst, subst₂, suc, sym, true, zero, ℕ, ⊎_elim}
 pub use Rattle.constraint.proofs.{Judged.judged_once, Judged.never, Lists.both, Lists.or_false, Lists.split}
 pub use Rattle.constraint.proofs.{Streams.stream_below, Streams.streams, Verdicts.broken_shut, Verdicts.open_of_meets}
@@ -32,7 +32,8 @@ pub use Rattle.queries.specs.Contract.{QueryAnswer, AsksBrokenRows, AsksClock, A
 pub use Rattle.queries.specs.Contract.{AsksSteps}
 pub use Rattle.queries.specs.Contract.{AsksWaiting, BrokenRows, CrowdedRow, Crowds, RowWaiting, crowded, none_crowded, open_row, other_row}
 pub use Rattle.queries.specs.Deadlines.{Deadline, DeadlineWhileOpen, LeastDeadline, RowDeadline, endless, no_row_lem, over, row, running, until}
-pub use Rattle.queries.specs.Numbers.{broken_mark, broken_rows_of, crowded_first, crowded_row_of, deadline_by, deadline_of, there, waiting_by, waiting_of}
+pub use Rattle.queries.specs.Numbers.{broken_mark, broken_rows_of, crowded_first, crowded_row_of, deadline_by, deadline_of, there, waiting_by}
+pub use Rattle.queries.specs.Numbers.{waiting_of}
 pub use Rattle.queries.specs.Zeros.{zero_monitor, zero_row, zeros}
 unfoldable pub use Rattle.constraint.specs.{Questions.Judged, Run.questions, Waiting.waiting}
 unfoldable pub use Rattle.in_place.specs.Layout.{row_blocks, words_of_lent}

@@ -2,7 +2,8 @@
 use Rattle.queries.proofs.Names.{Bool, Call, List, Monitor, Row, [], ◌%◌, ◌&&◌, ◌*◌, ◌+◌, ◌-◌, ◌/◌, ◌<◌, ◌^◌, ◌∙◌, ◌∷◌, ◌≡◌, ◌≤◌, add-one, ap}
 use Rattle.queries.proofs.Names.{ap₂, arith, bit, broken_mark, broken_marks, by_cases, cond, crowded_known, crowded_by, crowded_first, deadline_of}
 use Rattle.queries.proofs.Names.{dec_lt, drop, false, first_marked, get_or, held_rows, le-ltb, least_of, length, lt-ltb, ltb, mark, min, next_step}
-use Rattle.queries.proofs.Names.{no_limit, no_row, step_input_of, refl, row_at, row_limit, row_step, step_crowds, suc, sym, there, true, waiting_limit}
+use Rattle.queries.proofs.Names.{no_limit, no_row, step_input_of, refl, row_at, row_limit, row_step, step_crowds, suc, sym, there, true}
+use Rattle.queries.proofs.Names.{waiting_limit}
 use Rattle.queries.proofs.Names.{zero, ℕ}
 
 pub is_there : (i len : ℕ) → i < min len row_limit → there i len ≡ true
@@ -120,7 +121,8 @@ module _ (f : Row → Bool) where
   first_none n i rows l = let none : n - i ≡ 0 = omega arith in rw none
 
 -- the same marks on all rows that are there
-first_same : (f g : Row → Bool) (n k : ℕ) (rows : List Row) → ((i : ℕ) → i < min n (length rows) → f (get_or rows i no_row) ≡ g (get_or rows i no_row))
+first_same : (f g : Row → Bool) (n k : ℕ) (rows : List Row) → ((i : ℕ) → i < min n (length rows)
+    → f (get_or rows i no_row) ≡ g (get_or rows i no_row))
     → first_marked (min n (length rows)) f k rows ≡ first_marked n g k rows
 unfolding first_marked
 first_same f g zero k rows same = let none : min 0 (length rows) ≡ 0 = omega arith in ap (λ (n : ℕ). first_marked n f k rows) none

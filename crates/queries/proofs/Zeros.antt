@@ -22,7 +22,8 @@ shaped =
       kept_there = refl;
       next_there = refl;
       lists_there = refl;
-      rest_zero = λ i l. subst₂ RestZero (sym (get_or-replicate row_limit i zero_row no_row l)) (sym (get_or-replicate row_limit i no_row_undo no_row_undo l))
+      rest_zero = λ i l. subst₂ RestZero (sym (get_or-replicate row_limit i zero_row no_row l)) (sym
+          (get_or-replicate row_limit i no_row_undo no_row_undo l))
           (record { now_unused = refl; past_unused = refl; past_open = refl });
     }
 

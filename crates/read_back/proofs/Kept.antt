@@ -20,11 +20,13 @@ use Rattle.row_type.specs.declared.{Change.Change, Parameters.Parameters, Regist
 use Rattle.patterns.specs.Pattern as P
 use Rattle.repeat_burst.specs.Arbitrary as A
 use Rattle.row.proofs.EveryType.{every_type_exact}
-use Rattle.row.specs.Machine.{applied, broken_by_event, broken_row, changed_row, concerns, crowding, decide, items_of, machine_of, row_of, row_step, stays}
+use Rattle.row.specs.Machine.{applied, broken_by_event, broken_row, changed_row, concerns, crowding, decide, items_of, machine_of, row_of, row_step}
+use Rattle.row.specs.Machine.{stays}
 use Rattle.row.specs.declared.{Row.Row, RowStep.RowStep, StepInput.StepInput}
 use Rattle.monitor.proofs.Withdrawing.{struck}
 use Rattle.monitor.specs.Contract.{after, step}
-use Rattle.monitor.specs.Machine.{bare, crowds, map_first, monitor_of, next_step, no_row, refusal_for, refuses, step_input_of, step_of, taken_call, takes}
+use Rattle.monitor.specs.Machine.{bare, crowds, map_first, monitor_of, next_step, no_row, refusal_for, refuses, step_input_of, step_of, taken_call}
+use Rattle.monitor.specs.Machine.{takes}
 use Rattle.monitor.specs.declared.{Monitor.Monitor}
 use Rattle.read_back.specs.Back.{constant_limit}
 use Rattle.read_back.proofs.Inverse.{Constant}
@@ -201,7 +203,8 @@ rows_step [] rows o number above kept = tt
 rows_step (c ∷ cs) [] o number above kept = absurd kept
 rows_step (c ∷ cs) (r ∷ rows) o number above kept = (kept_step c r kept.0 o number above, rows_step cs rows o number above kept.1)
 
-rows_at : (cs : List Constraint) (rows : List Row) → KeptRows cs rows → (i : ℕ) (c : Constraint) → get_elem? cs i ≡ some c → Kept c (get_or rows i no_row)
+rows_at : (cs : List Constraint) (rows : List Row) → KeptRows cs rows → (i : ℕ) (c : Constraint) → get_elem? cs i ≡ some c
+    → Kept c (get_or rows i no_row)
 rows_at [] rows kept i c there = never (cc)
 rows_at (d ∷ cs) [] kept i c there = absurd kept
 rows_at (d ∷ cs) (r ∷ rows) kept zero c there = let same : d ≡ c = cc in subst (λ (x : Constraint). Kept x r) same kept.0

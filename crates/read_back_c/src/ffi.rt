@@ -2,7 +2,7 @@
 ghost use Rattle.in_place.specs.Contract.{ReadOff};
 ghost use Rattle.read_back.specs.Contract.{TableRowBack, MonitorRowBack, GivesSome};
 
-use in_place::{Words};
+use in_place::Words;
 
 // Copies the body of a row of a table to a buffer. Returns 256 times the length of the body. On a refusal it returns 256 times the place of the
 // table's refusal plus its number, or 15 or 16 alone, and leaves the buffer as it was.

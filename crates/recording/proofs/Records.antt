@@ -4,7 +4,8 @@ use Rattle.constraint.proofs.Library.{length-drop, length-take-le, refl, subst, 
 use Rattle.constraint.proofs.{History.closed_event, History.closed_tick, Judged.judged_no, Judged.judged_yes}
 use Rattle.constraint.specs.Recording.{RecordAt, call_at, call_of, colour_in, record_questions}
 use Rattle.constraint.specs.Steps.{Step, at, closed}
-use Rattle.constraint.specs.{Bytes.number, Bytes.number_at, Questions.Judged, Run.questions, Run.step_for, Streams.stream, Table.body_at, Table.length_at}
+use Rattle.constraint.specs.{Bytes.number, Bytes.number_at, Questions.Judged, Run.questions, Run.step_for, Streams.stream, Table.body_at}
+use Rattle.constraint.specs.{Table.length_at}
 use Rattle.constraint.specs.{declared.Answer.Answer, declared.Answer.TheVariants.Refused, declared.Call.Call, Constraint.Constraint}
 use Rattle.recording.specs.Record.{CallAt, ReadsCall, ReadsRecord, TickAt, no_record_read}
 
@@ -104,7 +105,8 @@ unfolding record_questions
 record_refused rows steps bytes place not_there = judged_no 14 (RecordAt bytes place) (questions rows steps (call_at bytes place)) not_there
 
 -- no record is a close
-pub unclosed_more : (version : ℕ) (body : List ℕ) (steps : List Step) → closed steps ≡ false → closed (steps ++ (step_for (call_of version body) ∷ []))
+pub unclosed_more : (version : ℕ) (body : List ℕ) (steps : List Step) → closed steps ≡ false
+    → closed (steps ++ (step_for (call_of version body) ∷ []))
     ≡ false
 unclosed_more version body steps before = go (eqb (length body) 9) (eqb (length body) 10)
   where

@@ -1,7 +1,8 @@
 -- Laws of `ring`, the times of a list of 64 from a place on, and of what an edit makes of a ring.
 use Rattle.ring.proofs.Names.{Bool, Drop, Edit, List, Push, PushTwo, Ring, Store, [], ◌%◌, ◌++◌, ◌+◌, ◌-◌, ◌<◌, ◌∙◌, ◌∷◌, ◌≡◌, ◌≢◌, ◌≤◌, ◌⊎◌}
 use Rattle.ring.proofs.Names.{add_assoc, add-one, add-suc, add-zero, ap, ap₂, append_assoc, arith, by_cases, changed, cond, drop, drop-cons}
-use Rattle.ring.proofs.Names.{drop_of_length-le, drop_ring, edit_place, edited, eqb, eqb-true, ext_get_or, false, get_or, get_or-set_other, get_or-take}
+use Rattle.ring.proofs.Names.{drop_of_length-le, drop_ring, edit_place, edited, eqb, eqb-true, ext_get_or, false, get_or, get_or-set_other}
+use Rattle.ring.proofs.Names.{get_or-take}
 use Rattle.ring.proofs.Names.{get_or-set_same, head_after, inl, inr, items, le-ltb, length, length-append, length-drop, length-set}
 use Rattle.ring.proofs.Names.{length-take-le, lt-ltb, ltb}
 use Rattle.ring.proofs.Names.{ltb-false, ltb-true, push_ring, put_back, put_ring, refl, ring, ring_of, ring_place, second_at, set}
@@ -211,7 +212,8 @@ near_set p a b i word at n =
 -- with the words of the one stored into the other they are the same
 both_back : (p : ℕ) (a b : List ℕ) → length b ≡ 64 → Near p a b → set (set a (ring_place p 0) (time_at b p 0)) (ring_place p 1) (time_at b p 1) ≡ b
 both_back p a b size n =
-    ext_get_or 0 _ b (length-set once (ring_place p 1) (time_at b p 1) ∙ length-set a (ring_place p 0) (time_at b p 0) ∙ n.size) (λ j small. by_place j)
+    ext_get_or 0 _ b (length-set once (ring_place p 1) (time_at b p 1) ∙ length-set a (ring_place p 0) (time_at b p 0)
+    ∙ n.size) (λ j small. by_place j)
   where
     once : List ℕ
     once = set a (ring_place p 0) (time_at b p 0)
@@ -223,7 +225,11 @@ both_back p a b size n =
         (get_or-set_same once (ring_place p 1) (time_at b p 1) 0 (omega (arith, length-set a (ring_place p 0) (time_at b p 0), n.size, size))))
         (λ far. get_or-set_other once (ring_place p 1) j (time_at b p 1) 0 far
         ∙ by_cases (ℕ_discrete j (ring_place p 0))
-        (λ e. subst (λ (i : ℕ). get_or once i 0 ≡ get_or b i 0) (sym e) (get_or-set_same a (ring_place p 0) (time_at b p 0) 0 (omega (arith, n.size, size))))
+        (λ e. subst (λ (i : ℕ). get_or once i 0 ≡ get_or b i 0) (sym e) (get_or-set_same a (ring_place p 0) (time_at b p 0) 0 (omega (
+          arith,
+          n.size,
+          size,
+        ))))
         (λ off. get_or-set_other a (ring_place p 0) j (time_at b p 0) 0 off ∙ n.rest j off far))
 
 -- so with one word, where it is the only one that differs: the old word stored over another is the old list

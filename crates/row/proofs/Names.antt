@@ -3,7 +3,7 @@ pub use Rattle.constraint.proofs.History.{Accepts, Past, Valid, clock_close, clo
 pub use Rattle.constraint.proofs.History.{own_close, own_other, own_tick, past_of, valid_more}
 pub use Rattle.constraint.proofs.Library.{Bool, List, List·getD-eq-default, [], ◌&&◌, ◌++◌, ◌+◌, ◌<◌, ◌||◌, ◌∙◌, ◌∷◌, ◌≡◌, ◌≢◌, ◌≤◌, ◌⊎◌, ap}
 pub use Rattle.constraint.proofs.Library.{append-nil, arith, cond, drop, eq-eqb, eqb, eqb-false, eqb-true, false, get_or, inl, inr, le-ltb, length}
-pub use Rattle.constraint.proofs.Library.{length-append, length-drop, length-set, lt-ltb, ltb, ltb-false, ltb-true, ne_eqb, rules, not-false}
+pub use Rattle.constraint.proofs.Library.{length-append, length-drop, length-set, lt-ltb, ltb, ltb-false, ltb-true, ne_eqb, not-false}
 pub use Rattle.constraint.proofs.Library.{length-replicate, length-take-le, not-true, refl, replicate, set, subst, suc, sym, take, true, zero, ℕ}
 pub use Rattle.constraint.proofs.Library.{◌%◌, min, ⊎_elim}
 pub use Rattle.constraint.proofs.{Continuations.continues_closed, Continuations.meets_same, Continuations.open_at_tick, Lists.both, Lists.split}
@@ -16,11 +16,12 @@ pub use Rattle.constraint.specs.{Accepted.kinds, Limits.last_time, Limits.stream
 pub use Rattle.constraint.specs.{Streams.kind_of, Types.Known, Types.fields_of, Waiting.waiting, Constraint.Constraint, declared.Verdict.Verdict}
 pub use Rattle.row_type.proofs.FitsRow.{FitsRow, kind_overflows, fits_none, neither, words_few}
 pub use Rattle.row_type.proofs.{FieldNumbers.kinds_are, SeveralKinds.kinds_small}
-pub use Rattle.row_type.specs.{Machine.Machine, Machine.no_machine, Parts.no_registers, Parameters.no_kind, Parameters.parameters_of, Parameters.waits_in}
+pub use Rattle.row_type.specs.{Machine.Machine, Machine.no_machine, Parts.no_registers, Parameters.no_kind, Parameters.parameters_of}
+pub use Rattle.row_type.specs.{Parameters.waits_in}
 pub use Rattle.row_type.specs.Parameters.{constants_of, start_ring, start_word_count, start_words}
 pub use Rattle.row_type.specs.{Words.Applies, Words.asked_of}
 pub use Rattle.row_type.specs.{Words.parameters_at, declared.Change.Change, declared.Parameters.Parameters, declared.State.State}
-pub use Rattle.ring.proofs.{Laws.edit_back, Laws.items_edited, Laws.ring_length, Laws.ring_take, Laws.same_back, Laws.times_edited, Shared.free}
+pub use Rattle.ring.proofs.{Laws.edit_back, Laws.items_edited, Laws.ring_length, Laws.ring_take, Laws.same_back, Laws.times_edited}
 pub use Rattle.ring.specs.Ring.{Ring, changed, drop_ring, edit_place, edited, items, put_back, ring, ring_of, ring_place, second_at, time_at}
 pub use Rattle.ring.specs.declared.Edit.{Edit}
 pub use Rattle.ring.specs.declared.Edit.TheVariants.{Drop, Push, PushTwo, Store}

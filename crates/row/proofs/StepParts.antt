@@ -126,7 +126,10 @@ put_few i word q few =
 edited_few : (edit : Edit) (q : Ring) → q.len ≤ 64 → (edited edit q).len ≤ 64
 edited_few (Drop k) q few = omega (arith, few)
 edited_few (Push k word) q few = pushed_few word (drop_ring k q) (omega (arith, few))
-edited_few (PushTwo k first second) q few = pushed_few second (push_ring first (drop_ring k q)) (pushed_few first (drop_ring k q) (omega (arith, few)))
+edited_few (PushTwo k first second) q few = pushed_few second (push_ring first (drop_ring k q)) (pushed_few first (drop_ring k q) (omega (
+  arith,
+  few,
+)))
 edited_few (Store place first second) q few = put_few (place + 1) second (put_ring place first q) (put_few place first q few)
 
 few_by : (b : Bool) (x y : RowStep) → x.row.now.len ≤ 64 → y.row.now.len ≤ 64 → (cond {A = RowStep} b x y).row.now.len ≤ 64

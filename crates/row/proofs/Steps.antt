@@ -96,7 +96,11 @@ fits_start c exact =
         (omega (arith, length-append (constants_of c) (replicate 64 0), length-replicate {A = ℕ} 64 0))
 
     from_start : ring (start_ring c) 0 (start_word_count (parameters_of c)) ≡ start_words c
-    from_start = let few = words_few (parameters_of c) in ring_take (start_ring c) (start_word_count (parameters_of c)) few (omega (arith, few, whole))
+    from_start = let few = words_few (parameters_of c) in ring_take (start_ring c) (start_word_count (parameters_of c)) few (omega (
+      arith,
+      few,
+      whole,
+    ))
 
 -- a step keeps its number and what is before it
 at_later : {steps : List Step} (s : Step) (n : ℕ) (before : List Step) (x : Step) → StepAt steps n before x → StepAt (steps ++ (s ∷ [])) n before x
@@ -274,7 +278,8 @@ module _ (c : Constraint) (exact : Exact c) (steps : List Step) (valid : Valid s
             (rw (clock_event k t steps) (subst (λ (n : ℕ). t ≤ n) goes.due_is goes.in_time))
 
         -- §6.5, §8.12
-        crowded_after : waiting_limit < length kept_times → Open c (steps ++ (event k t ∷ [])) × (waiting_limit < waiting c (steps ++ (event k t ∷ [])))
+        crowded_after : waiting_limit < length kept_times → Open c (steps ++ (event k t ∷ []))
+            × (waiting_limit < waiting c (steps ++ (event k t ∷ [])))
         crowded_after many = (
           open_after,
           waits_many (waits_in (parameters_of c).tag) many (exact.waits (past_with (event k t) accepts) goes.live),
@@ -444,7 +449,8 @@ module _ (c : Constraint) (exact : Exact c) (steps : List Step) (valid : Valid s
             → After c exact (steps ++ (s ∷ [])) (row_step (row_from (parameters_of c) words was) (seen steps s) (length steps + 1)).crowded
             (row_step (row_from (parameters_of c) words was) (seen steps s) (length steps + 1)).row
         by_step (event k t) a words was whole unbroken g = event_going k t a words was whole g sound unbroken
-        by_step (tick t) a words was whole unbroken g = rw (no_event_lem words was t false (length steps + 1) unbroken) (tick_going t a words was whole g)
+        by_step (tick t) a words was whole unbroken g =
+            rw (no_event_lem words was t false (length steps + 1) unbroken) (tick_going t a words was whole g)
         by_step close a words was whole unbroken g =
             rw (no_event_lem words was (clock steps) true (length steps + 1) unbroken) (close_going a.not_closed words was whole g)
 

@@ -2,7 +2,8 @@
 -- that it keeps, and a row that breaks or begins has none.
 use Rattle.row.proofs.Names.{RowUndo, Constraint, StepInput, RestZero, Row, State, Unused, ◌∙◌, ◌≡◌, ap, applied, undo_of_event, applied_keeps}
 use Rattle.row.proofs.Names.{applied_row, arith, back_row, both, broken_by_event, broken_state, change_by, concerns, cond, ended_row, ended_saves}
-use Rattle.row.proofs.Names.{ended_state, ends_by, eqb, eqb-true, event_keeps, event_row, event_saves, false, items_of, kept_at_place, saved_registers}
+use Rattle.row.proofs.Names.{ended_state, ends_by, eqb, eqb-true, event_keeps, event_row, event_saves, false, items_of, kept_at_place}
+use Rattle.row.proofs.Names.{saved_registers}
 use Rattle.row.proofs.Names.{kept_without, ltb, ltb-false, no_row_undo, no_registers, refl, row_from, row_of, row_without, parameters_of, saved_at}
 use Rattle.row.proofs.Names.{second_at}
 use Rattle.row.proofs.Names.{split, sym, time_at, true, with_change, writes_at, ℕ}

@@ -27,7 +27,15 @@ words_of_row r b = row_as_words r.parameters r.times r.now (undo_record_of b)
 -- what a row keeps, read off its numbers
 abbrev pub state_at : List ℕ → State
 state_at w =
-    record { registers = registers_at w; head = get_or w 15 0; len = get_or w 16 0; due = get_or w 17 0; kept = get_or w 18 0; broken = get_or w 19 0 }
+    record {
+      registers = registers_at w;
+      head = get_or w 15 0;
+      len = get_or w 16 0;
+      due = get_or w 17 0;
+      kept = get_or w 18 0;
+      broken =
+          get_or w 19 0;
+    }
 
 -- ---- what an event makes of a row that it concerns: a broken one stays as it is
 

@@ -11,7 +11,8 @@ use Rattle.table_row.specs.Records.{byte_role, field_at, fields_as, fields_from,
 use Rattle.table_row.proofs.ByType.{CountIs, EachThen, each_then}
 use Rattle.table_row.proofs.FieldByField.{fields_next}
 use Rattle.table_row.proofs.Standing.{reads, type_listed}
-use Rattle.row_type.specs.Parameters.{first_constant, no_fields, parameters_of, start_ring, used_from, with_field, with_fields, with_kind, with_limits}
+use Rattle.row_type.specs.Parameters.{first_constant, no_fields, parameters_of, start_ring, used_from, with_field, with_fields, with_kind}
+use Rattle.row_type.specs.Parameters.{with_limits}
 use Rattle.row_type.specs.declared.Parameters.{Parameters}
 
 -- ---- one field

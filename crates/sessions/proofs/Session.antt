@@ -34,7 +34,8 @@ all_from [] done e = e
 all_from (c ∷ calls) (request {left = left} _ _ judged rest) e = all_from calls rest (all_more left.steps (step_for c))
 
 reached_all : {end : Memory} (rows : List Constraint) (calls : List Call) (steps : List Step) → Accepted rows → Indexes (fresh_lent rows)
-    → TakesAll rows calls steps → Host (words_of_lent (fresh_lent rows)) (map asks calls) (none_refused calls) end → Reached end rows (S.all_left steps)
+    → TakesAll rows calls steps → Host (words_of_lent (fresh_lent rows)) (map asks calls) (none_refused calls) end
+    → Reached end rows (S.all_left steps)
 reached_all {end} rows calls steps accepted indexes taken host =
     subst (Reached end rows) (all_from calls taken.1 refl) (reached_taken rows calls steps accepted indexes taken host)
 

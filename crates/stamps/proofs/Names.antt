@@ -6,8 +6,8 @@ pub use Rattle.constraint.proofs.History.{Accepts, Valid, clock_close, closed_cl
 pub use Rattle.constraint.proofs.History.{valid_more, valid_none}
 pub use Rattle.constraint.proofs.Judged.{failed, judged_all, judged_no, judged_none, judged_once, judged_yes, never, passed}
 pub use Rattle.constraint.proofs.Library.{Bool, List, [], ◌&&◌, ◌++◌, ◌+◌, ◌-◌, ◌<◌, ◌∙◌, ◌∷◌, ◌≡◌, ◌≤◌, ap, arith, by_cases, cond, dec_lt, eq-eqb}
-pub use Rattle.constraint.proofs.Library.{eqb, eqb-false, eqb-true, ext_get_or, false, get_or-take, get_elem?, inl, inr, leb, length, length-append}
-pub use Rattle.constraint.proofs.Library.{length-take, max, min, ne_eqb, not, rules, refl, some, subst, suc, sym, take, true, zero, ℕ, ⊎_elim}
+pub use Rattle.constraint.proofs.Library.{eqb, eqb-false, eqb-true, ext_get_or, false, get_or-take, get_elem?, inl, inr, length, length-append}
+pub use Rattle.constraint.proofs.Library.{length-take, max, min, ne_eqb, not, refl, some, subst, suc, sym, take, true, zero, ℕ, ⊎_elim}
 pub use Rattle.constraint.proofs.Lists.{Each, at_left, at_next, both, rising_at, split}
 pub use Rattle.constraint.proofs.{Runs.accepts_taken, Runs.kept_exactly}
 pub use Rattle.constraint.specs.Recording.{ReadsInOrder, ReadsRecording, ReadsRecords, RecordAt, RecordingRead, VersionKnown, call_at, no_more}
@@ -17,7 +17,7 @@ pub use Rattle.constraint.specs.Stamps.{none_meets, not_asked, reads, stamps_que
 pub use Rattle.constraint.specs.Steps.{Step, at, clock, close, event, tick}
 pub use Rattle.constraint.specs.{Continuation.Reads, Continuation.reads_open, Limits.first_coloured, Limits.last_time, Limits.no_limit, Meets.Apart}
 pub use Rattle.constraint.specs.{Meets.NotLater, Questions.Judged, Run.event_questions, Run.step_for, Types.lengths, Types.type_of}
-pub use Rattle.constraint.specs.{Streams.stream, Table.ReadsTableUpTo, Table.table_of, Table.table_refused, declared.Answer.TheVariants.Refused}
+pub use Rattle.constraint.specs.{Streams.stream, Table.ReadsTableUpTo, Table.table_of, declared.Answer.TheVariants.Refused}
 pub use Rattle.constraint.specs.{declared.Answer.TheVariants.Taken, declared.Call.Call, Constraint.Constraint}
 pub use Rattle.constraint.specs.{Constraint.Repeat, Constraint.Sporadic}
 pub use Rattle.constraint.specs.{declared.StampedAnswer.StampedAnswer, declared.StampedVerdict.StampedVerdict}
@@ -29,14 +29,13 @@ pub use Rattle.monitor.proofs.{Demand.accepted_sound, FittingRows.sound_at}
 pub use Rattle.hidden_points.proofs.Laws.Points.{points_first, points_more}
 pub use Rattle.hidden_points.proofs.Laws.Sporadic.{Places, PointsOf, first_places, later_place, later_places}
 pub use Rattle.hidden_points.specs.Sporadic.{highest, stride}
-pub use Rattle.ring.proofs.Shared.{free}
 pub use Rattle.row.proofs.Exact.{Sound}
 pub use Rattle.stamps.specs.Machine.{Finds, PassesStamps, call_after, first_stamp, next_high, next_low, no_stamps}
 pub use Rattle.stamps.specs.{declared.LateRow.LateRow, declared.Passed.Passed, declared.FoundRow.FoundRow, declared.Stamps.Stamps}
 pub use Rattle.table_row.proofs.ByType.{no_type, says}
 pub use Rattle.table_row.specs.Records.{row_in}
 pub use Rattle.table.proofs.{AcceptedRows.read_accepted, ReadUnique.reads_once}
-pub use Rattle.table.specs.{Scan.Counted, Scan.RowIs}
+pub use Rattle.table.specs.{Scan.RowIs}
 unfoldable pub use Rattle.constraint.specs.{Accepted.InRange, Accepted.KindsSuit, Meets.Meets, Meets.MeetsRepeat, Meets.SpansApart}
 unfoldable pub use Rattle.constraint.specs.{Recording.record_questions, Run.Room, Run.questions, Steps.times}
 unfoldable pub use Rattle.table_row.specs.Records.{row_read}

@@ -8,7 +8,8 @@ use Rattle.stamps.proofs.Names.{up_to_end, up_to_more, up_to_refused, up_to_star
 use Rattle.stamps.proofs.Laws.{Keeps, keeps_call, keeps_none, reads_now}
 
 -- a record that is taken: its own question, and those of its step
-pub record_accepts : (bytes : List ℕ) (rows : List Constraint) (steps : List Step) (place : ℕ) → Judged (record_questions rows steps bytes place) Taken
+pub record_accepts : (bytes : List ℕ) (rows : List Constraint) (steps : List Step) (place : ℕ)
+    → Judged (record_questions rows steps bytes place) Taken
     → RecordAt bytes place × Judged (questions rows steps (call_at bytes place)) Taken
 unfolding record_questions
 record_accepts bytes rows steps place judged = judged_all 14 _ _ judged

@@ -2,7 +2,8 @@
 -- as nothing more is refused; where it meets 12 or the end, none does.
 use Rattle.constraint.proofs.History.{Accepts, Valid, closed_event, closed_tick}
 use Rattle.constraint.proofs.Library.{List, [], ◌++◌, ◌+◌, ◌-◌, ◌<◌, ◌∙◌, ◌∷◌, ◌≡◌, ◌≤◌, ap, arith, by_cases, cond, dec_lt, drop, eqb, false, get_or}
-use Rattle.constraint.proofs.Library.{get_or-drop, get_or-take, le-leb, length, length-drop, length-take, length-take-le, lt-leb, refl, subst, suc, sym}
+use Rattle.constraint.proofs.Library.{get_or-drop, get_or-take, le-leb, length, length-drop, length-take, length-take-le, lt-leb, refl, subst, suc}
+use Rattle.constraint.proofs.Library.{sym}
 use Rattle.constraint.proofs.Library.{take, take-take, true, zero, ℕ, ⊎_elim}
 use Rattle.constraint.proofs.{Judged.never, LastQuestion.judged_last, Lists.split, Runs.accepts_taken, Verdicts.broken_shut, Verdicts.open_prefix}
 use Rattle.constraint.specs.Continuation.{Open, Reads, reads_broken, reads_kept, reads_open}
@@ -20,7 +21,8 @@ use Rattle.stretch.specs.Machine.{Kept, Needs, seen_as, step_as}
 -- ---- a record as two numbers
 
 pub seen_as_lem : (past : List Step) (s t : ℕ) → seen past (step_as s t) ≡ seen_as s t
-seen_as_lem past s t = split (eqb s stream_count) (λ x. seen past (cond x (tick t) (event s t)) ≡ cond x (tick_at t) (event_at s t)) (λ e. refl) (λ e. refl)
+seen_as_lem past s t =
+    split (eqb s stream_count) (λ x. seen past (cond x (tick t) (event s t)) ≡ cond x (tick_at t) (event_at s t)) (λ e. refl) (λ e. refl)
 
 closed_as : (past : List Step) (s t : ℕ) → closed (past ++ (step_as s t ∷ [])) ≡ closed past
 closed_as past s t =

@@ -1,7 +1,8 @@
 -- A later start has an earlier clock and fewer times, so a record that was taken in its place is in order behind a later start too: only
 -- 12 can refuse it there.
 use Rattle.constraint.proofs.History.{Valid, clock_append, clock_later, times_append, valid_more, valid_none}
-use Rattle.constraint.proofs.Library.{List, List·getD-append, [], ◌++◌, ◌+◌, ◌<◌, ◌∙◌, ◌∷◌, ◌≡◌, ◌≤◌, ap, arith, by_cases, dec_lt, drop, false, get_or}
+use Rattle.constraint.proofs.Library.{List, List·getD-append, [], ◌++◌, ◌+◌, ◌<◌, ◌∙◌, ◌∷◌, ◌≡◌, ◌≤◌, ap, arith, by_cases, dec_lt, drop, false}
+use Rattle.constraint.proofs.Library.{get_or}
 use Rattle.constraint.proofs.Library.{get_or_at, get_or-drop, length, length-append, length-drop, subst, suc, sym, take, take-add, take-append-le}
 use Rattle.constraint.proofs.Library.{take_at, take-suc, ℕ}
 use Rattle.constraint.proofs.{Judged.judged_all, Judged.judged_none, Judged.judged_yes, Lists.Each, Lists.each_right, Runs.accepts_taken}

@@ -42,9 +42,11 @@ pub place_bytes : (r x : ℕ) (later : List Field) → fields_bytes (field_at r 
 unfolding fields_bytes bytes_of
 place_bytes r x later =
     split (ltb r 65)
-    (λ none. fields_bytes (cond none [] (field_of r x ∷ []) ++ later) ≡ bytes_of (cond none 0 (cond (ltb r 97) 8 1)) x ++ fields_bytes later) (λ e. refl)
+    (λ none. fields_bytes (cond none [] (field_of r x ∷ []) ++ later) ≡ bytes_of (cond none 0 (cond (ltb r 97) 8 1)) x ++ fields_bytes later)
+    (λ e. refl)
     (λ e. split (ltb r 97)
-    (λ long. fields_bytes (cond long (time (time_role r) x) (byte (byte_role r) x) ∷ later) ≡ bytes_of (cond long 8 1) x ++ fields_bytes later) (λ e. refl)
+    (λ long. fields_bytes (cond long (time (time_role r) x) (byte (byte_role r) x) ∷ later) ≡ bytes_of (cond long 8 1) x ++ fields_bytes later)
+    (λ e. refl)
     (λ e. refl))
 
 kept_bytes : (r x : ℕ) → bytes_of (width r) x ≡ bytes_of (width r) (kept r x)

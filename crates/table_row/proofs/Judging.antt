@@ -87,7 +87,8 @@ module _ (edition t : ℕ) (v : List ℕ) (known : TypeKnown edition t (at v 0))
   pub row_fields : fields_of (row_read t v) ≡ fields_as (roles_of t (at v 0)) v
   row_fields = (reads edition t (at v 0) v known (λ e. refl)).1
 
-  pub row_asked : (a : Answer) → Judged (asked_with (at v 0) (fields_as (roles_of t (at v 0)) v)) a → Judged (row_questions_in edition (row_read t v)) a
+  pub row_asked : (a : Answer) → Judged (asked_with (at v 0) (fields_as (roles_of t (at v 0)) v)) a
+      → Judged (row_questions_in edition (row_read t v)) a
   unfolding KindsSuit InRange LowerFirst
   row_asked a h =
       let n : first_of (fields_as (roles_of t (at v 0)) v) ≡ at v 0 =
@@ -104,7 +105,8 @@ module _ (edition t : ℕ) (v : List ℕ) (known : TypeKnown edition t (at v 0))
   body_long = ap length row_body_lem ∙ omega (arith, fields_long (roles_of t (at v 0)) v 0)
 
   -- the stores of the length field, of the type byte and of the fields
-  pub row_stores : (buffer one two three : List ℕ) (place size : ℕ) → size ≡ 1 + total (roles_of t (at v 0)) → one ≡ sets buffer place (bytes_of 2 size)
+  pub row_stores : (buffer one two three : List ℕ) (place size : ℕ) → size ≡ 1 + total (roles_of t (at v 0))
+      → one ≡ sets buffer place (bytes_of 2 size)
       → two ≡ sets one (place + 2) (t ∷ []) → three ≡ sets two (place + 3) (fields_bytes (fields_as (roles_of t (at v 0)) v))
       → three ≡ sets buffer place (row_bytes (row_read t v))
   unfolding row_bytes
@@ -135,6 +137,7 @@ unfolding row_bytes
 row_bytes_long c = length-append (bytes_of 2 (length (row_body c))) (row_body c) ∙ rw (bytes_length 2 (length (row_body c)))
 
 -- a row of a known type is short
-pub row_short : (edition t : ℕ) (v : List ℕ) → TypeKnown edition (type_of (row_read t v)) (count_of (row_read t v)) → length (row_body (row_read t v)) ≤ 145
+pub row_short : (edition t : ℕ) (v : List ℕ) → TypeKnown edition (type_of (row_read t v)) (count_of (row_read t v))
+    → length (row_body (row_read t v)) ≤ 145
 row_short edition t v known =
     let here = known_row edition t v known in omega (arith, body_long edition t v here, total_small (roles_of t (at v 0)))

@@ -24,7 +24,8 @@ values_more values roles body place i h = rw (add-one i, drop-cons roles i 0 h)
 
 pub fields_more : (buffer : List ℕ) (next : ℕ) (roles values : List ℕ) (i : ℕ) → i < length roles
     → sets buffer next (fields_bytes (fields_from roles values i))
-    ≡ sets (sets buffer next (bytes_of (width (at roles i)) (at values i))) (next + width (at roles i)) (fields_bytes (fields_from roles values (i + 1)))
+    ≡ sets (sets buffer next (bytes_of (width (at roles i)) (at values i))) (next + width (at roles i)) (fields_bytes (fields_from roles values
+    (i + 1)))
 fields_more buffer next roles values i h =
     let later = fields_bytes (fields_from roles values (i + 1)) in
     let here = bytes_of (width (at roles i)) (at values i) in

@@ -1,6 +1,7 @@
 -- Decimal digits: how the code takes them off one by one, how many there are, and what they stand for.
 use Rattle.constraint.proofs.Library.{List, List·getD-append, [], ◌%◌, ◌*◌, ◌++◌, ◌+◌, ◌-◌, ◌/◌, ◌<◌, ◌^◌, ◌∙◌, ◌∷◌, ◌≡◌, ◌≤◌, ap, append_assoc}
-use Rattle.constraint.proofs.Library.{arith, cond, dec_lt, drop, drop-cons, drop-set-lt, eqb, ext_get_or, get_or-replicate, get_or-set_same, get_or-take}
+use Rattle.constraint.proofs.Library.{arith, cond, dec_lt, drop, drop-cons, drop-set-lt, eqb, ext_get_or, get_or-replicate, get_or-set_same}
+use Rattle.constraint.proofs.Library.{get_or-take}
 use Rattle.constraint.proofs.Library.{le-ltb, length, length-append, length-drop, length-replicate, length-set, length-take-le, lt-ltb, ltb, ne_eqb}
 use Rattle.constraint.proofs.Library.{pow-succ', replicate, set, suc, sym, take, take-append-drop, zero, ℕ}
 use Rattle.constraint.proofs.Lists.{Each, each_append, each_cons, each_none}

@@ -1,6 +1,7 @@
 -- Bytes put behind a text, one after the other: what it holds then is what it held and those bytes, as long as there is room.
 use Rattle.constraint.proofs.Library.{List, [], ◌++◌, ◌+◌, ◌<◌, ◌∙◌, ◌∷◌, ◌≡◌, ◌≤◌, add-one, ap, append_assoc, append-nil, arith, drop, drop-cons}
-use Rattle.constraint.proofs.Library.{get_or, get_or-set_other, le-ltb, length, length-append, length-replicate, length-set, length-take-le, lt-ltb, refl}
+use Rattle.constraint.proofs.Library.{get_or, get_or-set_other, le-ltb, length, length-append, length-replicate, length-set, length-take-le, lt-ltb}
+use Rattle.constraint.proofs.Library.{refl}
 use Rattle.constraint.proofs.Library.{replicate, set, sets, suc, take-suc-set, zero, ℕ}
 use Rattle.big_endian.proofs.Stores.{stores_front}
 use Rattle.text.specs.Content.{Copied, HoldsText, empty_text, extended, text_limit, with_byte}

@@ -18,7 +18,8 @@ loop-left-preserved c =
     let byte : one < 256 = (c.type_inv.bytes loop.next).fits in
     let behind = shifted_up loop.value one (room_now loop.value loop.left loop.invariant.1 (omega arith)) byte in
     rw c.wide.ensures
-    (subst (λ (value : ℕ). (((loop.left - 1) ≤ args.width) × Room value (loop.left - 1) × (number_behind value (bytes_at (loop.left - 1) bytes (loop.next + 1)) ≡ number_at args.width bytes args.place)))
+    (subst (λ (value : ℕ). (((loop.left - 1) ≤ args.width) × Room value (loop.left - 1)
+    × (number_behind value (bytes_at (loop.left - 1) bytes (loop.next + 1)) ≡ number_at args.width bytes args.place)))
     (sym behind) (
       omega arith,
       room_next loop.value loop.left one loop.invariant.1 (omega arith) byte,

@@ -5,7 +5,8 @@ use Rattle.big_endian.proofs.put_number.Given as goal
 
 abbrev pub invariant-loop-left : goal.invariant-loop-left
 invariant-loop-left l =
-    (l.left ≤ 8) × (length l.buffer ≡ length l.initial.buffer) × (sets l.buffer l.next (bytes_of l.left l.x) ≡ sets l.initial.buffer l.place (bytes_of l.width l.x))
+    (l.left ≤ 8) × (length l.buffer ≡ length l.initial.buffer) × (sets l.buffer l.next (bytes_of l.left l.x) ≡ sets l.initial.buffer l.place
+    (bytes_of l.width l.x))
 
 abbrev pub decreases-loop-left : goal.decreases-loop-left
 decreases-loop-left l = l.left

@@ -1,7 +1,7 @@
 -- Each turn takes one tick more.
 use Rattle.clock.proofs.{Laws.ticks_more}
-use Rattle.clock.specs.Clock.{Ticks, clock_with, no_tick}
-use Rattle.constraint.proofs.Library.{List, ◌-◌, arith, length, not-false, ℕ}
+use Rattle.clock.specs.Clock.{no_tick}
+use Rattle.constraint.proofs.Library.{arith, not-false}
 use Rattle.clock.proofs.ticks.Goals as goal
 
 pub overflow_add-at : goal.overflow_add-at

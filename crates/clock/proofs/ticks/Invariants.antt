@@ -1,7 +1,6 @@
 -- Each turn takes one tick more.
-use Rattle.clock.proofs.{Laws.ticks_more}
-use Rattle.clock.specs.Clock.{Ticks, clock_with, no_tick}
-use Rattle.constraint.proofs.Library.{List, ◌-◌, arith, length, not-false, ℕ}
+use Rattle.clock.specs.Clock.{Ticks, clock_with}
+use Rattle.constraint.proofs.Library.{List, ◌-◌, length, ℕ}
 use Rattle.clock.proofs.ticks.Given as goal
 
 abbrev pub invariant-loop-tick : goal.invariant-loop-tick

@@ -1,6 +1,7 @@
 -- Targets that answer waiting sources: each comes as early as it may, and is in time since the sources rise as fast as the targets have to.
 use Rattle.constraint.proofs.Library.{List, [], ◌++◌, ◌+◌, ◌<◌, ◌∷◌, ◌≡◌, ◌≤◌, ap, arith, length, max, refl, suc, zero, ℕ}
-use Rattle.constraint.proofs.{Counting.next_above, Counting.next_free, Lists.Each, Lists.Rising, Lists.each_cons, Lists.each_none, Lists.rising_append}
+use Rattle.constraint.proofs.{Counting.next_above, Counting.next_free, Lists.Each, Lists.Rising, Lists.each_cons, Lists.each_none}
+use Rattle.constraint.proofs.{Lists.rising_append}
 use Rattle.constraint.specs.{Meets.Between, Steps.at}
 
 -- a target for each source, none before `start`

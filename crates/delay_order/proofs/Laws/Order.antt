@@ -129,7 +129,8 @@ module _ (source target : ℕ) (sound : Sound (Order source target)) where
 
   -- ---- Ticks
 
-  late_by : (sources targets : List ℕ) (early : ℕ) (waiting : List ℕ) (t : ℕ) → Pairing ◌≤◌ sources targets early waiting → due_early early no_limit < t
+  late_by : (sources targets : List ℕ) (early : ℕ) (waiting : List ℕ) (t : ℕ) → Pairing ◌≤◌ sources targets early waiting
+      → due_early early no_limit < t
       → t ≤ last_time → Lost t (Paired ◌≤◌) sources targets
   late_by sources targets early waiting t (inl (none, a)) passed small = λ fs gs late_fs late_gs m. omega (arith, due_ahead early no_limit none)
   late_by sources targets early waiting t (inr (b, is, none, beyond)) passed small =

@@ -48,7 +48,8 @@ module _ (lower upper : ℕ) where
   unfolding answered
   answered_by_lem s [] j h b = absurd (omega arith)
   answered_by_lem s (t ∷ targets) zero h b = rw (interval_true s t b)
-  answered_by_lem s (t ∷ targets) (suc j) h b = rw (answered_by_lem s targets j (omega arith) b) (mathlib.Core.Bool.or-true (in_interval lower upper s t))
+  answered_by_lem s (t ∷ targets) (suc j) h b =
+      rw (answered_by_lem s targets j (omega arith) b) (mathlib.Core.Bool.or-true (in_interval lower upper s t))
 
   answered_append : (s : ℕ) (targets more : List ℕ)
       → answered lower upper s (targets ++ more) ≡ (answered lower upper s targets || answered lower upper s more)

@@ -1,5 +1,5 @@
 -- Before the close nothing is written; after it, what the summary of the monitor says.
-use Rattle.delkuthi.proofs.Names.{Summary, [], ap, arith, rules}
+use Rattle.delkuthi.proofs.Names.{Summary, [], ap, arith}
 use Rattle.delkuthi.proofs.{Reports.copied_none, Reports.reports_closed, Reports.reports_unclosed}
 use Rattle.delkuthi.proofs.delkuthi_report_of.Goals as goal
 

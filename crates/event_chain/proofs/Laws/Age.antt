@@ -190,7 +190,8 @@ module _ (minimum maximum : ℕ) where
 
     suits_true : (low : ℕ) → low ≤ t + 1 → suits minimum maximum low t ≡ true → (0 < low) × (low + minimum ≤ t + 1) × (t + 1 ≤ low + maximum)
     suits_true low few e =
-        let (some, near) = (and-eq-true_iff (ltb 0 low) (leb (low + minimum) (t + 1) && leb (t + 1) (low + maximum))).0 (sym (suits_is low few) ∙ e) in
+        let (some, near) = (and-eq-true_iff (ltb 0 low) (leb (low + minimum) (t + 1) && leb (t + 1) (low + maximum))).0 (sym (suits_is low few)
+        ∙ e) in
         let (from, to) = (and-eq-true_iff (leb (low + minimum) (t + 1)) (leb (t + 1) (low + maximum))).0 near in
         (ltb-true 0 low some, leb-true (low + minimum) (t + 1) from, leb-true (t + 1) (low + maximum) to)
 

@@ -16,7 +16,8 @@ use Rattle.constraint.specs.{Accepted.KindsFit, Continuation.Open, Continuation.
 use Rattle.constraint.specs.{Limits.no_limit, Limits.waiting_limit, Meets.Meets, Streams.stream, Waiting.waiting, Constraint.Constraint}
 use Rattle.row_type.proofs.Exact.{ByOutcome, Exact, GoesOn, OfStream, Starts, outcome_map}
 use Rattle.row_type.proofs.SeveralKinds.{by_place, kinds_apart, kinds_small}
-use Rattle.row_type.specs.{Parameters.parameters_of, Parameters.start_words, Parameters.waits_in, declared.Change.Change, declared.Registers.Registers}
+use Rattle.row_type.specs.{Parameters.parameters_of, Parameters.start_words, Parameters.waits_in, declared.Change.Change}
+use Rattle.row_type.specs.{declared.Registers.Registers}
 use Rattle.ring.specs.{Ring.changed}
 
 -- ---- the least of some numbers, and their sum

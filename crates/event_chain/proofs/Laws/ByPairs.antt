@@ -293,7 +293,8 @@ module _ (c : Constraint) (sound : Sound c) (stimulus response minimum maximum :
             nearer = nearer;
           }
 
-      pub exact_by_pairs : at word_counts (type_of c) ≡ 16 → constants_of c ≡ [] → waits_in (type_of c) ≡ false → ((steps : List Step) → waiting c steps ≡ 0)
+      pub exact_by_pairs : at word_counts (type_of c) ≡ 16 → constants_of c ≡ [] → waits_in (type_of c) ≡ false → ((steps : List Step)
+          → waiting c steps ≡ 0)
           → ((steps : List Step) → Meets c steps ↔ ((d : ℕ) → d ≤ last_colour → Says (times (stream stimulus d) steps)
           (times (stream response d) steps)))
           → Exact c decide

@@ -7,7 +7,8 @@ use Rattle.event_chain.specs.Coloured.{decide_words, due_words, four_kinds, kind
 use Rattle.event_chain.specs.Coloured.{unchanged, words_at, words_but}
 use Rattle.event_chain.specs.Marked.{coloured_kind, due_marked, due_next}
 use Rattle.constraint.proofs.Library.{Bool, List, [], ◌%◌, ◌*◌, ◌++◌, ◌+◌, ◌<◌, ◌↔◌, ◌∙◌, ◌∷◌, ◌≡◌, ◌≤◌, ◌||◌, ap, ap₂, arith, by_cases, cond}
-use Rattle.constraint.proofs.Library.{dec_lt, eq-eqb, eqb, eqb-true, ext_get_or, false, get_or, get_or-replicate, get_or-set_other, get_or-set_same, get_or-take}
+use Rattle.constraint.proofs.Library.{dec_lt, eq-eqb, eqb, eqb-true, ext_get_or, false, get_or, get_or-replicate, get_or-set_other, get_or-set_same}
+use Rattle.constraint.proofs.Library.{get_or-take}
 use Rattle.constraint.proofs.Library.{length, length-set, ltb, ne_eqb, refl, replicate, set, set-get_or, set_out, subst}
 use Rattle.constraint.proofs.Library.{suc, sym, take, take-take, zero, ℕ, ℕ_discrete}
 use Rattle.constraint.proofs.Lists.{Each, at_left, each_cons, each_none, split}
@@ -85,7 +86,10 @@ module _ (words : List ℕ) (p x : ℕ) where
       behind =
           by_cases (dec_lt (p + 1) (length words))
           (λ h. get_or-set_same (set words p x) (p + 1) (get_or words (p + 1) 0) 0 (omega (arith, length-set words p x)))
-          (λ l. ap (λ (xs : List ℕ). get_or xs (p + 1) 0) (set_out (set words p x) (p + 1) (get_or words (p + 1) 0) (omega (arith, length-set words p x)))
+          (λ l. ap (λ (xs : List ℕ). get_or xs (p + 1) 0) (set_out (set words p x) (p + 1) (get_or words (p + 1) 0) (omega (
+            arith,
+            length-set words p x,
+          )))
           ∙ get_or-set_other words p (p + 1) x 0 (λ e. omega arith))
 
 pub words_at_lem : (words : List ℕ) (d i : ℕ) → i < 5 → at (words_at words d) i ≡ get_or words (5 * d + i) 0
@@ -197,7 +201,8 @@ module _ (ks : List ℕ) (Says : (ℕ → List ℕ) → Type 0) (decide : Regist
 
     first : due_next (due_marked registers) (owed w) (owed (set w j x)) (due_words owed words d j x 8) ≡ least_of (colouring.due next) 8
     first =
-        due_next_lem (colouring.due words) (colouring.due next) d (omega arith) (λ e l other. ap owed (other_words words whole d j x few place e other))
+        due_next_lem (colouring.due words) (colouring.due next) d (omega arith) (λ e l other. ap owed
+        (other_words words whole d j x few place e other))
         (due_marked registers) (owed (set w j x)) (due_words owed words d j x 8) marked (ap owed (sym own)) all_is
 
     word_turns : Turned colouring f d j t words (noted owed registers words d j x)

@@ -3,7 +3,8 @@ use Rattle.event_chain.proofs.Laws.ByColour.{least_below, least_found, with_one}
 use Rattle.event_chain.specs.Coloured.{first_word, least_of, most_of}
 use Rattle.constraint.proofs.Library.{List, [], ◌++◌, ◌+◌, ◌-◌, ◌<◌, ◌∙◌, ◌∷◌, ◌≡◌, ◌≤◌, ◌⊎◌, ap, arith, by_cases, cond, dec_lt, eq-eqb, eqb}
 use Rattle.constraint.proofs.Library.{eqb-false}
-use Rattle.constraint.proofs.Library.{eqb-true, get_or-set_other, get_or-set_same, inl, inr, length, length-append, ne_eqb, refl, set, subst, subst₂, suc}
+use Rattle.constraint.proofs.Library.{eqb-true, get_or-set_other, get_or-set_same, inl, inr, length, length-append, ne_eqb, refl, set, subst, subst₂}
+use Rattle.constraint.proofs.Library.{suc}
 use Rattle.constraint.proofs.Library.{sym, zero, ℕ}
 use Rattle.constraint.proofs.Library.{ℕ_discrete, ⊎_elim}
 use Rattle.constraint.proofs.Lists.{Each, at_left, at_next, at_right, each_append, each_cons, each_none, split}

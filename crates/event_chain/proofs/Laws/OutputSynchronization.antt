@@ -11,7 +11,8 @@ use Rattle.event_chain.specs.OutputSynchronization.{first_response}
 use Rattle.event_chain.specs.OutputSynchronization.{machine_output_synchronization, owed_output, word_output}
 use Rattle.event_chain.specs.Reaction.{latest}
 use Rattle.constraint.proofs.Library.{List, [], ◌++◌, ◌+◌, ◌-◌, ◌<◌, ◌||◌, ◌∙◌, ◌∷◌, ◌≡◌, ◌≤◌, ◌⊎◌, ap, arith, by_cases, cond, eqb, eqb-false}
-use Rattle.constraint.proofs.Library.{eqb-true, get_or-set_other, get_or-set_same, inl, inr, length, length-append, ltb, ltb-false, ltb-true, min, ne_eqb}
+use Rattle.constraint.proofs.Library.{eqb-true, get_or-set_other, get_or-set_same, inl, inr, length, length-append, ltb, ltb-false, ltb-true, min}
+use Rattle.constraint.proofs.Library.{ne_eqb}
 use Rattle.constraint.proofs.Library.{refl, replicate, set, subst, suc, sym, zero, ℕ, ℕ_discrete, ⊎_elim}
 use Rattle.constraint.proofs.Lists.{Each, at_left, at_next, each_none, or_false, or-true, split}
 use Rattle.constraint.specs.Steps.{at}

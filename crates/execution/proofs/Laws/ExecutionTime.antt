@@ -16,7 +16,8 @@ use Rattle.row_type.specs.{Parameters.parameters_of, Words.first_three_saved, de
 use Rattle.row_type.specs.{declared.Parameters.Parameters}
 use Rattle.execution.proofs.Laws.Continued.{FirstFrom, OfKinds, own_continues, own_event, own_late, own_steps, steps_for}
 use Rattle.execution.proofs.Laws.Executions.{Phase, RisesFrom, idle, ran_by, runs, waits}
-use Rattle.execution.specs.ExecutionTime.{decide_execution_time, idle_from, in_phase, machine_execution_time, phase_of, preempted_from, ran_of, ran_to}
+use Rattle.execution.specs.ExecutionTime.{decide_execution_time, idle_from, in_phase, machine_execution_time, phase_of, preempted_from, ran_of}
+use Rattle.execution.specs.ExecutionTime.{ran_to}
 use Rattle.execution.specs.ExecutionTime.{running_from, while_idle, while_preempted, while_running}
 use Rattle.ring.specs.declared.Edit.TheVariants.{Drop}
 use Rattle.execution.proofs.Laws.Executions as E
@@ -207,7 +208,8 @@ module _ (start stop preempt resume lower upper : ℕ) (sound : Sound (Execution
             (stands_more (waits (ran_of registers)) (runs (ran_of registers)) registers.last stands (λ further. (λ h. h.2, λ h. (from, is, h))))
         turn (fails wrong) = lost_now (waits (ran_of registers)) registers.last stands (λ further h. wrong h.1)
 
-    event_turns : Stands past (phase_in (phase_of registers) (ran_of registers)) registers.last → Room (phase_in (phase_of registers) (ran_of registers))
+    event_turns : Stands past (phase_in (phase_of registers) (ran_of registers)) registers.last
+        → Room (phase_in (phase_of registers) (ran_of registers))
         → t ≤ due registers times
         → ByTurn past times k t (decide_execution_time parameters registers times k t)
     unfolding decide_execution_time

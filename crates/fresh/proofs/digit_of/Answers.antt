@@ -1,5 +1,6 @@
 -- The row's numbers are read off its words, and asked.
-use Rattle.fresh.proofs.Names.{RowUndo, Bool, Lent, List, Row, Parameters, Shaped, Words, [], ◌<◌, ◌∙◌, ◌≡◌, ap, arith, concerns, cond, get_or, is_of, kept_at}
+use Rattle.fresh.proofs.Names.{RowUndo, Bool, Lent, List, Row, Parameters, Shaped, Words, [], ◌<◌, ◌∙◌, ◌≡◌, ap, arith, concerns, cond, get_or, is_of}
+use Rattle.fresh.proofs.Names.{kept_at}
 use Rattle.fresh.proofs.Names.{number_words, parameters_at, refl, row_lies, row_at, row_as_words, sym, words_of_lent, ℕ}
 use Rattle.row.specs.Stored as Stored
 use Rattle.fresh.proofs.digit_of.Goals as goal

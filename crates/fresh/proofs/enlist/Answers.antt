@@ -18,7 +18,8 @@ loop-kind-preserved c =
           let h' = with_lists h (padded 64 (sets_to m n kind)) in
           let wide = shaped_lists h s (sets_to m n kind) in
           c.put_set.ensures h' so_far wide
-          ∙ ap (λ (lists : List ℕ). words_of_lent (with_lists h lists)) (sets_next m n kind c.set_of-rows.result (c.set_of-rows.ensures h' so_far wide)
+          ∙ ap (λ (lists : List ℕ). words_of_lent (with_lists h lists)) (sets_next m n kind c.set_of-rows.result
+          (c.set_of-rows.ensures h' so_far wide)
           ∙ ap (λ (k : ℕ). padded 64 (sets_to m n k)) (sym (add-one kind))),
     )
 

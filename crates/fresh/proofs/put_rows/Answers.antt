@@ -17,7 +17,8 @@ loop-i-preserved c =
       c.load_at-found.ensures.many,
       λ rows reads.
           let so_far = l.invariant.2 rows reads in
-          let next = scan_next _ rows l.i l.place (placed c.load_at-found.result.tag c.load_at-found.new.values c.load_at-found.result.next) so_far.0 c.load_at-found.ensures.placed in
+          let next = scan_next _ rows l.i l.place
+          (placed c.load_at-found.result.tag c.load_at-found.new.values c.load_at-found.result.next) so_far.0 c.load_at-found.ensures.placed in
           let row = c.begin.ensures ∙ ap (λ (x : Constraint). Stored.words_of_row (row_of x) no_row_undo) next.0
           ∙ ap₂ Stored.words_of_row (sym (row_is rows l.i)) (sym (kept_is rows l.i)) in
           (next.1, λ long. put_next _ (after rows []) l.i l.m c.begin.new.row (omega (arith, long)) (so_far.1 long) row),
@@ -28,7 +29,8 @@ pub begin-requires : goal.begin-requires
 begin-requires c =
     let l = c.loop-i in
     let rows = c.requires.0 in let reads = c.requires.1 in
-    let next = scan_next _ rows l.i l.place (placed c.load_at-found.result.tag c.load_at-found.new.values c.load_at-found.result.next) (l.invariant.2 rows reads).0 c.load_at-found.ensures.placed in
+    let next = scan_next _ rows l.i l.place (placed c.load_at-found.result.tag c.load_at-found.new.values c.load_at-found.result.next)
+    (l.invariant.2 rows reads).0 c.load_at-found.ensures.placed in
     subst Known (sym next.0) (row_known _ rows reads l.i)
 
 pub returns : goal.returns

@@ -6,7 +6,8 @@ use Rattle.fresh.proofs.put_rows.Given as goal
 abbrev pub invariant-loop-i : goal.invariant-loop-i
 invariant-loop-i l =
     (l.i ≤ 32) × (length l.values ≡ 18) × ((rows : List Constraint) → RowsBehind l.table rows
-    → ReadsRows (at l.table 0) l.table l.i l.place (table_of (drop l.i rows)) × (length l.initial.m ≡ 35 → RowsPut l.initial.m (after rows []) l.i l.m))
+    → ReadsRows (at l.table 0) l.table l.i l.place (table_of (drop l.i rows)) × (length l.initial.m ≡ 35
+    → RowsPut l.initial.m (after rows []) l.i l.m))
 
 abbrev pub decreases-loop-i : goal.decreases-loop-i
 decreases-loop-i l = 32 - l.i

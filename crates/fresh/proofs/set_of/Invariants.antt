@@ -5,7 +5,8 @@ use Rattle.fresh.proofs.set_of.Given as goal
 
 abbrev pub invariant-loop-i : goal.invariant-loop-i
 invariant-loop-i l =
-    (l.i ≤ l.n) × (l.rows < 2 ^ (l.n - l.i)) × ((h : Lent) → l.m ≡ words_of_lent h → Shaped h → l.rows ≡ set_from (is_of h.monitor l.kind) l.i (l.n - l.i))
+    (l.i ≤ l.n) × (l.rows < 2 ^ (l.n - l.i)) × ((h : Lent) → l.m ≡ words_of_lent h → Shaped h
+    → l.rows ≡ set_from (is_of h.monitor l.kind) l.i (l.n - l.i))
 
 abbrev pub decreases-loop-i : goal.decreases-loop-i
 decreases-loop-i l = l.i

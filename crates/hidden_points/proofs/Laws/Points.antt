@@ -1,5 +1,6 @@
 -- Hidden points: what one more event adds is its own point, behind the last.
-use Rattle.constraint.proofs.Library.{List, [], ◌++◌, ◌+◌, ◌<◌, ◌∙◌, ◌∷◌, ◌≡◌, arith, by_cases, dec_lt, get_or-take, length, length-append, length-take}
+use Rattle.constraint.proofs.Library.{List, [], ◌++◌, ◌+◌, ◌<◌, ◌∙◌, ◌∷◌, ◌≡◌, arith, by_cases, dec_lt, get_or-take, length, length-append}
+use Rattle.constraint.proofs.Library.{length-take}
 use Rattle.constraint.proofs.Library.{refl, subst, sym, take, ℕ}
 use Rattle.constraint.proofs.Lists.{at_left, at_next}
 use Rattle.constraint.specs.{Meets.Apart, Meets.Between, Meets.HiddenPoints, Steps.at}

@@ -324,7 +324,8 @@ exact_sporadic kind lower upper jitter minimum sound =
 -- ---- In a row
 
 -- no times are kept, and an event that the row goes on with changes three marks
-steady_sporadic : (parameters : Parameters) (m : Registers) (times : List ℕ) (kind t : ℕ) → Steady first_three_saved m times (decide_sporadic parameters
+steady_sporadic : (parameters : Parameters) (m : Registers) (times : List ℕ) (kind t : ℕ)
+    → Steady first_three_saved m times (decide_sporadic parameters
     m times kind t)
 unfolding decide_sporadic later_sporadic
 steady_sporadic parameters m times kind t =

@@ -1,5 +1,5 @@
 -- The step by value keeps its contract, and its number says its answer: no refusal has the number 0.
-use Rattle.constraint.proofs.Library.{Bool, ◌∙◌, ◌≡◌, ap, arith, cond, false, rules, refl, subst, suc, sym, true, zero, ℕ}
+use Rattle.constraint.proofs.Library.{Bool, ◌∙◌, ◌≡◌, ap, arith, cond, false, refl, subst, suc, sym, true, zero, ℕ}
 use Rattle.constraint.specs.declared.Answer.TheVariants.{Refused, Taken}
 use Rattle.constraint.specs.{Run.asks, declared.Answer.Answer, declared.Call.Call}
 use Rattle.monitor.proofs.Answers.{refused_by}

@@ -11,7 +11,8 @@ use Rattle.row_type.proofs.Tests.{Tells, fails, holds, tells_and, tells_leb, tel
 use Rattle.row_type.proofs.{OneKind.ByTurn, OneKind.Follows}
 use Rattle.row_type.specs.Parts.{breaking, no_registers, plus}
 use Rattle.row_type.specs.{declared.Change.Change, declared.Registers.Registers}
-use Rattle.patterns.specs.Pattern.{decide_pattern, due_next, due_then, high_after, later_pattern, low_after, number_after, placed_in, point_in, step_to}
+use Rattle.patterns.specs.Pattern.{decide_pattern, due_next, due_then, high_after, later_pattern, low_after, number_after, placed_in, point_in}
+use Rattle.patterns.specs.Pattern.{step_to}
 
 -- ---- the numbers of events in their groups, and the points of these
 

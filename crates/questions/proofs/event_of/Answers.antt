@@ -1,5 +1,4 @@
 -- Each part is what `event_at` says.
-use Rattle.constraint.proofs.Library.{rules}
 use Rattle.questions.proofs.event_of.Goals as goal
 
 pub returns : goal.returns

@@ -1,5 +1,4 @@
 -- After an event its time is taken.
-use Rattle.constraint.proofs.Library.{rules}
 use Rattle.questions.proofs.free.Goals as goal
 
 pub returns-in-Event : goal.returns-in-Event

@@ -1,5 +1,4 @@
 -- Each call has its own questions.
-use Rattle.constraint.proofs.Library.{rules}
 use Rattle.questions.proofs.own_refusal.Goals as goal
 
 pub returns-in-Tick : goal.returns-in-Tick

@@ -1,5 +1,5 @@
 -- A stream is its own place.
-use Rattle.constraint.proofs.Library.{le-ltb, lt-ltb, rules}
+use Rattle.constraint.proofs.Library.{le-ltb, lt-ltb}
 use Rattle.questions.proofs.place.Goals as goal
 
 pub returns-then-stream-lt-NO_STREAM : goal.returns-then-stream-lt-NO_STREAM

@@ -1,5 +1,4 @@
 -- Each call is seen as `step_input_by` says.
-use Rattle.constraint.proofs.Library.{rules}
 use Rattle.questions.proofs.step_input.Goals as goal
 
 pub returns-in-Event : goal.returns-in-Event

@@ -1,5 +1,4 @@
 -- Each call has its own stream.
-use Rattle.constraint.proofs.Library.{rules}
 use Rattle.questions.proofs.stream.Goals as goal
 
 pub returns-in-ColouredEvent : goal.returns-in-ColouredEvent

@@ -1,6 +1,7 @@
 -- Arbitrary with its pairs in the row's first words: they are written from the start and stay, as each event writes behind them.
 use Rattle.constraint.proofs.Library.{List, [], ◌%◌, ◌*◌, ◌++◌, ◌+◌, ◌-◌, ◌<◌, ◌∙◌, ◌∷◌, ◌≡◌, ◌≤◌, ap, arith, cond, get_or-replicate}
-use Rattle.constraint.proofs.Library.{get_or-set_other, length, length-append, length-map, length-replicate, min, refl, replicate, set, suc, sym, take}
+use Rattle.constraint.proofs.Library.{get_or-set_other, length, length-append, length-map, length-replicate, min, refl, replicate, set, suc, sym}
+use Rattle.constraint.proofs.Library.{take}
 use Rattle.constraint.proofs.Library.{take-take, true, zero, ℕ}
 use Rattle.constraint.proofs.Lists.{at_left, at_right, split}
 use Rattle.constraint.proofs.Streams.{streams_in}
@@ -73,7 +74,8 @@ module _ (pairs : List (ℕ × ℕ)) (few : length (minima_in pairs) ≤ 8) wher
 
   -- an event writes behind them
   pairs_stay : (registers : Registers) (words : List ℕ) (t : ℕ) → HoldsPairs words
-      → HoldsPairs (changed (decide_arbitrary (length (minima_in pairs)) (at (minima_in pairs)) (at (maxima_in pairs)) 16 registers words t).edit words)
+      → HoldsPairs (changed (decide_arbitrary (length (minima_in pairs)) (at (minima_in pairs)) (at
+      (maxima_in pairs)) 16 registers words t).edit words)
   unfolding decide_arbitrary
   pairs_stay registers words t holds =
       split (late_enough (length (minima_in pairs)) (at (minima_in pairs)) 16 registers.first words t)

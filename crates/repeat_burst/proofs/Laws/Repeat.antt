@@ -120,7 +120,8 @@ module _ (parameters : Parameters) (events : List ℕ) (registers : Registers) (
         where
           turn : {test : Bool} → Tells (AtLeastApart parameters.minimum (events ++ (t ∷ [])) × MeetsSpan parameters (events ++ (t ∷ []))) test
               → ByTurn Says (KeepsRepeat parameters) (due_repeat parameters) events kept t
-              (cond test (continues_with (Push (leaving parameters (length kept)) t) (with_last registers (plus t 1)) (due_with parameters kept t) true)
+              (cond test (continues_with (Push (leaving parameters (length kept)) t) (with_last registers (plus t 1))
+              (due_with parameters kept t) true)
               breaking)
           turn (holds m) =
               record {

@@ -1,6 +1,7 @@
 -- Repetition as a row keeps it: of the places of all points it has those of the last span, the low and the high of each in turn. An event asks
 -- for those of the point span places before it, which are the oldest, so the two numbers that it puts in are its own places.
-use Rattle.constraint.proofs.Library.{Bool, List, [], ◌++◌, ◌+◌, ◌-◌, ◌<◌, ◌∙◌, ◌∷◌, ◌≡◌, ◌≤◌, ap, arith, by_cases, cond, dec_lt, drop, drop-append-le}
+use Rattle.constraint.proofs.Library.{Bool, List, [], ◌++◌, ◌+◌, ◌-◌, ◌<◌, ◌∙◌, ◌∷◌, ◌≡◌, ◌≤◌, ap, arith, by_cases, cond, dec_lt, drop}
+use Rattle.constraint.proofs.Library.{drop-append-le}
 use Rattle.constraint.proofs.Library.{drop-drop, drop-nil, false, get_or-drop, length, length-append, length-drop, ltb, ltb-false, ltb-true, max, min}
 use Rattle.constraint.proofs.Library.{refl, sym, true, ℕ}
 use Rattle.constraint.proofs.Lists.{Rising, at_left, at_next, rising_at, split}

@@ -192,7 +192,8 @@ crowding_repetition parameters registers times kind t many few = by_span _ _
         (λ b. b ≡ kind_overflows (cond b (continues_with (PushTwo 0 low high) registers no_limit true)
         (cond (has_place parameters low high) (continues_with (PushTwo 2 low high) registers no_limit true) breaking)) times)
         (λ _. sym (two low high))
-        (λ _. sym (calm_by times (has_place parameters low high) (continues_with (PushTwo 2 low high) registers no_limit true) breaking (turned low high)
+        (λ _. sym (calm_by times (has_place parameters low high) (continues_with (PushTwo 2 low high) registers no_limit true) breaking
+        (turned low high)
         refl))
 
 room_repetition : (parameters : Parameters) (registers : Registers) (n s t : ℕ) → 63 ≤ n → taken_repetition parameters.span n < 64

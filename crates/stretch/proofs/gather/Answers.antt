@@ -1,8 +1,8 @@
 -- The loop reads record after record and keeps what each is, as long as there is room.
-use Rattle.constraint.proofs.{Judged.failed, Judged.passed, Library.◌-◌, Library.ap, Library.arith, Library.length, Library.not}
+use Rattle.constraint.proofs.{Judged.failed, Judged.passed, Library.ap, Library.arith, Library.not}
 use Rattle.clock.specs.Clock.{clock_with}
 use Rattle.constraint.specs.Recording.{version_refused}
-use Rattle.stretch.proofs.Gathering.{GatheredTo, gather_end, gather_more, gather_refused, gather_start}
+use Rattle.stretch.proofs.Gathering.{gather_end, gather_more, gather_refused, gather_start}
 use Rattle.stretch.proofs.gather.Goals as goal
 
 pub returns-then-not-version_known : goal.returns-then-not-version_known
@@ -16,7 +16,8 @@ pub loop-place-init : goal.loop-place-init
 loop-place-init c =
     let args = c.args in
     gather_start (args.bytes.now) args.streams.now args.times.now
-    (passed c.version_known.result c.version_known.ensures (ap not c.if-not-version_known.false)) (clock_with c.start-clock.result _) c.start-clock.ensures
+    (passed c.version_known.result c.version_known.ensures (ap not c.if-not-version_known.false))
+    (clock_with c.start-clock.result _) c.start-clock.ensures
     c.requires.0 c.requires.1
 
 pub returns-then-read-gt0 : goal.returns-then-read-gt0

@@ -1,8 +1,7 @@
 -- The loop reads record after record and keeps what each is, as long as there is room.
-use Rattle.constraint.proofs.{Judged.failed, Judged.passed, Library.◌-◌, Library.arith, Library.length}
+use Rattle.constraint.proofs.{Library.◌-◌, Library.length}
 use Rattle.clock.specs.Clock.{clock_with}
-use Rattle.constraint.specs.Recording.{version_refused}
-use Rattle.stretch.proofs.Gathering.{GatheredTo, gather_end, gather_more, gather_refused, gather_start}
+use Rattle.stretch.proofs.Gathering.{GatheredTo}
 use Rattle.stretch.proofs.gather.Given as goal
 
 abbrev pub invariant-loop-place : goal.invariant-loop-place

@@ -1,7 +1,6 @@
 -- Each start's number goes to its place.
-use Rattle.constraint.proofs.Library.{◌-◌, arith, refl}
-use Rattle.stretch.proofs.{Runs.NeedsTo, Runs.needs_more, Runs.needs_start}
-use Rattle.table_row.specs.Records.{row_in}
+use Rattle.constraint.proofs.Library.{arith, refl}
+use Rattle.stretch.proofs.{Runs.needs_more, Runs.needs_start}
 use Rattle.stretch.proofs.needs.Goals as goal
 
 pub loop-start-preserved : goal.loop-start-preserved

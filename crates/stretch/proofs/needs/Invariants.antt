@@ -1,6 +1,6 @@
 -- Each start's number goes to its place.
-use Rattle.constraint.proofs.Library.{◌-◌, arith, refl}
-use Rattle.stretch.proofs.{Runs.NeedsTo, Runs.needs_more, Runs.needs_start}
+use Rattle.constraint.proofs.Library.{◌-◌}
+use Rattle.stretch.proofs.{Runs.NeedsTo}
 use Rattle.table_row.specs.Records.{row_in}
 use Rattle.stretch.proofs.needs.Given as goal
 

@@ -1,6 +1,6 @@
 -- The loop goes through the stretches one by one and counts them, so its counter is the place.
-use Rattle.constraint.proofs.Library.{◌*◌, ◌+◌, ◌-◌, ◌<◌, arith, rules}
-use Rattle.stretch.proofs.Places.{Searching, search_end, search_found, search_longer, search_on, search_start}
+use Rattle.constraint.proofs.Library.{◌<◌, arith, rules}
+use Rattle.stretch.proofs.Places.{search_end, search_found, search_longer, search_on, search_start}
 use Rattle.stretch.proofs.search.Goals as goal
 
 pub overflow_add-tried : goal.overflow_add-tried

@@ -1,7 +1,7 @@
 -- Each answer is that of the first "no": the table's, the recording's, 22, and then the row's.
-use Rattle.constraint.proofs.Library.{List, ◌<◌, arith, refl, ℕ}
+use Rattle.constraint.proofs.Library.{◌<◌, arith, refl, ℕ}
 use Rattle.constraint.proofs.{Accepted.row_accepted, Judged.judged_all}
-use Rattle.constraint.specs.{Stretches.answers, Stretches.no_recording, Stretches.no_table, Table.ReadsTableUpTo}
+use Rattle.constraint.specs.{Stretches.answers, Stretches.no_recording, Stretches.no_table}
 use Rattle.constraint.specs.{Constraint.Constraint, Types.Known}
 use Rattle.stretch.proofs.{Answers.run_of, Answers.too_many}
 use Rattle.table.proofs.AcceptedRows.{read_accepted}

@@ -1,5 +1,5 @@
 -- The first stretch that is as long as its start needs is the first that breaks the row.
-use Rattle.constraint.proofs.Library.{arith, rules, refl}
+use Rattle.constraint.proofs.Library.{arith, refl}
 use Rattle.stretch.proofs.{Answers.tries_first, Answers.tries_none}
 use Rattle.table_row.specs.Records.{row_in}
 use Rattle.stretch.proofs.try_row.Goals as goal

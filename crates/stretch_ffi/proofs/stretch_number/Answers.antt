@@ -1,6 +1,6 @@
 -- The number is that of the stretch, or that of the refusal, which is from 1 to 127, and its place.
 use Rattle.constraint.proofs.Judged.{never}
-use Rattle.constraint.proofs.Library.{◌<◌, ◌≡◌, arith, rules, refl, ℕ}
+use Rattle.constraint.proofs.Library.{◌<◌, ◌≡◌, arith, refl, ℕ}
 use Rattle.constraint.specs.{Stretches.AnswersStretchUpTo, declared.StretchAnswer.StretchAnswer}
 use Rattle.stretch_ffi.proofs.{StretchNumbers.stretch_short}
 use Rattle.stretch_ffi.proofs.stretch_number.Goals as goal

@@ -1,6 +1,7 @@
 -- Groups of times by place: the i-th group has the i-th time of each column. One more time goes to the first group that its column lacks, and
 -- the oldest group leaves when no column lacks it, so first times are enough to say which times still fit.
-use Rattle.constraint.proofs.Library.{List, [], ◌++◌, ◌+◌, ◌-◌, ◌<◌, ◌∙◌, ◌∷◌, ◌≡◌, ◌≤◌, ◌⊎◌, ap, arith, by_cases, dec_lt, drop, get_or-drop, inl, inr}
+use Rattle.constraint.proofs.Library.{List, [], ◌++◌, ◌+◌, ◌-◌, ◌<◌, ◌∙◌, ◌∷◌, ◌≡◌, ◌≤◌, ◌⊎◌, ap, arith, by_cases, dec_lt, drop, get_or-drop, inl}
+use Rattle.constraint.proofs.Library.{inr}
 use Rattle.constraint.proofs.Library.{length, length-append, length-drop, refl, suc, sym, zero, ℕ, ℕ_discrete, ⊎_elim}
 use Rattle.constraint.proofs.Lists.{Each, Rising, at_left, at_next, rising_at}
 use Rattle.constraint.specs.Steps.{at}

@@ -6,7 +6,8 @@ use Rattle.table_row.proofs.fill.Given as goal
 
 abbrev pub invariant-loop-i : goal.invariant-loop-i
 invariant-loop-i l =
-    (l.i ≤ 18) × (l.place ≤ 1 + 8 * l.i) × (sets l.values l.i (values_at (drop l.i l.roles) l.body l.place) ≡ sets l.initial.values 0 (values_at l.roles l.body 1))
+    (l.i ≤ 18) × (l.place ≤ 1 + 8 * l.i) × (sets l.values l.i (values_at (drop l.i l.roles) l.body l.place) ≡ sets l.initial.values 0
+    (values_at l.roles l.body 1))
 
 abbrev pub decreases-loop-i : goal.decreases-loop-i
 decreases-loop-i l = 18 - l.i

@@ -7,7 +7,8 @@ use Rattle.table_row.proofs.put_fields.Given as goal
 abbrev pub invariant-loop-i : goal.invariant-loop-i
 invariant-loop-i l =
     (l.i ≤ 18) × (length l.buffer ≡ length l.initial.buffer) × (l.next ≤ l.place + 8 * l.i)
-    × (sets l.buffer l.next (fields_bytes (fields_from l.roles l.values l.i)) ≡ sets l.initial.buffer l.place (fields_bytes (fields_from l.roles l.values 0)))
+    × (sets l.buffer l.next (fields_bytes (fields_from l.roles l.values l.i)) ≡ sets l.initial.buffer l.place (fields_bytes
+    (fields_from l.roles l.values 0)))
 
 abbrev pub decreases-loop-i : goal.decreases-loop-i
 decreases-loop-i l = 18 - l.i

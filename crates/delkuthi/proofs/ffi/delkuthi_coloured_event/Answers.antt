@@ -1,5 +1,5 @@
 -- What is stored is what a request on the monitor's words promises.
-use Rattle.delkuthi.proofs.Names.{rules, takes_of}
+use Rattle.delkuthi.proofs.Names.{takes_of}
 use Rattle.delkuthi.proofs.ffi.delkuthi_coloured_event.Goals as goal
 
 pub returns : goal.returns

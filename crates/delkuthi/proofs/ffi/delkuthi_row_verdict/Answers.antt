@@ -1,5 +1,4 @@
 -- By cases on the verdict that was read.
-use Rattle.delkuthi.proofs.Names.{rules}
 use Rattle.delkuthi.proofs.{Numbers.word_read}
 use Rattle.delkuthi.proofs.ffi.delkuthi_row_verdict.Goals as goal
 

@@ -1,5 +1,4 @@
 -- No monitor has more than 32 rows, at which their number is cut.
-use Rattle.delkuthi.proofs.Names.{rules}
 use Rattle.delkuthi.proofs.{WordsRead.len_read, Numbers.rows_kept}
 use Rattle.delkuthi.proofs.ffi.delkuthi_rows.Goals as goal
 

@@ -1,5 +1,5 @@
 -- The verdict is made of numbers that are read off their places.
-use Rattle.delkuthi.proofs.Names.{◌∙◌, arith, rules, no_row, verdict_kept}
+use Rattle.delkuthi.proofs.Names.{◌∙◌, arith, no_row, verdict_kept}
 use Rattle.delkuthi.proofs.{WordsRead.placed, WordsRead.rows_there, WordsRead.verdict_read}
 use Rattle.delkuthi.proofs.ffi.read.Goals as goal
 

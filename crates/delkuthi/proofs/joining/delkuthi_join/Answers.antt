@@ -1,5 +1,5 @@
 -- The number is that of the length, or that of the refusal, which is from 1 to 127, and its place.
-use Rattle.delkuthi.proofs.Names.{AnswersJoin, JoinAnswer, arith, refl}
+use Rattle.delkuthi.proofs.Names.{arith, refl}
 use Rattle.delkuthi.proofs.{JoinNumbers.join_small, JoinNumbers.numbers_join}
 use Rattle.delkuthi.proofs.joining.delkuthi_join.Goals as goal
 

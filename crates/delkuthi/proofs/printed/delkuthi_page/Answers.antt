@@ -1,5 +1,4 @@
 -- What is written is the page of the monitor's summary.
-use Rattle.delkuthi.proofs.Names.{rules}
 use Rattle.delkuthi.proofs.{WordsRead.rows_there, Printing.page_kept}
 use Rattle.delkuthi.proofs.printed.delkuthi_page.Goals as goal
 

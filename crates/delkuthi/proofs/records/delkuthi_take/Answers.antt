@@ -1,5 +1,5 @@
 -- The number is 0, or that of the refusal, which is from 1 to 255, and its place.
-use Rattle.delkuthi.proofs.Names.{ReadAnswer, arith, rules, never, refl}
+use Rattle.delkuthi.proofs.Names.{ReadAnswer, arith, never, refl}
 use Rattle.delkuthi.proofs.{TakenRecords.taken_small}
 use Rattle.delkuthi.specs.TakingRecords.{TakesBytes}
 use Rattle.delkuthi.proofs.records.delkuthi_take.Goals as goal

@@ -1,5 +1,5 @@
 -- Each call has its own function.
-use Rattle.delkuthi.proofs.Names.{rules, takes_of}
+use Rattle.delkuthi.proofs.Names.{takes_of}
 use Rattle.delkuthi.proofs.records.take.Goals as goal
 
 pub returns-in-Event : goal.returns-in-Event

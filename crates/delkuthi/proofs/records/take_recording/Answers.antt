@@ -1,5 +1,5 @@
 -- The records are taken one after the other, and behind the last comes the close.
-use Rattle.delkuthi.proofs.Names.{ReadAnswer, arith, rules, takes_of}
+use Rattle.delkuthi.proofs.Names.{ReadAnswer, arith, takes_of}
 use Rattle.delkuthi.proofs.{TakenRecords.recording_cut, TakenRecords.recording_whole}
 use Rattle.delkuthi.specs.TakingRecords.{TakesBytes}
 use Rattle.delkuthi.proofs.records.take_recording.Goals as goal

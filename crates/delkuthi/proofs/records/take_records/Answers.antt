@@ -1,7 +1,7 @@
 -- What is taken from the next record on, after this one, is what is taken from the first on.
-use Rattle.delkuthi.proofs.Names.{CallRead, ◌-◌, ap, arith, failed, length, rules, passed}
+use Rattle.delkuthi.proofs.Names.{CallRead, ap, arith, failed, passed}
 use Rattle.constraint.proofs.Library.{not}
-use Rattle.delkuthi.proofs.TakenRecords.{TakenTo, to_end, to_more, to_none, to_refused, to_start}
+use Rattle.delkuthi.proofs.TakenRecords.{to_end, to_more, to_none, to_refused, to_start}
 use Rattle.delkuthi.specs.TakingRecords.{no_version}
 use Rattle.delkuthi.proofs.records.take_records.Goals as goal
 

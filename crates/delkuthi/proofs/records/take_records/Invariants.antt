@@ -1,7 +1,6 @@
 -- What is taken from the next record on, after this one, is what is taken from the first on.
-use Rattle.delkuthi.proofs.Names.{CallRead, ◌-◌, ap, arith, failed, length, rules, passed}
-use Rattle.delkuthi.proofs.TakenRecords.{TakenTo, to_end, to_more, to_none, to_refused, to_start}
-use Rattle.delkuthi.specs.TakingRecords.{no_version}
+use Rattle.delkuthi.proofs.Names.{◌-◌, length}
+use Rattle.delkuthi.proofs.TakenRecords.{TakenTo}
 use Rattle.delkuthi.proofs.records.take_records.Given as goal
 
 abbrev pub invariant-loop-place : goal.invariant-loop-place

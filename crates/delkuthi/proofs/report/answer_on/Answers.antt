@@ -1,5 +1,5 @@
 -- A table that is accepted has begun the monitor, and the recording is put to it; one that is refused has left all as it was.
-use Rattle.delkuthi.proofs.Names.{[], after, arith, rules}
+use Rattle.delkuthi.proofs.Names.{[], after, arith}
 use Rattle.delkuthi.proofs.{Reports.begun_over, Reports.left_unused, Reports.left_used}
 use Rattle.delkuthi.proofs.report.answer_on.Goals as goal
 

@@ -1,5 +1,4 @@
 -- What is written is what the summary of the monitor says that has taken the recording.
-use Rattle.delkuthi.proofs.Names.{rules}
 use Rattle.delkuthi.proofs.{Reports.reports_on}
 use Rattle.delkuthi.proofs.report.report_on.Goals as goal
 

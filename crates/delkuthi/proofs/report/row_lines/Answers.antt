@@ -1,6 +1,6 @@
 -- Line after line: putting the lines of the rows that are left behind what there is now gives the whole.
-use Rattle.delkuthi.proofs.Names.{◌-◌, ◌<◌, ◌∙◌, ◌≡◌, ◌≤◌, arith, drop, drop_of_length-le, extended, get_or-take, length, length-take, map}
-use Rattle.delkuthi.proofs.Names.{rules, refl, row_lines, take, verdict_for}
+use Rattle.delkuthi.proofs.Names.{◌<◌, ◌∙◌, ◌≤◌, arith, drop_of_length-le, extended, get_or-take, length, length-take}
+use Rattle.delkuthi.proofs.Names.{refl, row_lines, take, verdict_for}
 use Rattle.delkuthi.proofs.{Reports.lines_next}
 use Rattle.delkuthi.proofs.report.row_lines.Goals as goal
 

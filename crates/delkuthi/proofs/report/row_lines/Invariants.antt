@@ -1,7 +1,6 @@
 -- Line after line: putting the lines of the rows that are left behind what there is now gives the whole.
-use Rattle.delkuthi.proofs.Names.{◌-◌, ◌<◌, ◌∙◌, ◌≡◌, ◌≤◌, arith, drop, drop_of_length-le, extended, get_or-take, length, length-take, map}
-use Rattle.delkuthi.proofs.Names.{rules, refl, row_lines, take, verdict_for}
-use Rattle.delkuthi.proofs.{Reports.lines_next}
+use Rattle.delkuthi.proofs.Names.{◌-◌, ◌≡◌, ◌≤◌, drop, extended, map}
+use Rattle.delkuthi.proofs.Names.{row_lines, take, verdict_for}
 use Rattle.delkuthi.proofs.report.row_lines.Given as goal
 
 abbrev pub invariant-loop-row : goal.invariant-loop-row

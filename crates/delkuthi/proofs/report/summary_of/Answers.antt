@@ -1,7 +1,7 @@
 -- Row after row: before the turn of number i the types and steps are those of the first i rows of the monitor that lies there.
-use Rattle.delkuthi.proofs.Names.{HoldsMonitor, Monitor, ◌-◌, ◌<◌, ◌≡◌, ◌≤◌, arith, map, rules, refl}
+use Rattle.delkuthi.proofs.Names.{◌<◌, ◌≡◌, arith, refl}
 use Rattle.delkuthi.proofs.WordsRead.{broken_read, closed_read, count_read, tag_read, len_read, rows_there}
-use Rattle.delkuthi.proofs.{Summaries.front, Summaries.front_all, Summaries.front_next}
+use Rattle.delkuthi.proofs.{Summaries.front_all, Summaries.front_next}
 use Rattle.delkuthi.proofs.report.summary_of.Goals as goal
 
 pub loop-i-preserved : goal.loop-i-preserved

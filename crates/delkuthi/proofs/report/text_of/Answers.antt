@@ -1,5 +1,4 @@
 -- The lines are those of the answer, behind an empty text.
-use Rattle.delkuthi.proofs.Names.{rules}
 use Rattle.delkuthi.proofs.{Reports.holds_closed, Reports.holds_refusal}
 use Rattle.delkuthi.proofs.report.text_of.Goals as goal
 

@@ -1,5 +1,4 @@
 -- What is copied is what the text holds.
-use Rattle.delkuthi.proofs.Names.{rules}
 use Rattle.delkuthi.proofs.report.write.Goals as goal
 
 pub returns : goal.returns

@@ -1,5 +1,5 @@
 -- The number is that of the word, or that of the refusal, which is from 1 to 127, and its place.
-use Rattle.delkuthi.proofs.Names.{AnswersStampsUpTo, StampedAnswer, ◌<◌, ◌≡◌, arith, free, rules, never, ℕ}
+use Rattle.delkuthi.proofs.Names.{AnswersStampsUpTo, StampedAnswer, ◌<◌, ◌≡◌, arith, never, ℕ}
 use Rattle.delkuthi.proofs.{RecordNumbers.stamped_short}
 use Rattle.delkuthi.proofs.stamped.stamps_number.Goals as goal
 

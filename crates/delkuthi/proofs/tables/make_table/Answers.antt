@@ -1,5 +1,5 @@
 -- A written table is short enough for 256 times its length to fit in 64 bits. The number of a refusal gives its row.
-use Rattle.delkuthi.proofs.Names.{arith, rules}
+use Rattle.delkuthi.proofs.Names.{arith}
 use Rattle.delkuthi.proofs.{Refusals.makes_refused, Refusals.makes_written, Refusals.raw_short}
 use Rattle.delkuthi.proofs.tables.make_table.Goals as goal
 

@@ -1,5 +1,5 @@
 -- The test is that of `table_number`.
-use Rattle.delkuthi.proofs.Names.{eq-eqb, ne_eqb, rules}
+use Rattle.delkuthi.proofs.Names.{eq-eqb, ne_eqb}
 use Rattle.delkuthi.proofs.tables.row_number.Goals as goal
 
 pub returns-then-number-eq16 : goal.returns-then-number-eq16

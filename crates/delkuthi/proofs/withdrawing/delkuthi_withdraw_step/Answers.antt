@@ -1,5 +1,5 @@
 -- The two numbers are read off their places; a withdrawal comes behind them.
-use Rattle.delkuthi.proofs.Names.{◌∙◌, arith, rules, sym, takes_of}
+use Rattle.delkuthi.proofs.Names.{◌∙◌, arith, sym, takes_of}
 use Rattle.delkuthi.proofs.{Withdrawals.may_read, Withdrawals.none_answers, Withdrawals.some_answers, WordsRead.count_read}
 use Rattle.delkuthi.specs.WithdrawingStep.{last_step, nothing_left, other_step}
 use Rattle.delkuthi.proofs.withdrawing.delkuthi_withdraw_step.Goals as goal

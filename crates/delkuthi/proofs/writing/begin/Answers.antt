@@ -1,5 +1,5 @@
 -- Only a recording of no bytes is begun.
-use Rattle.delkuthi.proofs.Names.{eq-eqb, ne_eqb, rules}
+use Rattle.delkuthi.proofs.Names.{eq-eqb, ne_eqb}
 use Rattle.delkuthi.proofs.writing.begin.Goals as goal
 
 pub returns-then-size-eq0 : goal.returns-then-size-eq0

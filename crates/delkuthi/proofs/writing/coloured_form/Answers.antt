@@ -1,20 +1,33 @@
 -- The tests are those of the questions, in their order.
-use Rattle.delkuthi.proofs.Names.{Refused, arith, judged_no, judged_yes, rules}
+use Rattle.delkuthi.proofs.Names.{Refused, arith, judged_no, judged_yes}
 use Rattle.delkuthi.proofs.writing.coloured_form.Goals as goal
 
 pub returns-then-kind-lt-FIRST_COLOURED : goal.returns-then-kind-lt-FIRST_COLOURED
-returns-then-kind-lt-FIRST_COLOURED c = judged_yes 9 _ _ (Refused 19) (omega (arith, c.if-kind-gt-LAST_KIND.false)) (judged_no 19 _ _ (λ h. omega (arith, h.0, c.if-kind-lt-FIRST_COLOURED.true)))
+returns-then-kind-lt-FIRST_COLOURED c = judged_yes 9 _ _ (Refused 19) (omega (
+  arith,
+  c.if-kind-gt-LAST_KIND.false,
+)) (judged_no 19 _ _ (λ h. omega (arith, h.0, c.if-kind-lt-FIRST_COLOURED.true)))
 
 pub returns-then-colour-gt-LAST_COLOUR : goal.returns-then-colour-gt-LAST_COLOUR
-returns-then-colour-gt-LAST_COLOUR c = judged_yes 9 _ _ (Refused 19) (omega (arith, c.if-kind-gt-LAST_KIND.false)) (judged_no 19 _ _ (λ h. omega (arith, h.1, c.if-colour-gt-LAST_COLOUR.true)))
+returns-then-colour-gt-LAST_COLOUR c = judged_yes 9 _ _ (Refused 19) (omega (
+  arith,
+  c.if-kind-gt-LAST_KIND.false,
+)) (judged_no 19 _ _ (λ h. omega (arith, h.1, c.if-colour-gt-LAST_COLOUR.true)))
 
 pub returns-then-version-eq1 : goal.returns-then-version-eq1
-returns-then-version-eq1 c = judged_yes 9 _ _ (Refused 19) (omega (arith, c.if-kind-gt-LAST_KIND.false)) (judged_no 19 _ _ (λ h. h.2 c.if-version-eq1.true))
+returns-then-version-eq1 c = judged_yes 9 _ _ (Refused 19) (omega (
+  arith,
+  c.if-kind-gt-LAST_KIND.false,
+)) (judged_no 19 _ _ (λ h. h.2 c.if-version-eq1.true))
 
 pub returns : goal.returns
 returns c =
     judged_yes 9 _ _ _ (omega (arith, c.if-kind-gt-LAST_KIND.false))
-    (judged_yes 19 _ _ _ (omega (arith, c.if-kind-lt-FIRST_COLOURED.false), omega (arith, c.if-colour-gt-LAST_COLOUR.false), c.if-version-eq1.false) c.time_form.ensures)
+    (judged_yes 19 _ _ _ (
+      omega (arith, c.if-kind-lt-FIRST_COLOURED.false),
+      omega (arith, c.if-colour-gt-LAST_COLOUR.false),
+      c.if-version-eq1.false,
+    ) c.time_form.ensures)
 
 pub returns-then-kind-gt-LAST_KIND : goal.returns-then-kind-gt-LAST_KIND
 returns-then-kind-gt-LAST_KIND c = judged_no 9 _ _ (λ h. omega (arith, h, c.if-kind-gt-LAST_KIND.true))

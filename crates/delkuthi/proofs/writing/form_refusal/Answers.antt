@@ -1,5 +1,5 @@
 -- Each call has its own questions.
-use Rattle.delkuthi.proofs.Names.{judged_no, rules}
+use Rattle.delkuthi.proofs.Names.{judged_no}
 use Rattle.delkuthi.proofs.writing.form_refusal.Goals as goal
 
 pub returns-in-Event : goal.returns-in-Event

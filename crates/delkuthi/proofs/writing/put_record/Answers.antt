@@ -1,5 +1,5 @@
 -- The questions come first; then the record is stored where it reads back.
-use Rattle.delkuthi.proofs.Names.{◌+◌, ap, arith, rules, ℕ}
+use Rattle.delkuthi.proofs.Names.{◌+◌, ap, arith, ℕ}
 use Rattle.delkuthi.proofs.WrittenRecords.{put_refused, put_room, put_written}
 use Rattle.delkuthi.proofs.writing.put_record.Goals as goal
 

@@ -1,5 +1,5 @@
 -- The test is that of `version_for`.
-use Rattle.delkuthi.proofs.Names.{eq-eqb, ne_eqb, rules}
+use Rattle.delkuthi.proofs.Names.{eq-eqb, ne_eqb}
 use Rattle.delkuthi.proofs.writing.version_for.Goals as goal
 
 pub returns-then-size-eq0 : goal.returns-then-size-eq0

@@ -7,7 +7,13 @@ returns-then-high-eq0 c = rw (c.goes_on.ensures, c.plus-next.ensures, eq-eqb _ _
 
 pub returns-then-high-next : goal.returns-then-high-next
 returns-then-high-next c =
-    rw (c.goes_on-then-high-next.ensures, ← c.plus-next.ensures, ne_eqb _ _ c.if-high-eq0.false, eq-eqb _ _ c.if-minimum-eq0.true, eq-eqb _ _ c.if-high-next.true)
+    rw (
+      c.goes_on-then-high-next.ensures,
+      ← c.plus-next.ensures,
+      ne_eqb _ _ c.if-high-eq0.false,
+      eq-eqb _ _ c.if-minimum-eq0.true,
+      eq-eqb _ _ c.if-high-next.true,
+    )
 
 pub returns-then-minimum-eq0 : goal.returns-then-minimum-eq0
 returns-then-minimum-eq0 c =

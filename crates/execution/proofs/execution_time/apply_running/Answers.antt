@@ -4,7 +4,8 @@ use Rattle.row_type.specs.Words.{changed_words, number_words, row_as_words}
 use Rattle.execution.specs.ExecutionTime.{ran_to, while_running}
 use Rattle.execution.proofs.execution_time.apply_running.Goals as goal
 use Rattle.execution.proofs.execution_time.apply_running.Goals.{else-stream-row-via-then-stream-row+else-row-ran, else-stream-row-via-else-stream-row}
-use Rattle.execution.proofs.execution_time.apply_running.Goals.{else-stream-row-2-via-then-stream-row-2+else-ran-row, else-stream-row-2-via-else-stream-row-2}
+use Rattle.execution.proofs.execution_time.apply_running.Goals.{else-stream-row-2-via-then-stream-row-2+else-ran-row}
+use Rattle.execution.proofs.execution_time.apply_running.Goals.{else-stream-row-2-via-else-stream-row-2}
 
 pub returns-then-row-ran : goal.returns-then-row-ran
 unfolding row_as_words number_words while_running
@@ -18,7 +19,12 @@ unfolding row_as_words number_words while_running
 returns-then-ran-row c parameters times state past e =
     let ran : c.plus-ran.result ≡ ran_to state.registers c.args.t = c.plus-ran.ensures
     ∙ rw (c.minus.ensures, c.plus.ensures, e) refl in
-    rw (c.enter-then-ran-row.ensures parameters times state past e, ← ran, eq-eqb _ _ (rw e at c.if-stream-row-2.true), lt-ltb _ _ (rw e at c.if-ran-row.true))
+    rw (
+      c.enter-then-ran-row.ensures parameters times state past e,
+      ← ran,
+      eq-eqb _ _ (rw e at c.if-stream-row-2.true),
+      lt-ltb _ _ (rw e at c.if-ran-row.true),
+    )
     (elim c.else-stream-row.branch [
       | else-stream-row-via-then-stream-row+else-row-ran w ↦
           rw (eq-eqb _ _ (rw e at w.if-stream-row.true), lt-leb _ _ (rw e at w.if-row-ran.false)) refl

@@ -6,7 +6,8 @@ use Rattle.row_type.specs.Words.{changed_words, number_words, row_as_words}
 use Rattle.hidden_points.specs.Sporadic.{decide_sporadic, highest, later_sporadic, lowest, stride}
 use Rattle.hidden_points.proofs.sporadic.apply.Goals as goal
 use Rattle.hidden_points.proofs.sporadic.apply.Goals.{then-stride-upper+then-far_enough+else-low-high, else-stride-upper}
-use Rattle.hidden_points.proofs.sporadic.apply.Goals.{else-stride-upper-via-then-stride-upper+else-far_enough, else-stride-upper-via-else-stride-upper}
+use Rattle.hidden_points.proofs.sporadic.apply.Goals.{else-stride-upper-via-then-stride-upper+else-far_enough}
+use Rattle.hidden_points.proofs.sporadic.apply.Goals.{else-stride-upper-via-else-stride-upper}
 
 -- the three tests of a later event
 abbrev goes : Parameters → Registers → ℕ → Bool

@@ -8,7 +8,8 @@ use Rattle.in_place.proofs.calls.close.Goals as goal
 pub returns-then-refusal-gt0 : goal.returns-then-refusal-gt0
 returns-then-refusal-gt0 c =
     let a = c.args in
-    refused_stores a.m.now Call.Close _ (λ h e s. first_number h Call.Close _ (c.first_refusal-refusal.ensures h e s) c.if-refusal-gt0.true) c.if-refusal-gt0.true
+    refused_stores a.m.now Call.Close _ (λ h e s. first_number h Call.Close _
+    (c.first_refusal-refusal.ensures h e s) c.if-refusal-gt0.true) c.if-refusal-gt0.true
 
 pub returns : goal.returns
 returns c =

@@ -49,7 +49,16 @@ returns-then-colour-gt-LAST_COLOUR c =
 pub returns : goal.returns
 returns c =
     let a = c.args in (
-      λ z. (omega (arith, c.if-kind-lt-FIRST_COLOURED.false), (omega (arith, c.if-kind-gt-LAST_KIND.false), omega (arith, c.if-colour-gt-LAST_COLOUR.false))),
+      λ z. (
+        omega (arith, c.if-kind-lt-FIRST_COLOURED.false),
+        (
+          omega (arith, c.if-kind-gt-LAST_KIND.false),
+          omega (
+            arith,
+            c.if-colour-gt-LAST_COLOUR.false,
+          ),
+        ),
+      ),
       λ h e s.
           own_number h (Call.ColouredEvent a.kind a.colour a.time) _ _ (c.first_refusal-first.ensures h e s)
           (omega (arith, c.if-first-gt0.false))

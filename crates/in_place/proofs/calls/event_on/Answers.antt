@@ -11,7 +11,8 @@ returns-then-event_would_overflow c =
     record {
       untouched = λ _. same;
       stores = λ h e s going.
-          let crowds : crowded_on h a.kind a.stream a.time ≡ true = sym (c.event_would_overflow.ensures.asked h e s) ∙ c.if-event_would_overflow.true in
+          let crowds : crowded_on h a.kind a.stream a.time ≡ true = sym (c.event_would_overflow.ensures.asked h e s)
+          ∙ c.if-event_would_overflow.true in
           (rw crowds refl, rw crowds (same ∙ e));
     }
 

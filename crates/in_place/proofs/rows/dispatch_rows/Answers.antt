@@ -73,8 +73,11 @@ returns c h e s =
     ∙ ap (λ (rows : List ℕ). dispatched x rows o a.number) no_rows))
 
 pub mark_full-requires : goal.mark_full-requires
-mark_full-requires c =
-    ((low c.loop-left.left c.loop-left-test.true c.loop-left.invariant.0).below, c.loop-left-test.true, (low c.loop-left.left c.loop-left-test.true c.loop-left.invariant.0).apart)
+mark_full-requires c = (
+  (low c.loop-left.left c.loop-left-test.true c.loop-left.invariant.0).below,
+  c.loop-left-test.true,
+  (low c.loop-left.left c.loop-left-test.true c.loop-left.invariant.0).apart,
+)
 
 pub overflow_cast-i : goal.overflow_cast-i
 overflow_cast-i c = omega (arith, (low c.loop-left.left c.loop-left-test.true c.loop-left.invariant.0).below)

@@ -15,7 +15,8 @@ returns-then-m-i-gt-NEARLY_FULL c h e s =
     let own : bit ≡ 2 ^ a.i = omega (arith, c.requires.2) in
     let more : ltb 62 (row_at h.monitor a.i).now.len ≡ true = ap (ltb 62) (sym len) ∙ lt-ltb _ _ c.if-m-i-gt-NEARLY_FULL.true in
     rw more
-    (ap (λ (m : Words). set m 32 (set (get_or m 32 []) 0 (set (get_or (get_or m 32 []) 0 []) 11 (bit_or (get_or (get_or (get_or m 32 []) 0 []) 11 0) bit)))) e
+    (ap (λ (m : Words). set m 32 (set (get_or m 32 []) 0 (set (get_or (get_or m 32 []) 0 []) 11 (bit_or (get_or (get_or
+    (get_or m 32 []) 0 []) 11 0) bit)))) e
     ∙ full_written h s (bit_or (get_or (get_or (get_or (words_of_lent h) 32 []) 0 []) 11 0) bit)
     ∙ ap₂ (λ (x y : ℕ). words_of_lent (with_full h (bit_or x y))) (number_at h s (words_of_lent h) refl 11) own)
 

@@ -5,7 +5,8 @@ use Rattle.in_place.proofs.rows.rows_overflow.Given as goal
 
 abbrev pub invariant-loop-left : goal.invariant-loop-left
 invariant-loop-left l =
-    (l.left < 4294967296) × ((h : Lent) → l.m ≡ words_of_lent h → Shaped h → crowded h (rows_in l.rows) l.stream l.t ≡ crowded h (rows_in l.left) l.stream l.t)
+    (l.left < 4294967296) × ((h : Lent) → l.m ≡ words_of_lent h → Shaped h
+    → crowded h (rows_in l.rows) l.stream l.t ≡ crowded h (rows_in l.left) l.stream l.t)
 
 abbrev pub decreases-loop-left : goal.decreases-loop-left
 decreases-loop-left l = l.left

@@ -6,7 +6,8 @@ use Rattle.in_place.proofs.{Blocks.row_lies}
 use Rattle.row.specs.Stored as Stored
 use Rattle.in_place.proofs.rows.soonest_of_four.Goals as goal
 
-due_read : (h : Lent) → Shaped h → (m : Words) → m ≡ words_of_lent h → (i : ℕ) → i < 32 → get_or (get_or (get_or m i []) 1 []) 17 0 ≡ due_at h.monitor i
+due_read : (h : Lent) → Shaped h → (m : Words) → m ≡ words_of_lent h → (i : ℕ) → i < 32
+    → get_or (get_or (get_or m i []) 1 []) 17 0 ≡ due_at h.monitor i
 unfolding Stored.words_of_row row_as_words number_words
 due_read h s m e i there = ap (λ (w : List (List ℕ)). get_or (get_or w 1 []) 17 0) (row_lies h s m e i there)
 
@@ -17,4 +18,7 @@ returns c h e s =
     c.smaller.ensures
     ∙ ap₂ min
     (c.smaller-one.ensures ∙ ap₂ min (due_read h s m e a.i (omega (arith, c.requires))) (due_read h s m e (a.i + 1) (omega (arith, c.requires))))
-    (c.smaller-two.ensures ∙ ap₂ min (due_read h s m e (a.i + 2) (omega (arith, c.requires))) (due_read h s m e (a.i + 3) (omega (arith, c.requires))))
+    (c.smaller-two.ensures ∙ ap₂ min (due_read h s m e (a.i + 2) (omega (arith, c.requires))) (due_read h s m e (a.i + 3) (omega (
+      arith,
+      c.requires,
+    ))))

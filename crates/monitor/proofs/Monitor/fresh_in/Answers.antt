@@ -1,5 +1,5 @@
 -- The table's answer is that of its questions; over an accepted table all its rows are taken, and otherwise none.
-use Rattle.monitor.proofs.Names.{Accepted, AcceptedIn, ◌∙◌, after, ap, arith, monitor_of, rules, never, play, rows_length, rows_of, take_all}
+use Rattle.monitor.proofs.Names.{Accepted, ◌∙◌, after, ap, arith, monitor_of, never, play, rows_length, rows_of, take_all}
 use Rattle.monitor.proofs.{Demand.accepted_few, Demand.accepted_sound, FittingRows.sound_place}
 use Rattle.monitor.proofs.Monitor.fresh_in.Goals as goal
 

@@ -1,6 +1,6 @@
 -- The number of the first "no" is that of `refusal_by`; past it the rows take the call, which is the next step, and where it crowds one of them the
 -- monitor is handed back as it was.
-use Rattle.monitor.proofs.Names.{◌∙◌, ◌≡◌, ap, arith, asks, crowds, false, rules, place_small, step_of, stepped_by, sym, taken_call}
+use Rattle.monitor.proofs.Names.{◌∙◌, ◌≡◌, ap, arith, asks, crowds, false, place_small, step_of, stepped_by, sym, taken_call}
 use Rattle.monitor.proofs.{Answers.crowded_by, Answers.refused_by, Answers.taken_by, Theorem.step_kept}
 use Rattle.monitor.proofs.Monitor.step.Goals as goal
 

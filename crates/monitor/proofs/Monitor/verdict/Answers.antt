@@ -1,5 +1,5 @@
 -- The row at the place of that number is the row of that number where there is one, and the verdict is read off its numbers.
-use Rattle.monitor.proofs.Names.{◌∙◌, ◌≡◌, arith, length, length-map, rules, sym}
+use Rattle.monitor.proofs.Names.{arith}
 use Rattle.monitor.proofs.{RowVerdicts.place_small, RowVerdicts.verdict_kept}
 use Rattle.monitor.proofs.Monitor.verdict.Goals as goal
 

@@ -1,5 +1,5 @@
 -- The test is that of `withdraw_of`; past it each row and each number is put back.
-use Rattle.monitor.proofs.Names.{◌∙◌, arith, cond_false, cond_true, le-ltb, lt-ltb, ltb, rules, place_in_small, refuses, sym, takes}
+use Rattle.monitor.proofs.Names.{◌∙◌, arith, cond_false, cond_true, le-ltb, lt-ltb, ltb, place_in_small, refuses, sym, takes}
 use Rattle.monitor.proofs.Names.{withdraw_of, withdrawn, withdraws}
 use Rattle.monitor.proofs.{Theorem.step_kept}
 use Rattle.monitor.proofs.Monitor.withdraw.Goals as goal

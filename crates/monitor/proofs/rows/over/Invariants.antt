@@ -1,8 +1,7 @@
 -- The loop puts the row of one constraint after the other into an array of rows of the filler.
-use Rattle.monitor.proofs.Names.{Known, Table, TableRow, ◌-◌, ◌<◌, ◌∙◌, ◌≡◌, ◌≤◌, arith, drop-cons, filler, get_or, length, length-map}
-use Rattle.monitor.proofs.Names.{length-take-le}
-use Rattle.monitor.proofs.Names.{monitor_of, rules, no_row, row_in, row_of, rows_from, rows_length, rows_of, subst, subst⁻¹, sym, ℕ}
-use Rattle.monitor.proofs.{Filled.filled, Filled.filled_next}
+use Rattle.monitor.proofs.Names.{◌-◌, ◌≡◌, ◌≤◌}
+use Rattle.monitor.proofs.Names.{no_row, row_of, rows_of}
+use Rattle.monitor.proofs.{Filled.filled}
 use Rattle.monitor.proofs.rows.over.Given as goal
 
 abbrev pub invariant-loop-i : goal.invariant-loop-i

@@ -1,6 +1,6 @@
 -- The loop gives the step to one row after the other, as many as the monitor holds, and stops at the first that it crowds.
-use Rattle.monitor.proofs.Names.{◌-◌, ◌∙◌, ◌≡◌, ◌≤◌, arith, length, length-map, rules, sym}
-use Rattle.monitor.proofs.{First.Moved, First.moved_all, First.moved_full, First.moved_next, First.moved_none}
+use Rattle.monitor.proofs.Names.{arith}
+use Rattle.monitor.proofs.{First.moved_all, First.moved_full, First.moved_next, First.moved_none}
 use Rattle.monitor.proofs.rows.step.Goals as goal
 
 pub returns-then-stepped : goal.returns-then-stepped

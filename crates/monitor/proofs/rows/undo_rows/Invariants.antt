@@ -1,6 +1,5 @@
 -- The loop takes the step from one row after the other, as many as the monitor holds.
-use Rattle.monitor.proofs.Names.{◌-◌, ◌∙◌, ◌≡◌, ◌≤◌, arith, length, length-map, rules, rows_without, sym}
-use Rattle.monitor.proofs.{First.without_all, First.without_next, First.without_none}
+use Rattle.monitor.proofs.Names.{◌-◌, ◌≡◌, ◌≤◌, rows_without}
 use Rattle.monitor.proofs.rows.undo_rows.Given as goal
 
 abbrev pub invariant-loop-i : goal.invariant-loop-i

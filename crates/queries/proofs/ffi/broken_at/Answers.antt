@@ -1,5 +1,5 @@
 -- The step that broke the row stands at its place.
-use Rattle.queries.proofs.Names.{arith, le-ltb, lt-ltb, rules, refl}
+use Rattle.queries.proofs.Names.{arith, le-ltb, lt-ltb, refl}
 use Rattle.queries.proofs.{Places.numbers_lie}
 use Rattle.queries.proofs.ffi.broken_at.Goals as goal
 

@@ -1,5 +1,5 @@
 -- From the last row to the first, each adds its bit below those behind it.
-use Rattle.queries.proofs.Names.{HoldsMonitor, Monitor, ◌-◌, ◌<◌, ◌^◌, ◌≡◌, ◌≤◌, arith, broken_marks, held_rows, rules, row_limit, sym}
+use Rattle.queries.proofs.Names.{◌-◌, ◌≡◌, arith, row_limit, sym}
 use Rattle.queries.proofs.RowPresent.{bits_next, bits_room, marks_next, marks_none, power_some}
 use Rattle.queries.proofs.{Places.held_lies, Theorem.broken_rows_asked}
 use Rattle.queries.proofs.ffi.delkuthi_broken_rows.Goals as goal

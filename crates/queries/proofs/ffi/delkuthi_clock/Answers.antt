@@ -1,5 +1,4 @@
 -- The clock stands at its place.
-use Rattle.queries.proofs.Names.{rules}
 use Rattle.queries.proofs.{Places.clock_lies, Theorem.clock_asked}
 use Rattle.queries.proofs.ffi.delkuthi_clock.Goals as goal
 

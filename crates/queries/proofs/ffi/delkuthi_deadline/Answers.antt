@@ -1,5 +1,5 @@
 -- Row after row: before the turn of number i it is the least deadline of the first i.
-use Rattle.queries.proofs.Names.{HoldsMonitor, Monitor, ◌-◌, ◌∙◌, ◌≡◌, ◌≤◌, arith, least_of, rules, sym}
+use Rattle.queries.proofs.Names.{◌∙◌, arith, sym}
 use Rattle.queries.proofs.RowPresent.{is_there, least_all, least_next, least_none}
 use Rattle.queries.proofs.{Places.held_lies, Theorem.deadline_asked}
 use Rattle.queries.proofs.ffi.delkuthi_deadline.Goals as goal

@@ -1,5 +1,5 @@
 -- A row that is there has what its numbers say, and any other none.
-use Rattle.queries.proofs.Names.{arith, rules}
+use Rattle.queries.proofs.Names.{arith}
 use Rattle.queries.proofs.Places.{held_lies, numbers_lie}
 use Rattle.queries.proofs.{Theorem.moment_asked, RowPresent.is_there, RowPresent.not_there}
 use Rattle.queries.proofs.ffi.delkuthi_row_moment.Goals as goal

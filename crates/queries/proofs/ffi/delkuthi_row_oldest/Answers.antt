@@ -1,5 +1,5 @@
 -- A row that is there has the oldest that waits by its numbers, and any other none.
-use Rattle.queries.proofs.Names.{arith, rules}
+use Rattle.queries.proofs.Names.{arith}
 use Rattle.queries.proofs.RowPresent.{is_there, not_there}
 use Rattle.queries.proofs.{Places.held_lies, Theorem.oldest_asked}
 use Rattle.queries.proofs.ffi.delkuthi_row_oldest.Goals as goal

@@ -1,5 +1,5 @@
 -- In a row that is there as many wait as its numbers say, and in any other none.
-use Rattle.queries.proofs.Names.{arith, rules}
+use Rattle.queries.proofs.Names.{arith}
 use Rattle.queries.proofs.RowPresent.{is_there, not_there}
 use Rattle.queries.proofs.{Places.held_lies, Theorem.waiting_asked}
 use Rattle.queries.proofs.ffi.delkuthi_row_waiting.Goals as goal

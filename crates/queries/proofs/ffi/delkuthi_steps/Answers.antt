@@ -1,5 +1,4 @@
 -- The count stands at its place.
-use Rattle.queries.proofs.Names.{rules}
 use Rattle.queries.proofs.{Places.count_lies, Theorem.steps_asked}
 use Rattle.queries.proofs.ffi.delkuthi_steps.Goals as goal
 

@@ -1,5 +1,5 @@
 -- Where something waits, the oldest is the first time of the ring, which is the row's first array.
-use Rattle.queries.proofs.Names.{◌<◌, arith, le-ltb, lt-ltb, rules}
+use Rattle.queries.proofs.Names.{◌<◌, arith, le-ltb, lt-ltb}
 use Rattle.queries.proofs.{Oldest.above_zero, Places.numbers_lie, Places.times_lie}
 use Rattle.queries.specs.Numbers.{waiting_at}
 use Rattle.queries.proofs.ffi.oldest_at.Goals as goal

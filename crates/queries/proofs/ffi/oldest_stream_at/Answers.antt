@@ -1,5 +1,5 @@
 -- Where something waits, the stream is the kind that the row's numbers name.
-use Rattle.queries.proofs.Names.{◌<◌, ◌∙◌, ap, ap₂, arith, le-ltb, lt-ltb, min, rules, ℕ}
+use Rattle.queries.proofs.Names.{◌<◌, ◌∙◌, ap, ap₂, arith, le-ltb, lt-ltb, min, ℕ}
 use Rattle.queries.proofs.{Oldest.above_zero, Places.parameters_lie, Places.registers_lie}
 use Rattle.queries.specs.{Numbers.oldest_kind, Numbers.waiting_at, Oldest.no_stream}
 use Rattle.queries.proofs.ffi.oldest_stream_at.Goals as goal

@@ -1,5 +1,4 @@
 -- The numbers of the row stand at their places.
-use Rattle.queries.proofs.Names.{rules}
 use Rattle.queries.proofs.{Places.closed_lies, Places.numbers_lie}
 use Rattle.queries.proofs.ffi.waiting_at.Goals as goal
 

@@ -1,5 +1,5 @@
 -- The loop stores value after value: storing those left in what there is now gives the whole.
-use Rattle.constraint.proofs.Library.{List, ◌-◌, ◌∙◌, ap, ap₂, arith, length, replicate, sym, take, ℕ}
+use Rattle.constraint.proofs.Library.{List, ◌∙◌, ap, ap₂, arith, length, replicate, sym, take, ℕ}
 use Rattle.read_back.specs.Back.{constant_limit, values_back}
 use Rattle.read_back.proofs.Values.{all_stored, constants_late, value_more, none_left}
 use Rattle.read_back.proofs.words.values_in.Goals as goal

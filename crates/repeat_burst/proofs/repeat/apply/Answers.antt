@@ -1,7 +1,8 @@
 -- The row goes on where both tests hold, with the time that has come.
 use Rattle.constraint.proofs.Library.{List, [], ◌++◌, ◌∙◌, ◌∷◌, ◌≡◌, ap, drop, length, refl, sym, true, ℕ}
 use Rattle.row_type.proofs.Oldest.{due_or_pushed}
-use Rattle.row_type.specs.{Parts.continues_with, Parts.due_oldest, Parts.far_enough, Parts.plus, Parts.with_last, Words.changed_words, Words.last_saved}
+use Rattle.row_type.specs.{Parts.continues_with, Parts.due_oldest, Parts.far_enough, Parts.plus, Parts.with_last, Words.changed_words}
+use Rattle.row_type.specs.{Words.last_saved}
 use Rattle.row_type.specs.{Words.number_words, Words.undo_with, Words.row_as_words, declared.Change.Change, declared.Registers.Registers}
 use Rattle.row_type.specs.{declared.Parameters.Parameters}
 use Rattle.ring.specs.{Ring.ring, declared.Edit.TheVariants.Push}

@@ -6,12 +6,25 @@ use Rattle.table.proofs.raw.refused_row.Goals as goal
 pub returns-then-bytes-start-lt-RAW_SIZE : goal.returns-then-bytes-start-lt-RAW_SIZE
 returns-then-bytes-start-lt-RAW_SIZE c =
     let loop = c.loop-i in
-    record { room = loop.invariant.0; taken = loop.invariant.3; refused = λ room whole. absurd (omega (arith, c.if-bytes-start-lt-RAW_SIZE.true, loop.invariant.1)) }
+    record {
+      room = loop.invariant.0;
+      taken = loop.invariant.3;
+      refused = λ room whole. absurd (omega (
+        arith,
+        c.if-bytes-start-lt-RAW_SIZE.true,
+        loop.invariant.1,
+      ));
+    }
 
 pub returns-then-not-row_taken : goal.returns-then-not-row_taken
 returns-then-not-row_taken c =
     let loop = c.loop-i in let test = c.row_taken in
-    record { room = loop.invariant.0; taken = loop.invariant.3; refused = λ room whole. failed test.result test.ensures (ap not c.if-not-row_taken.true) }
+    record {
+      room = loop.invariant.0;
+      taken = loop.invariant.3;
+      refused =
+          λ room whole. failed test.result test.ensures (ap not c.if-not-row_taken.true);
+    }
 
 pub loop-i-preserved : goal.loop-i-preserved
 loop-i-preserved c =

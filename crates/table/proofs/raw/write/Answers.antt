@@ -41,7 +41,11 @@ returns-then-buffer-size c =
     all_written a.edition a.rows.now a.buffer.now _ known.result _ (λ i h. omega (arith, (c.type_inv.rows i).fits))
     known.ensures
     (omega (arith, c.if-rows-known-ge-RAW_SIZE.false, known.ensures.whole))
-    (written_short a.edition _ a.buffer.now (rw c.in-Taken.is at c.validate_rows.ensures) (omega (arith, c.size_of-size.ensures, c.if-buffer-size.true)))
+    (written_short a.edition _ a.buffer.now (rw c.in-Taken.is at c.validate_rows.ensures) (omega (
+      arith,
+      c.size_of-size.ensures,
+      c.if-buffer-size.true,
+    )))
 
 pub put_rows-requires : goal.put_rows-requires
 put_rows-requires c = (
@@ -61,7 +65,11 @@ returns c =
     all_written a.edition a.rows.now a.buffer.now _ known.result _ (λ i h. omega (arith, (c.type_inv.rows i).fits))
     known.ensures
     (omega (arith, c.if-rows-known-ge-RAW_SIZE.false, known.ensures.whole))
-    (written_all a.edition _ a.buffer.now _ _ _ (rw c.in-Taken.is at c.validate_rows.ensures) (omega (arith, c.if-buffer-size.false, c.size_of-size.ensures))
+    (written_all a.edition _ a.buffer.now _ _ _ (rw c.in-Taken.is at c.validate_rows.ensures) (omega (
+      arith,
+      c.if-buffer-size.false,
+      c.size_of-size.ensures,
+    ))
     (omega (arith, c.size_of-size.ensures)) c.put_byte.ensures c.put_rows.ensures)
 
 pub overflow_mul-known : goal.overflow_mul-known

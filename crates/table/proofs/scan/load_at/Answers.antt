@@ -44,7 +44,10 @@ returns c =
     record {
       placed = record {
         read = λ there. same;
-        stands = λ there edition. subst⁻¹ (RowAt edition bytes a.place) same (row_at edition bytes a.place (λ i h. omega (arith, (c.type_inv.bytes i).fits)));
+        stands = λ there edition. subst⁻¹ (RowAt edition bytes a.place) same (row_at edition bytes a.place (λ i h. omega (
+          arith,
+          (c.type_inv.bytes i).fits,
+        )));
         behind = λ there. omega (arith, size.ensures);
         none = λ not_whole. absurd (not_whole (yes_of c.whole_at.result c.whole_at.ensures c.if-not-whole_at.false));
       };

@@ -8,7 +8,8 @@ use Rattle.table_row.proofs.Table.validate.Given as goal
 
 abbrev pub invariant-loop-i : goal.invariant-loop-i
 invariant-loop-i l =
-    (l.i ≤ l.count) × ((a : Answer) → Judged (rows_questions l.edition l.i (drop l.i (rows_of l.self)) []) a → Judged (rows_questions l.edition 0 (rows_of l.self) []) a)
+    (l.i ≤ l.count) × ((a : Answer) → Judged (rows_questions l.edition l.i (drop l.i (rows_of l.self)) []) a
+    → Judged (rows_questions l.edition 0 (rows_of l.self) []) a)
 
 abbrev pub decreases-loop-i : goal.decreases-loop-i
 decreases-loop-i l = l.count - l.i

@@ -7,7 +7,8 @@ use Rattle.table_row.proofs.fields.kinds_fit.Given as goal
 
 abbrev pub invariant-loop-i : goal.invariant-loop-i
 invariant-loop-i l =
-    (l.i ≤ 18) × ((b : Bool) → Decides (KindsFit (kinds_in (fields_from l.roles l.values l.i))) b → Decides (KindsFit (kinds_in (fields_from l.roles l.values 0))) b)
+    (l.i ≤ 18) × ((b : Bool) → Decides (KindsFit (kinds_in (fields_from l.roles l.values l.i))) b
+    → Decides (KindsFit (kinds_in (fields_from l.roles l.values 0))) b)
 
 abbrev pub decreases-loop-i : goal.decreases-loop-i
 decreases-loop-i l = 18 - l.i

@@ -9,7 +9,8 @@ pub returns-then-role-eq-UPPER_OR_NONE : goal.returns-then-role-eq-UPPER_OR_NONE
 returns-then-role-eq-UPPER_OR_NONE c =
     let x = c.args.value in
     rw c.if-role-eq-UPPER_OR_NONE.true
-    (same_test (λ h. (inl h, tt)) (λ h. ⊎_elim (λ small. small) (λ mark. absurd (c.if-value-eq-NO_LIMIT.false mark)) h.0) (leb x last_time) (test_le x last_time))
+    (same_test (λ h. (inl h, tt)) (λ h. ⊎_elim (λ small. small) (λ mark. absurd (c.if-value-eq-NO_LIMIT.false mark)) h.0) (leb x last_time)
+    (test_le x last_time))
 
 pub returns-then-role-lt-FIRST_BYTE : goal.returns-then-role-lt-FIRST_BYTE
 returns-then-role-lt-FIRST_BYTE c =

@@ -60,7 +60,7 @@ pub use Rattle.table.specs.Raw.{FirstRefused, RawRows, WritesRaw, all_read, raw_
 pub use Rattle.table.specs.{Writing.Writes, Writing.answer_in, declared.ReadAnswer.ReadAnswer, declared.WriteAnswer.WriteAnswer}
 pub use Rattle.text.proofs.Reports.{closed_append, closed_length, copied_reports, refused_length, report_limit, rows_more}
 pub use Rattle.text.proofs.Texts.{extended_append, holds_all}
-pub use Rattle.text.specs.{Content.Copied, Content.HoldsText as Contains, Content.empty_text, Lines.closed_line, Lines.row_line, declared.Text.Text}
+pub use Rattle.text.specs.{Content.Copied, Content.HoldsText, Content.empty_text, Lines.closed_line, Lines.row_line, declared.Text.Text}
 pub use lib.Bits.{and_le_r, and_mask}
 unfoldable pub use Rattle.constraint.specs.{Accepted.rows_questions, Promise.play, Questions.Judged, Recording.record_questions, Report.row_lines}
 unfoldable pub use Rattle.constraint.specs.{Run.questions, Steps.closed, Table.place_questions, Table.rows_bytes, Table.table_bytes_in}

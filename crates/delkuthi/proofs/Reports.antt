@@ -1,5 +1,5 @@
 -- The report's text follows from what reading the table and the recording gave, and there is room for all of it.
-use Rattle.delkuthi.proofs.Names.{BeginsUpTo, Call, Constraint, Contains, Copied, EachReads, HoldsMonitor, LeftBy, List, Monitor, ReadAnswer}
+use Rattle.delkuthi.proofs.Names.{BeginsUpTo, Call, Constraint, HoldsText, Copied, EachReads, HoldsMonitor, LeftBy, List, Monitor, ReadAnswer}
 use Rattle.delkuthi.proofs.Names.{ReadsRecording, ReadsTableUpTo, RecordingTakenAs, ReportOfUpTo, ReportsOf, ReportsOnUpTo, ReportsSteps}
 use Rattle.delkuthi.proofs.Names.{ReportsUpTo, Step, Summary, TakesRecords, Text, Verdict, Words, [], ◌%◌, ◌*◌, ◌++◌, ◌+◌, ◌/◌, ◌<◌, ◌∙◌, ◌∷◌}
 use Rattle.delkuthi.proofs.Names.{◌≡◌, ◌≤◌, add-one, after, all_taken_lem, ap, ap₂, arith, asks, at, begun, close, closed_append, closed_close}
@@ -28,14 +28,14 @@ lines_next f l i text there =
 
 -- §7.4
 pub holds_closed : (summary : Summary) (before text : Text) → before ≡ extended (closed_line summary.count) empty_text
-    → text ≡ extended (row_lines 0 (verdicts_in summary)) before → Contains text (closed_text summary.count (verdicts_in summary))
+    → text ≡ extended (row_lines 0 (verdicts_in summary)) before → HoldsText text (closed_text summary.count (verdicts_in summary))
 holds_closed summary before text line lines =
     rw (lines, line, ← extended_append (closed_line summary.count) (row_lines 0 (verdicts_in summary)) empty_text)
     (rw (← closed_append summary.count (verdicts_in summary)) (holds_all (closed_text summary.count (verdicts_in summary))
     (omega (arith, closed_length summary.count (verdicts_in summary) (verdicts_few summary)))))
 
 -- §7.5
-pub holds_refusal : (n place : ℕ) (text : Text) → text ≡ extended (refused_text n place) empty_text → Contains text (refused_text n place)
+pub holds_refusal : (n place : ℕ) (text : Text) → text ≡ extended (refused_text n place) empty_text → HoldsText text (refused_text n place)
 holds_refusal n place text e = rw e (holds_all (refused_text n place) (omega (arith, refused_length n place)))
 
 -- ---- what is left by a table and a recording

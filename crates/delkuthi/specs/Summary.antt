@@ -3,7 +3,7 @@ use Rattle.std.specs.Prelude.{ℕ, ◌/◌, ◌%◌, min, List, map, take}
 use Rattle.constraint.specs.Limits.{row_limit}
 use Rattle.constraint.specs.Report.{closed_text, refused_text}
 use Rattle.constraint.specs.declared.Verdict.{Verdict}
-use Rattle.text.specs.Content.{HoldsText as Contains}
+use Rattle.text.specs.Content.{HoldsText}
 use Rattle.text.specs.declared.Text.{Text}
 use Rattle.monitor.specs.declared.Monitor.{Monitor}
 use Rattle.page.specs.Sheet.{verdict_for}
@@ -42,4 +42,4 @@ report_text (ReadAnswer.Refused n place) summary = refused_text n place
 pub record Tells (Said : List ℕ → Type 0) (text : Text) : Type 0 where
   pub bytes : List ℕ
   pub said : Said bytes
-  pub holds : Contains text bytes
+  pub holds : HoldsText text bytes

@@ -1,7 +1,7 @@
 // The report of a monitor and the summary that report and page need. The summary is read from the lent words.
 ghost use Rattle.std.specs.Prelude.{◌≤◌, ◌≡◌, map, length, take};
 ghost use Rattle.constraint.specs.Report.{row_lines, ReportsUpTo};
-ghost use Rattle.text.specs.Content.{extended, HoldsText as Contains, Copied};
+ghost use Rattle.text.specs.Content.{extended, HoldsText, Copied};
 ghost use Rattle.page.specs.Sheet.{verdict_for};
 ghost use Rattle.monitor.specs.declared.Monitor.{Monitor};
 ghost use Rattle.in_place.specs.Contract.{HoldsMonitor};
@@ -74,7 +74,7 @@ fn row_lines(text: Text, steps: &[u64], rows: usize, closed: u64) -> Text
 
 // Returns the text of the report: "closed N" and the lines of the rows, or "refused N P".
 pub(crate) fn text_of(answer: ReadAnswer, summary: Summary) -> Text
-    ensures { Contains result (report_text answer summary) }
+    ensures { HoldsText result (report_text answer summary) }
 {
     match answer {
         ReadAnswer::Accepted => {

@@ -10,7 +10,7 @@ use std::sync::OnceLock;
 use std::{env, fs};
 
 /// The proved program: `delkuthi_cli` in the folder that the environment variable `DELKUTHI_LIB` names, or none if that folder
-/// does not have it; without the variable `target/bin/delkuthi_cli`, which is proved and built first if something has changed.
+/// does not have it; without the variable `crates/delkuthi_cli/out/delkuthi_cli`, which is proved and built first if something has changed.
 ///
 /// # Panics
 /// If it cannot be built.
@@ -29,10 +29,12 @@ pub fn program() -> Option<&'static Path> {
 
 /// Proves and builds the program.
 fn built() -> PathBuf {
-    let output = Command::new("rt").args(["check", "delkuthi_cli"]).current_dir(root()).output();
+    let folder = root().join("crates/delkuthi_cli");
+    let output = Command::new("rt").arg("run").current_dir(&folder).output();
     let output = output.expect("rt, of the Rattle kit, must be in the PATH");
-    assert!(output.status.success(), "rt check delkuthi_cli: {}", String::from_utf8_lossy(&output.stdout));
-    root().join("target/bin/delkuthi_cli")
+    let program = folder.join("out/delkuthi_cli");
+    assert!(program.is_file(), "rt run in crates/delkuthi_cli: {}", String::from_utf8_lossy(&output.stderr));
+    program
 }
 
 /// The program with an exit status, `delkuthi`, built by `make`.

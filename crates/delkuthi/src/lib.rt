@@ -33,7 +33,9 @@ pub fn program_text(table: &[u8], recording: &[u8]) -> Text
     ensures { Tells (Prints table.now recording.now) result }
 {
     if TABLE_SIZE_LIMIT < table.len() || RECORDING_SIZE_LIMIT < recording.len() {
-        return Text::new().refused_line(17, 0);
+        let mut text = Text::new();
+        text.refused_line(17, 0);
+        return text;
     }
     let mut m = [[[0u64; 64]; 2]; 35];
     let answer = report::answer_on(1, &mut m, table, recording);

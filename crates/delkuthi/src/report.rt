@@ -58,35 +58,34 @@ pub(crate) fn summary_of(m: &Words) -> Summary
 }
 
 // Appends the lines of the first `rows` rows to the text. `steps` are the steps that broke them, `closed` is 1 after the close.
-fn row_lines(text: Text, steps: &[u64], rows: usize, closed: u64) -> Text
+fn row_lines(text: &mut Text, steps: &[u64], rows: usize, closed: u64)
     requires { rows ≤ length steps.now }
-    ensures { result ≡ extended (row_lines 0 (map (verdict_for closed) (take rows steps.now))) text }
+    ensures { text.new ≡ extended (row_lines 0 (map (verdict_for closed) (take rows steps.now))) text.old }
 {
-    let mut lines = text;
     let mut row = 0;
     while row < rows {
         let verdict = page::verdict(closed, steps[row]);
-        lines = lines.row_line(row, verdict);
+        text.row_line(row, verdict);
         row += 1;
     }
-    lines
 }
 
 // Returns the text of the report: "closed N" and the lines of the rows, or "refused N P".
 pub(crate) fn text_of(answer: ReadAnswer, summary: Summary) -> Text
     ensures { HoldsText result (report_text answer summary) }
 {
+    let mut text = Text::new();
     match answer {
         ReadAnswer::Accepted => {
+            text.closed_line(summary.count);
             let rows = page::held(summary.rows);
-            row_lines(
-                Text::new().closed_line(summary.count),
-                &summary.steps,
-                rows,
-                summary.closed,
-            )
+            row_lines(&mut text, &summary.steps, rows, summary.closed);
+            text
         }
-        ReadAnswer::Refused { number, place } => Text::new().refused_line(number, place),
+        ReadAnswer::Refused { number, place } => {
+            text.refused_line(number, place);
+            text
+        }
     }
 }
 

@@ -57,69 +57,81 @@ impl Text {
         }
     }
 
-    // The text with the bytes of a word behind it, as many as it takes.
-    pub fn word(mut self, word: &[u8]) -> Self
-        ensures { result ≡ extended word.now self }
+    // Appends the bytes of a word, as many as the text takes.
+    pub fn word(&mut self, word: &[u8])
+        ensures { self.new ≡ extended word.now self.old }
     {
         let mut i = 0;
         while i < word.len() {
             let len = self.len;
             if TEXT_LIMIT <= len {
-                return self;
+                return;
             }
             self.bytes[len] = word[i];
             self.len = len + 1;
             i += 1;
         }
-        self
     }
 
-    // The text with one byte more.
-    pub fn push(self, byte: u8) -> Self
-        ensures { result ≡ with_byte byte self }
+    // Appends one byte.
+    pub fn push(&mut self, byte: u8)
+        ensures { self.new ≡ with_byte byte self.old }
     {
-        self.word(&[byte])
+        self.word(&[byte]);
     }
 
     // §7.7
-    // The text with a number behind it: decimal, without leading zeros.
-    pub fn decimal(self, x: u64) -> Self
-        ensures { result ≡ extended (decimal x) self }
+    // Appends a number: decimal, without leading zeros.
+    pub fn decimal(&mut self, x: u64)
+        ensures { self.new ≡ extended (decimal x) self.old }
     {
         let digits = digits_of(x);
         let bytes = digits.bytes;
         let start = digits.start;
-        self.word(&bytes[start..])
+        self.word(&bytes[start..]);
     }
 
     // §7.4
-    // The text with the line "closed N" behind it.
-    pub fn closed_line(self, count: u64) -> Self
-        ensures { result ≡ extended (closed_line count) self }
+    // Appends the line "closed N".
+    pub fn closed_line(&mut self, count: u64)
+        ensures { self.new ≡ extended (closed_line count) self.old }
     {
-        self.word(b"closed ").decimal(count).push(LINE_END)
+        self.word(b"closed ");
+        self.decimal(count);
+        self.push(LINE_END);
     }
 
     // §7.4
-    // The text with a row's line behind it: the row's number and its verdict.
-    pub fn row_line(self, row: usize, verdict: Verdict) -> Self
-        ensures { result ≡ extended (row_line row verdict) self }
+    // Appends a row's line: the row's number and its verdict.
+    pub fn row_line(&mut self, row: usize, verdict: Verdict)
+        ensures { self.new ≡ extended (row_line row verdict) self.old }
     {
-        let text = self.decimal(row as u64).push(BLANK);
+        self.decimal(row as u64);
+        self.push(BLANK);
         match verdict {
-            Verdict::Open => text.push(LINE_END),
-            Verdict::Kept => text.word(b"kept").push(LINE_END),
-            Verdict::Broken(step) => text.word(b"broken ").decimal(step).push(LINE_END),
+            Verdict::Open => self.push(LINE_END),
+            Verdict::Kept => {
+                self.word(b"kept");
+                self.push(LINE_END);
+            }
+            Verdict::Broken(step) => {
+                self.word(b"broken ");
+                self.decimal(step);
+                self.push(LINE_END);
+            }
         }
     }
 
     // §7.5
-    // The text with the line "refused N P" behind it.
-    pub fn refused_line(self, number: u8, place: usize) -> Self
-        ensures { result ≡ extended (refused_text number place) self }
+    // Appends the line "refused N P".
+    pub fn refused_line(&mut self, number: u8, place: usize)
+        ensures { self.new ≡ extended (refused_text number place) self.old }
     {
-        let text = self.word(b"refused ").decimal(number as u64);
-        text.push(BLANK).decimal(place as u64).push(LINE_END)
+        self.word(b"refused ");
+        self.decimal(number as u64);
+        self.push(BLANK);
+        self.decimal(place as u64);
+        self.push(LINE_END);
     }
 
     // Copies the text to the front of a buffer and answers its length; where the buffer is too short, answers 0 and leaves it as it was.

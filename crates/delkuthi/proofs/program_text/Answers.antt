@@ -13,7 +13,7 @@ returns-then-table-gt-TABLE_SIZE_LIMIT c =
         | then-table-gt-TABLE_SIZE_LIMIT-via-then-table-gt-TABLE_SIZE_LIMIT w ↦ omega arith
         | then-table-gt-TABLE_SIZE_LIMIT-via-else-table-gt-TABLE_SIZE_LIMIT+then-recording-gt-RECORDING_SIZE_LIMIT w ↦ omega arith
       ]);
-      holds = holds_refusal 17 0 c.refused_line.result (rw (← c.new.ensures) c.refused_line.ensures);
+      holds = holds_refusal 17 0 c.refused_line.new.self (rw (← c.new-text.ensures) c.refused_line.ensures);
     }
 
 pub returns : goal.returns

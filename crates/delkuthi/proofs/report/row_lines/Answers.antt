@@ -11,8 +11,8 @@ loop-row-preserved c =
     let taken_steps = take args.rows args.steps.now in
     let there : row < length taken_steps = omega (arith, length-take args.rows args.steps.now, c.requires) in
     let next = rw (get_or-take args.rows args.steps.now row 0 (omega arith)) at
-    (lines_next (verdict_for args.closed) taken_steps row c.loop-row.lines there) in
-    (omega arith, rw (c.row_line-lines.ensures, c.verdict-verdict.ensures) (next ∙ c.loop-row.invariant.1))
+    (lines_next (verdict_for args.closed) taken_steps row c.loop-row.text there) in
+    (omega arith, rw (c.row_line.ensures, c.verdict-verdict.ensures) (next ∙ c.loop-row.invariant.1))
 
 pub returns : goal.returns
 unfolding row_lines extended

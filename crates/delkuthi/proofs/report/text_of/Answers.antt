@@ -5,10 +5,10 @@ use Rattle.delkuthi.proofs.report.text_of.Goals as goal
 pub returns-in-Accepted : goal.returns-in-Accepted
 returns-in-Accepted c =
     rw c.in-Accepted.is
-    (holds_closed c.args.summary c.closed_line.result c.row_lines.result
-    (rw (← c.new.ensures) c.closed_line.ensures) (rw (← c.held-rows.ensures) c.row_lines.ensures))
+    (holds_closed c.args.summary c.closed_line.new.self c.row_lines.new.text
+    (rw (← c.new-text.ensures) c.closed_line.ensures) (rw (← c.held-rows.ensures) c.row_lines.ensures))
 
 pub returns-in-Refused : goal.returns-in-Refused
 returns-in-Refused c =
     rw c.in-Refused.is
-    (holds_refusal _ _ c.refused_line.result (rw (← c.new-in-Refused.ensures) c.refused_line.ensures))
+    (holds_refusal _ _ c.refused_line.new.self (rw (← c.new-text.ensures) c.refused_line.ensures))

@@ -6,15 +6,15 @@ use Rattle.text.proofs.Text.row_line.Goals as goal
 pub returns-in-Open : goal.returns-in-Open
 unfolding extended
 returns-in-Open c =
-    rw (c.push.ensures, c.push-text.ensures, c.decimal.ensures, c.in-Open.is) (simp extended_append)
+    rw (c.push-in-Open.ensures, c.push.ensures, c.decimal.ensures, c.in-Open.is) (simp extended_append)
 
 pub returns-in-Kept : goal.returns-in-Kept
 unfolding extended
 returns-in-Kept c =
-    rw (c.push-in-Kept.ensures, c.word.ensures, c.push-text.ensures, c.decimal.ensures, c.in-Kept.is) (simp extended_append)
+    rw (c.push-in-Kept.ensures, c.word.ensures, c.push.ensures, c.decimal.ensures, c.in-Kept.is) (simp extended_append)
 
 pub returns-in-Broken : goal.returns-in-Broken
 unfolding extended
 returns-in-Broken c =
-    rw (c.push-in-Broken.ensures, c.decimal-in-Broken.ensures, c.word-in-Broken.ensures, c.push-text.ensures, c.decimal.ensures, c.in-Broken.is)
+    rw (c.push-in-Broken.ensures, c.decimal-in-Broken.ensures, c.word-in-Broken.ensures, c.push.ensures, c.decimal.ensures, c.in-Broken.is)
     (simp extended_append)

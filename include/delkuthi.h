@@ -129,8 +129,8 @@
  *   a table          at most 4,257 bytes  DELKUTHI_TABLE_LIMIT
  *   a report         at most 1,024 bytes  DELKUTHI_REPORT_LIMIT
  *   a page           at most 2,482 bytes  DELKUTHI_PAGE_LIMIT
- *   stack, report    at most 56 KiB       DELKUTHI_REPORT_STACK
- *   stack, report_on at most 16 KiB       DELKUTHI_REPORT_ON_STACK
+ *   stack, report    at most 50 KiB       DELKUTHI_REPORT_STACK
+ *   stack, report_on at most 11 KiB       DELKUTHI_REPORT_ON_STACK
  *   stack, take      at most 3 KiB        DELKUTHI_TAKE_STACK
  *   stack, page      at most 2 KiB        DELKUTHI_PAGE_STACK
  *   stack, stamps    at most 20 KiB       DELKUTHI_STAMPS_STACK
@@ -507,8 +507,8 @@ extern "C" {
 #define DELKUTHI_LONGEST_ROW   131
 #define DELKUTHI_REPORT_LIMIT  1024
 #define DELKUTHI_PAGE_LIMIT    2482
-#define DELKUTHI_REPORT_STACK  57344
-#define DELKUTHI_REPORT_ON_STACK 16384
+#define DELKUTHI_REPORT_STACK  51200
+#define DELKUTHI_REPORT_ON_STACK 11264
 #define DELKUTHI_TAKE_STACK    3072
 #define DELKUTHI_PAGE_STACK    2048
 #define DELKUTHI_STAMPS_STACK  20480

@@ -1,7 +1,7 @@
 /*
  * A report on a small stack: small_stack TABLE RECORDING
  *
- * Makes the report with a monitor in static memory, on a stack of 20,480 bytes,
+ * Makes the report with a monitor in static memory, on a stack of 8,192 bytes,
  * which is enough on x86-64, and prints it. The memory below that stack is
  * filled with a pattern; the exit status is 1 if a byte of it was written.
  */
@@ -15,7 +15,7 @@
 
 #define PATTERN 0xA5
 #define BELOW ((size_t)1 << 18)
-#define STACK 20480
+#define STACK 8192
 
 static struct file table, recording;
 static delkuthi_monitor monitor;

@@ -57,8 +57,10 @@ fn built(name: &str) -> PathBuf {
     changing(&root.join("crates.txt"));
     // What rt makes, in the folder out of a crate, is no source.
     for folder in fs::read_dir(root.join("crates")).into_iter().flatten().flatten() {
-        for part in ["src", "specs", "proofs"] {
-            changing(&folder.path().join(part));
+        for part in ["src", "specs", "proofs"].map(|part| folder.path().join(part)) {
+            if part.is_dir() {
+                changing(&part);
+            }
         }
     }
     match Command::new("bash").args(["release/archive", name]).current_dir(&root).status() {

@@ -5,7 +5,7 @@ ghost use Rattle.in_place.specs.Contract.{ReadOff};
 ghost use Rattle.queries.specs.Contract.{AsksClock, AsksSteps, AsksClosed, AsksBrokenRows, AsksWaiting};
 ghost use Rattle.queries.specs.Contract.{AsksRowDeadline, AsksDeadline, AsksCrowdedRow, AsksCause, AsksMoment, AsksOldest, AsksOldestStream};
 
-use in_place::{Words, closed};
+use in_place::Words;
 
 // Returns the clock.
 #[unsafe(no_mangle)]

@@ -1,4 +1,4 @@
-// The report's text by value. Functions append bytes line by line; the finished text is copied to the caller's buffer.
+// The text of a report. Methods append bytes line by line; the finished text is copied to the caller's buffer.
 #![tactic(auto)]
 
 ghost use Rattle.std.specs.Prelude.{◌≡◌};

@@ -33,7 +33,12 @@ fn built() -> PathBuf {
     let output = Command::new("rt").arg("run").current_dir(&folder).output();
     let output = output.expect("rt, of the Rattle kit, must be in the PATH");
     let program = folder.join("out/delkuthi_cli");
-    assert!(program.is_file(), "rt run in crates/delkuthi_cli: {}", String::from_utf8_lossy(&output.stderr));
+    assert!(
+        output.status.success() && program.is_file(),
+        "rt run in crates/delkuthi_cli: {}{}",
+        String::from_utf8_lossy(&output.stdout),
+        String::from_utf8_lossy(&output.stderr)
+    );
     program
 }
 

@@ -434,7 +434,7 @@ fn most_in_sheet(sheet: &str, limit: u64) -> u64 {
     used.map(|bytes| bytes.parse().expect("bytes")).max().expect("a row of the data sheet")
 }
 
-/// A report on a lent monitor, on a stack of 20,480 bytes.
+/// A report on a lent monitor, on a stack of 8,192 bytes.
 #[test]
 fn a_report_on_a_small_stack() {
     let drive = String::from_utf8(example_bytes("report.txt")).expect("ASCII");

@@ -32,9 +32,9 @@
 //!
 //! The library's calls behind [`Monitor::fresh`], [`Monitor::event`], [`Monitor::tick`], [`Monitor::close`],
 //! [`Monitor::withdraw`] and [`Monitor::verdict`] use at most 1 KiB of stack each, a page at most 2 KiB, [`Monitor::take`] at most 3 KiB,
-//! [`Monitor::report`] and [`Monitor::report_on`] at most 16 KiB, [`write_table`] at most 12 KiB, [`join`] at most 16 KiB,
+//! [`Monitor::report`] and [`Monitor::report_on`] at most 11 KiB, [`write_table`] at most 12 KiB, [`join`] at most 16 KiB,
 //! [`stamped`] at most 20 KiB, [`shortest_stretch`] at most 32 KiB, and [`report`], which has its monitor on the stack, at
-//! most 56 KiB. These are the limits of `include/delkuthi.h` (such as `DELKUTHI_STEP_STACK`). Tests measure the calls and
+//! most 50 KiB. These are the limits of `include/delkuthi.h` (such as `DELKUTHI_STEP_STACK`). Tests measure the calls and
 //! compare them with the limits.
 //!
 //! # Where the archive comes from

@@ -18,7 +18,8 @@ pub returns-then-two-gt0-2 : goal.returns-then-two-gt0-2
 returns-then-two-gt0-2 c =
     let args = c.args in
     answer_common args.first.now args.second.now args.joined.now c.pass-one.result c.pass-one.ensures
-    (omega (arith, c.if-one-gt0.false)) c.pass-two.result c.pass-two.ensures (omega (arith, c.if-two-gt0.false)) c.if-two-gt0-2.true
+    (omega (arith, c.if-one-gt0.false)) c.pass-two.result c.pass-two.ensures (omega (arith, c.if-two-gt0.false))
+    (omega (arith, c.if-two-gt0-2.true))
 
 pub returns-then-outgrows : goal.returns-then-outgrows
 returns-then-outgrows c =

@@ -94,8 +94,10 @@ $(BUILD)/delkuthi.pc $(CMAKE) $(BUILD)/exports.map $(BUILD)/delkuthi.1: $(BUILD)
 $(BUILD)/$(SHARED): $(BUILD)/libdelkuthi.a $(BUILD)/exports.map
 	$(CC) -shared $(LDFLAGS) -Wl,-soname,libdelkuthi.so.$(INTERFACE) -Wl,--version-script=$(BUILD)/exports.map \
 	    -Wl,--no-undefined $(LINKED) -o $@ -Wl,--whole-archive $< -Wl,--no-whole-archive
-	ln -sf $(SHARED) $(BUILD)/libdelkuthi.so.$(INTERFACE)
-	ln -sf $(SHARED) $(BUILD)/libdelkuthi.so
+	@# Copies, since rt ci refuses links in the repository.
+	rm -f $(BUILD)/libdelkuthi.so.$(INTERFACE) $(BUILD)/libdelkuthi.so
+	cp $@ $(BUILD)/libdelkuthi.so.$(INTERFACE)
+	cp $@ $(BUILD)/libdelkuthi.so
 
 $(BUILD)/delkuthi: program/delkuthi.c $(HEADERS) $(BUILD)/libdelkuthi.a
 	$(CC) -std=c99 $(CPPFLAGS) $(CFLAGS) $(HARDENED) -Iinclude $(LDFLAGS) -pie $(LINKED) -o $@ program/delkuthi.c $(BUILD)/libdelkuthi.a

@@ -91,10 +91,10 @@ $(BUILD)/delkuthi.pc $(CMAKE) $(BUILD)/exports.map $(BUILD)/delkuthi.1: $(BUILD)
 	    -e 's|@TO_LIBDIR@|$(call from_cmake,$(LIBDIR))|' -e 's|@TO_INCLUDEDIR@|$(call from_cmake,$(INCLUDEDIR))|' $< >$@.new
 	@if cmp -s $@.new $@; then rm $@.new; else mv $@.new $@; fi
 
+# The other two names are copies in this folder, since rt ci refuses links in the repository.
 $(BUILD)/$(SHARED): $(BUILD)/libdelkuthi.a $(BUILD)/exports.map
 	$(CC) -shared $(LDFLAGS) -Wl,-soname,libdelkuthi.so.$(INTERFACE) -Wl,--version-script=$(BUILD)/exports.map \
 	    -Wl,--no-undefined $(LINKED) -o $@ -Wl,--whole-archive $< -Wl,--no-whole-archive
-	@# Copies, since rt ci refuses links in the repository.
 	rm -f $(BUILD)/libdelkuthi.so.$(INTERFACE) $(BUILD)/libdelkuthi.so
 	cp $@ $(BUILD)/libdelkuthi.so.$(INTERFACE)
 	cp $@ $(BUILD)/libdelkuthi.so

@@ -36,7 +36,7 @@ program: $(BUILD)/delkuthi $(MANUALS) $(BUILD)/TRACE.md
 
 help:
 	@echo "make run         prints the report and the page of the drive in examples/; proves and builds the library first"
-	@echo "make test        the gate: proves everything from nothing, then runs all tests"
+	@echo "make test        the gate: proves everything, then runs all tests"
 	@echo "make             the library and the program, in $(BUILD)/"
 	@echo "make lib         $(SHARED), libdelkuthi.a and the files for pkg-config and CMake alone"
 	@echo "make program     delkuthi and the manual pages alone"

@@ -4,10 +4,10 @@
     portable.py FOLDER CRATE ...
 
 FOLDER is replaced. It gets a module for each CRATE of crates.txt and for each crate that one of them uses, from the same
-sources without `ghost use` items, without the words for the prover and without the clauses `requires` and `ensures`. The program
-adds `derive(Clone, Copy)` to every type that may be copied; for each exported function one with pointers and lengths, as include/delkuthi.h
-declares it; the headers; and a script of calls to play on the machine. Anything else that is not Rust stops the program: it
-guesses nothing.
+sources without `ghost` items, fields and members, without the words for the prover and without the clauses `requires` and `ensures`. The
+program derives `Clone` and `Copy` for every type that may be copied; it adds for each exported function one with pointers and lengths, as
+include/delkuthi.h declares it; the headers; and a script of calls to play on the machine. Anything else that is not Rust stops the program:
+it guesses nothing.
 """
 import re
 import shutil
@@ -15,11 +15,12 @@ import sys
 from pathlib import Path
 
 ROOT = Path(__file__).resolve().parent.parent
-GHOST_USE = re.compile(r"^(pub )?ghost use [^;]*;\n", re.M)
-# What is said to the prover, and the derives of the sources, for which the program writes its own.
-ATTRIBUTE = re.compile(r"^[ \t]*#!?\[(?:tactic\(.*\)|derive\([\w, ]*\))\]\n", re.M)
-CLAUSE = re.compile(r"\n[ \t]*(requires|ensures)(\s+\w+)?\s*\{")
-TYPE = re.compile(r"^(pub )?(struct|enum) \w+(<[^>]*>)? ?[{(][^})]*[})]", re.M)
+GHOST_USE = re.compile(r"^[ \t]*(pub )?ghost use [^;]*;\n", re.M)
+# What is said to the prover.
+ATTRIBUTE = re.compile(r"^[ \t]*#!?\[tactic\(.*\)\]\n", re.M)
+# A clause of a function, and a ghost field or member of a type, a trait or an impl: all up to the brace that closes it.
+CLAUSE = re.compile(r"\n[ \t]*(?:(?:requires|ensures)(?:\s+\w+)?|(?:pub )?ghost \w+\s*[:=])\s*\{")
+TYPE = re.compile(r"^(?:#\[derive\(([\w, ]*)\)\]\n)?((?:pub(?:\(crate\))? )?(?:struct|enum) \w+(?:<[^>]*>)? ?(?:[{(][^})]*[})]|;))", re.M)
 EXPORTED = re.compile(r'#\[unsafe\(no_mangle\)\]\npub extern "C" fn (\w+)\(([^)]*)\)( -> \w+)?')
 SLICE = re.compile(r"&(mut )?\[u8\]")
 # Only contracts have these outside of comments: letters that are not ASCII, and the word ghost.
@@ -31,7 +32,7 @@ class NotUnderstood(Exception):
 
 
 def without_clauses(text):
-    """Returns the text without its clauses. A clause is a word followed by balanced braces."""
+    """Returns the text without its clauses and ghost members. Each is some words followed by balanced braces, a member also by a sign."""
     kept, start = [], 0
     while found := CLAUSE.search(text, start):
         kept.append(text[start:found.start()])
@@ -41,12 +42,19 @@ def without_clauses(text):
                 raise NotUnderstood(f"a clause without an end: {found.group().strip()}")
             depth += {"{": 1, "}": -1}.get(text[start], 0)
             start += 1
+        if "ghost" in found.group() and text[start] in ";,":
+            start += 1
     return "".join(kept) + text[start:]
 
 
 def with_copies(text):
     """Returns the text with each type made copyable, as proved types are. A type that holds a mutable reference cannot be copied."""
-    return TYPE.sub(lambda found: ("" if "mut " in found.group() else "#[derive(Clone, Copy)]\n") + found.group(), text)
+    def derived(found):
+        words = [word for word in (found.group(1) or "").split(", ") if word not in ("", "Drop", "Clone", "Copy")]
+        words = words if "mut " in found.group(2) else ["Clone", "Copy", *words]
+        return (f"#[derive({', '.join(words)})]\n" if words else "") + found.group(2)
+
+    return TYPE.sub(derived, text)
 
 
 def for_a_host(found):
@@ -81,6 +89,8 @@ def rust(text, crate, used):
     if "no_mangle" in text:
         raise NotUnderstood("an exported function of another form")
     text = re.sub(r"\bcrate::", f"crate::{crate}::", text)
+    # What the sources use of the standard library is in the core library too; the compiler refuses what is not.
+    text = re.sub(r"\bstd::", "core::", text)
     named = [one for one in used if re.search(rf"(?<![:\w]){one}::", text)]
     return "".join(f"use crate::{one};\n" for one in named) + text
 

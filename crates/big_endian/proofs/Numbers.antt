@@ -1,6 +1,7 @@
 -- A number and its n bytes say the same: each byte is the number's digit to base 256, so either gives back the other.
 use Rattle.constraint.proofs.Library.{List, [], ◌%◌, ◌*◌, ◌+◌, ◌-◌, ◌/◌, ◌<◌, ◌^◌, ◌∙◌, ◌∷◌, ◌≡◌, ◌≤◌, add-mul, add-one, ap, ap₂, arith, drop-cons}
 use Rattle.constraint.proofs.Library.{drop_of_length-le, le_trans, length, mod-eq_of_lt, mul_assoc, mul-le-mul_left, mul-le-mul_right, one-le-pow}
+use Rattle.constraint.proofs.Library.{by_cases, dec_lt, drop, length-drop, min, sym, take, take_all}
 use Rattle.constraint.proofs.Library.{one-mul, pow-le-pow_right, pow-succ', refl, suc, take-nil, zero, zero-add, ℕ}
 use Rattle.constraint.specs.{Bytes.Bytes, Bytes.bytes_at, Bytes.bytes_of, Bytes.number, Bytes.number_behind, Steps.at}
 use lib.Arith.{digits_div, digits_lt, mod-mul}
@@ -93,3 +94,11 @@ number_more bytes value place (suc left) there h =
 pub number_end : (bytes : List ℕ) (value place left : ℕ) → length bytes ≤ place → number_behind value (bytes_at left bytes place) ≡ value
 unfolding number_behind
 number_end bytes value place left h = rw (drop_of_length-le bytes h, take-nil left)
+
+-- what stands from a place on, where a part that ends with the list begins there or at its end
+pub rest_is : (l : List ℕ) (start from : ℕ) → from ≡ min start (length l) → take (length l - from) (drop from l) ≡ drop start l
+rest_is l start from e =
+    take_all (length l - from) (drop from l) (rw length-drop (omega arith))
+    ∙ by_cases (dec_lt (length l) start)
+    (λ past. drop_of_length-le l (omega arith) ∙ sym (drop_of_length-le l (omega arith)))
+    (λ within. ap (λ (i : ℕ). drop i l) (omega arith))

@@ -6,14 +6,7 @@ ghost use Rattle.std.proofs.lemmas.List.Edits.{sets};
 ghost use Rattle.constraint.specs.Steps.{at};
 ghost use Rattle.constraint.specs.Bytes.{bytes_of, number_at};
 
-// A byte as a number of 64 bits.
-fn wide(byte: u8) -> u64
-    ensures { result ≡ byte }
-{
-    byte as u64
-}
-
-// The lowest byte of a number.
+// The lowest byte of a number. It has a name because `u8::try_from` would add a case that cannot come, and `to_be_bytes` copies all eight.
 fn low_byte(x: u64) -> u8
     ensures { result ∷ [] ≡ bytes_of 1 x }
 {
@@ -25,16 +18,13 @@ pub fn number_at(bytes: &[u8], place: usize, width: usize) -> u64
     requires { width ≤ 8 }
     ensures { result ≡ number_at width bytes.now place }
 {
-    let mut value: u64 = 0;
-    let mut next = place;
-    let mut left = width;
-    while 0 < left {
-        if bytes.len() <= next {
+    let rest = &bytes[place.min(bytes.len())..];
+    let mut value = 0;
+    for i in 0..width {
+        let Some(&byte) = rest.get(i) else {
             return value;
-        }
-        value = value << 8 | wide(bytes[next]);
-        next += 1;
-        left -= 1;
+        };
+        value = value << 8 | u64::from(byte);
     }
     value
 }
@@ -43,10 +33,7 @@ pub fn number_at(bytes: &[u8], place: usize, width: usize) -> u64
 pub fn byte_at(bytes: &[u8], place: usize) -> u8
     ensures { result ≡ at bytes.now place }
 {
-    if place < bytes.len() {
-        return bytes[place];
-    }
-    0
+    bytes.get(place).copied().unwrap_or(0)
 }
 
 // §4.1
@@ -69,16 +56,9 @@ pub fn eight_at(bytes: &[u8], place: usize) -> u64
 pub fn put(buffer: &mut [u8], place: usize, bytes: &[u8])
     ensures { buffer.new ≡ sets buffer.old place bytes.now }
 {
-    let mut next = place;
-    let mut i = 0;
-    while i < bytes.len() {
-        if buffer.len() <= next {
-            return;
-        }
-        buffer[next] = bytes[i];
-        next += 1;
-        i += 1;
-    }
+    let from = place.min(buffer.len());
+    let count = bytes.len().min(buffer.len() - from);
+    buffer[from..from + count].copy_from_slice(&bytes[..count]);
 }
 
 // Stores one byte at a place of a buffer, unless that is past its end.
@@ -95,15 +75,9 @@ pub fn put_number(buffer: &mut [u8], place: usize, x: u64, width: usize)
     requires { width ≤ 8 }
     ensures { buffer.new ≡ sets buffer.old place (bytes_of width x) }
 {
-    let mut next = place;
-    let mut left = width;
-    while 0 < left {
-        if buffer.len() <= next {
-            return;
-        }
-        left -= 1;
-        buffer[next] = low_byte(x >> (8 * left));
-        next += 1;
+    let count = width.min(buffer.len().saturating_sub(place));
+    for i in 0..count {
+        buffer[place + i] = low_byte(x >> (8 * (width - 1 - i)));
     }
 }
 

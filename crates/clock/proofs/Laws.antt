@@ -1,8 +1,7 @@
 -- A monitor over no rows has no row to crowd, so its clock, count, first free times and mark of the close alone answer each call; and what reading
 -- gives from a place on, over the steps read before it, is what it gives from the start.
-use Rattle.clock.specs.Clock.{After, AsksCall, Clock, ReadsNext, TakesCall, Ticks, clock_of, clock_with, more_ticks, no_tick}
-use Rattle.clock.specs.declared.Clock.{Clock as ClockNumbers}
-use Rattle.clock.specs.declared.RecordRead.{RecordRead}
+use Rattle.clock.specs.Clock.{After, RefusesRecord, TakesCall, TakesRecord, Ticks, clock_of, more_ticks, no_tick}
+use Rattle.clock.specs.declared.Clock.{Clock}
 use Rattle.constraint.proofs.Library.{List, [], ◌++◌, ◌+◌, ◌<◌, ◌∙◌, ◌∷◌, ◌≡◌, ◌≤◌, ap, arith, false, get_or, length, lt-ltb, map, refl, replicate}
 use Rattle.constraint.proofs.Library.{set}
 use Rattle.constraint.proofs.Library.{subst, sym, ℕ}
@@ -11,15 +10,16 @@ use Rattle.constraint.specs.Recording.{ReadsInOrder, ReadsRecords, RecordAt, Rec
 use Rattle.constraint.specs.Recording.{record_taken, record_questions, recording_of, recording_refused, version_taken}
 use Rattle.constraint.specs.{Accepted.Accepted, Accepted.rows_questions, Limits.stream_count, Promise.play, Questions.Judged, Run.Left, Run.asks}
 use Rattle.constraint.specs.{Run.done, Run.questions, Run.step_for, Steps.Step, Steps.at, Steps.clock, Table.length_at}
-use Rattle.constraint.specs.{declared.Answer.TheVariants.Refused, declared.Answer.TheVariants.Taken, declared.Call.Call}
+use Rattle.constraint.specs.{Answer.Refused, Answer.Taken, declared.Call.Call}
 use Rattle.row_type.specs.Parts.{plus}
 use Rattle.monitor.proofs.{StepRefinement.Follows, Withdrawing.after_call, Withdrawing.remains_follows, Withdrawing.steps_keep}
 use Rattle.monitor.proofs.{Withdrawing.takes_more}
 use Rattle.monitor.specs.Machine.{any_first, monitor_of, refuses, step_of, stepped_by, taken_call, takes}
-use Rattle.monitor.specs.{Beside.all_taken, Contract.Steps, Contract.after, declared.Monitor.Monitor, declared.Stepped.Stepped}
+use Rattle.monitor.specs.{Beside.all_taken, Contract.Steps, Contract.after, declared.Monitor.Monitor, Stepped.Stepped}
 use Rattle.questions.specs.Questions.{closed_after, free_after, step_input_by, place_for, refusal_by}
 use Rattle.recording.proofs.Records.{record_judged, record_refused as record-not-there}
 use Rattle.recording.specs.Record.{CallAt}
+use Rattle.recording.specs.declared.CallRead.{CallRead}
 use Rattle.row.proofs.EveryType.{every_type_exact}
 
 -- ---- a call, on the clock's numbers
@@ -138,56 +138,40 @@ module _ (o : Clock) (s : Call) (n : ℕ) (is : n ≡ refusal_of o s) where
       }
 
 module _ (bytes : List ℕ) (place : ℕ) (o : Clock) where
-  pub read_none : (r : RecordRead) → r.number ≡ 14 → r.call ≡ Call.Close → r.next ≡ 0 → ¬ RecordAt bytes place → ReadsNext bytes place o r o
-  read_none r number_is call_is next_is not_there =
-      record {
-        taken = λ e. absurd (omega (arith, e, number_is));
-        refused = λ more steps before. subst (λ (n : ℕ). Judged (record_questions [] steps bytes place) (Refused n)) (sym number_is)
-            (record-not-there [] steps bytes place not_there);
-        as_it_was = λ more. refl;
-        there = λ e. absurd (omega (arith, e, number_is));
-        call_is = λ whole. absurd (not_there whole);
-        next_is = λ whole. absurd (not_there whole);
-        none = λ _. (number_is, call_is, next_is);
-      }
+  pub read_none : ¬ RecordAt bytes place → RefusesRecord bytes place 14 o o
+  read_none not_there =
+      record { refused = λ steps before. record-not-there [] steps bytes place not_there; as_it_was = refl; none = λ _. refl }
 
-  pub read_call : (s : Call) (next : ℕ) (r : RecordRead) (later : Clock) → CallAt bytes place s next → AsksCall o s next r later
-      → ReadsNext bytes place o r later
-  read_call s next r later read answered =
-      record {
-        taken = λ e steps before. let given = answered.takes.taken e steps before in (
-          record_judged [] steps bytes place s next Taken read given.0,
-          subst (λ (x : Call). After (steps ++ (step_for x ∷ [])) later) (sym answered.call_is) given.1,
-        );
-        refused = λ more steps before. record_judged [] steps bytes place s next (Refused r.number) read
-            (answered.takes.refused more steps before);
-        as_it_was = answered.takes.as_it_was;
-        there = λ e. read.there;
-        call_is = λ whole. read.call_read ∙ sym answered.call_is;
-        next_is = λ whole. (answered.next_is ∙ read.next_read, omega (arith, answered.next_is, read.next_read, read.there.0.1));
-        none = λ not_there. absurd (not_there read.there);
-      }
+  module _ (r : CallRead) (read : CallAt bytes place r.call r.next) (later : Clock) where
+    pub read_refused : (n : ℕ) → 0 < n → TakesCall o r.call n later → RefusesRecord bytes place n o later
+    read_refused n h taken =
+        record {
+          refused = λ steps before. record_judged [] steps bytes place r.call r.next (Refused n) read (taken.refused h steps before);
+          as_it_was = taken.as_it_was h;
+          none = λ not_there. absurd (not_there read.there);
+        }
+
+    pub read_taken : TakesCall o r.call 0 later → TakesRecord bytes place r o later
+    read_taken taken =
+        record {
+          taken = λ steps before. let given = taken.taken refl steps before in
+              (record_judged [] steps bytes place r.call r.next Taken read given.0, given.1);
+          there = read.there;
+          call_is = read.call_read;
+          next_is = (read.next_read, omega (arith, read.next_read, read.there.0.1));
+        }
 
 -- ---- ticks
 
--- a tick changes no first free time
-pub tick_after : (o : ClockNumbers) (next : List ℕ) (t count : ℕ) → count ≡ plus o.count 1
-    → clock_with (record { time = t; count = count; closed = o.closed }) next ≡ clock_after (clock_with o next) (Call.Tick t)
-tick_after o [] t count e = rw e refl
-tick_after o (x ∷ next) t count e = rw e refl
-
-pub ticks_more : {bytes : List ℕ} {place before : ℕ} {o now : Clock} {t number : ℕ} {later : Clock} → Ticks bytes place o before now
-    → CallAt bytes before (Call.Tick t) (before + 10) → TakesCall now (Call.Tick t) number later → number ≡ 0
-    → Ticks bytes place o (before + 10) later
-ticks_more {bytes} {place} {before} {o} {now} {t} {number} {later} ticks read taken e =
-    let numbers : ClockNumbers = record { time = later.time; count = later.count; closed = later.closed } in
-    let r : RecordRead = record { number = number; call = Call.Tick t; next = before + 10; clock = numbers } in
-    more_ticks t r later ticks
-    (read_call bytes before now (Call.Tick t) (before + 10) r later read (record { takes = taken; call_is = refl; next_is = refl })) e refl
+pub ticks_more : {bytes : List ℕ} {place before : ℕ} {o now : Clock} {t : ℕ} {later : Clock} → Ticks bytes place o before now
+    → CallAt bytes before (Call.Tick t) (before + 10) → TakesCall now (Call.Tick t) 0 later → Ticks bytes place o (before + 10) later
+ticks_more {bytes} {place} {before} {o} {now} {t} {later} ticks read taken =
+    let r : CallRead = record { call = Call.Tick t; next = before + 10 } in
+    more_ticks t r later ticks (read_taken bytes before now r read later taken) refl
 
 pub ticks_on : {bytes : List ℕ} {place to : ℕ} {o later : Clock} → Ticks bytes place o to later → place ≤ to
 ticks_on no_tick = omega arith
-ticks_on (more_ticks t r later ticks next e tick) = omega (arith, ticks_on ticks, (next.next_is (next.there e)).0)
+ticks_on (more_ticks t r later ticks next tick) = omega (arith, ticks_on ticks, next.next_is.0)
 
 -- ---- record by record
 

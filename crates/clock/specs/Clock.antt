@@ -1,29 +1,20 @@
 -- The clock of a recording: the questions of its records and steps without 12.
-use Rattle.std.specs.Prelude.{ℕ, ◌+◌, ◌<◌, ◌≤◌, ◌≡◌, List, [], ◌∷◌, ◌++◌, map, length, replicate}
+use Rattle.std.specs.Prelude.{ℕ, ◌+◌, ◌<◌, ◌≤◌, ◌≡◌, List, [], ◌∷◌, ◌++◌, map, length, replicate, Result, Ok, Err}
 use Rattle.constraint.specs.Limits.{stream_count}
 use Rattle.constraint.specs.Steps.{Step}
 use Rattle.constraint.specs.Questions.{Judged}
 use Rattle.constraint.specs.Run.{step_for, questions, asks}
 use Rattle.constraint.specs.Table.{length_at}
 use Rattle.constraint.specs.Recording.{RecordAt, call_at, record_questions}
-use Rattle.constraint.specs.declared.Answer.TheVariants.{Taken, Refused}
+use Rattle.constraint.specs.Answer.{Taken, Refused}
+use Rattle.constraint.specs.Answers.{refusal_number}
 use Rattle.constraint.specs.declared.Call.{Call}
+use Rattle.constraint.specs.declared.Refusal.{Refusal}
 use Rattle.monitor.specs.Contract.{after}
 use Rattle.monitor.specs.Beside.{TakesAll}
 use Rattle.monitor.specs.declared.Monitor.{Monitor}
-use Rattle.clock.specs.declared.Clock.{Clock as ClockNumbers}
-use Rattle.clock.specs.declared.RecordRead.{RecordRead}
-
--- the clock of a recording: its time, its count of steps, the first free time of each stream, and the mark of the close
-pub record Clock : Type 0 where
-  pub time : ℕ
-  pub count : ℕ
-  pub next : List ℕ
-  pub closed : ℕ
-
--- the code's numbers with the first free times that lie beside them
-abbrev pub clock_with : ClockNumbers → List ℕ → Clock
-clock_with o next = record { time = o.time; count = o.count; next = next; closed = o.closed }
+use Rattle.recording.specs.declared.CallRead.{CallRead}
+use Rattle.clock.specs.declared.Clock.{Clock}
 
 -- the clock, count, first free times and mark of the close of a monitor
 abbrev pub clock_of : Monitor → Clock
@@ -36,8 +27,8 @@ pub record After (steps : List Step) (o : Clock) : Type 0 where
   pub is : o ≡ clock_of (after [] (map asks calls))
 
 -- the clock before any step, where all first free times are 0
-abbrev pub Starts : ClockNumbers → Type 0
-Starts o = After [] (clock_with o (replicate stream_count 0))
+abbrev pub Starts : Clock → Type 0
+Starts o = After [] o × (o.next ≡ replicate stream_count 0)
 
 -- a call: 0 where its questions but 12 are all answered "yes", and the clock after it; else the number of the first "no", and the clock as it was
 pub record TakesCall (o : Clock) (call : Call) (number : ℕ) (later : Clock) : Type 0 where
@@ -46,26 +37,27 @@ pub record TakesCall (o : Clock) (call : Call) (number : ℕ) (later : Clock) : 
   pub refused : 0 < number → (steps : List Step) → After steps o → Judged (questions [] steps call) (Refused number)
   pub as_it_was : 0 < number → later ≡ o
 
--- the answer to a record that has a call and ends before a place
-pub record AsksCall (o : Clock) (call : Call) (place : ℕ) (r : RecordRead) (later : Clock) : Type 0 where
-  pub takes : TakesCall o call r.number later
-  pub call_is : r.call ≡ call
-  pub next_is : r.next ≡ place
-
--- the record at a place: 0 where 14 and its step's questions but 12 are all answered "yes", and the clock after it; else the number of the
--- first "no", and the clock as it was. Where 14 is answered "yes", its call and the place behind it
-pub record ReadsNext (bytes : List ℕ) (place : ℕ) (o : Clock) (r : RecordRead) (later : Clock) : Type 0 where
-  pub taken : r.number ≡ 0 → (steps : List Step) → After steps o
+-- a record that is taken: 14 and its step's questions but 12 are all answered "yes"; its call, the place behind it, and the clock after it
+pub record TakesRecord (bytes : List ℕ) (place : ℕ) (r : CallRead) (o later : Clock) : Type 0 where
+  pub taken : (steps : List Step) → After steps o
       → Judged (record_questions [] steps bytes place) Taken × After (steps ++ (step_for r.call ∷ [])) later
-  pub refused : 0 < r.number → (steps : List Step) → After steps o → Judged (record_questions [] steps bytes place) (Refused r.number)
-  pub as_it_was : 0 < r.number → later ≡ o
-  pub there : r.number ≡ 0 → RecordAt bytes place
-  pub call_is : RecordAt bytes place → call_at bytes place ≡ r.call
-  pub next_is : RecordAt bytes place → (r.next ≡ place + 2 + length_at bytes place) × (r.next ≤ length bytes)
-  pub none : ¬ RecordAt bytes place → (r.number ≡ 14) × (r.call ≡ Call.Close) × (r.next ≡ 0)
+  pub there : RecordAt bytes place
+  pub call_is : call_at bytes place ≡ r.call
+  pub next_is : (r.next ≡ place + 2 + length_at bytes place) × (r.next ≤ length bytes)
+
+-- one that is refused: the number of the first "no", and the clock as it was
+pub record RefusesRecord (bytes : List ℕ) (place number : ℕ) (o later : Clock) : Type 0 where
+  pub refused : (steps : List Step) → After steps o → Judged (record_questions [] steps bytes place) (Refused number)
+  pub as_it_was : later ≡ o
+  pub none : ¬ RecordAt bytes place → number ≡ 14
+
+-- the record at a place
+abbrev pub ReadsNext : List ℕ → ℕ → Clock → Result CallRead Refusal → Clock → Type 0
+ReadsNext bytes place o (Ok r) later = TakesRecord bytes place r o later
+ReadsNext bytes place o (Err refusal) later = RefusesRecord bytes place (refusal_number refusal) o later
 
 -- ticks from a place on, each of them taken: the place behind them and the clock then
 pub data Ticks (bytes : List ℕ) : ℕ → Clock → ℕ → Clock → Type 0 where
   no_tick : {place : ℕ} {o : Clock} → Ticks bytes place o place o
-  more_ticks : {place before : ℕ} {o now : Clock} (t : ℕ) (r : RecordRead) (later : Clock) → Ticks bytes place o before now
-      → ReadsNext bytes before now r later → r.number ≡ 0 → r.call ≡ Call.Tick t → Ticks bytes place o r.next later
+  more_ticks : {place before : ℕ} {o now : Clock} (t : ℕ) (r : CallRead) (later : Clock) → Ticks bytes place o before now
+      → TakesRecord bytes before r now later → r.call ≡ Call.Tick t → Ticks bytes place o r.next later

@@ -1,158 +1,79 @@
 // The clock of a recording: its time, its count and the first free time of each stream, with all questions of a step except 12. Records are read one
-// by one, and no row is stepped. The first free times stay in an array that the caller lends.
+// by one, and no row is stepped.
 #![tactic(auto)]
 
-ghost use Rattle.std.specs.Prelude.{ℕ, List};
+ghost use Rattle.std.specs.Prelude.{ℕ, ◌≡◌};
+ghost use Rattle.constraint.specs.Answers.{number_in};
 ghost use Rattle.constraint.specs.declared.Call.{Call};
-ghost use Rattle.clock.specs.Clock.{Starts, TakesCall, clock_with, AsksCall, ReadsNext, Ticks};
+ghost use Rattle.clock.specs.Clock.{Starts, TakesCall, ReadsNext, Ticks};
 
-use constraint::Call;
-use row_type::parts::plus;
+use constraint::{Call, Refusal, STREAM_COUNT};
+use recording::CallRead;
 
-#[derive(Clone, Copy)]
+#[derive(Drop)]
 pub struct Clock {
     pub time: u64,
     // the steps taken
     pub count: u64,
-    // 0: not closed
+    // for each stream the first time still free: one more than the time of its last event, or 0
+    pub next: [u64; STREAM_COUNT],
+    // 0: not closed. A number, as in `Monitor`: the same questions ask both
     pub closed: u64,
 }
 
-// The number that answers a call, 0 where it is taken, and the clock then.
-#[derive(Drop)]
-pub struct Answered {
-    pub number: u8,
-    pub clock: Clock,
-}
-
-// The number that answers a record, 0 where it is taken; its call, the place behind it and the clock then.
-#[derive(Drop)]
-pub struct RecordRead {
-    pub number: u8,
-    pub call: Call,
-    pub next: usize,
-    pub clock: Clock,
-}
-
-// The place behind some ticks, and the clock then.
-#[derive(Drop)]
-pub struct Ticked {
-    pub place: usize,
-    pub clock: Clock,
-}
-
 impl Clock {
-    // The clock before any step, beside first free times that are all 0.
+    // The clock before any step.
     pub fn start() -> Self
         ensures { Starts result }
     {
         Clock {
             time: 0,
             count: 0,
+            next: [0u64; STREAM_COUNT],
             closed: 0,
         }
     }
 
-    // The answer to a call: questions 8 to 11, 19 and 24; and the clock after it, on a refusal as it was. For each stream `next` has the first time
-    // that is still free: one more than the time of its last event, or 0.
-    pub fn take(self, next: &mut [u64; 176], call: Call) -> Answered
-        ensures { TakesCall (clock_with self next.old) call result.number (clock_with result.clock next.new) }
+    // The answer to a call: questions 8 to 11, 19 and 24; and the clock after it, on a refusal as it was. A tick leaves each first free time.
+    // In line, since a tick asks far less than an event.
+    #[inline(always)]
+    pub fn take(&mut self, call: Call) -> Result<(), Refusal>
+        ensures takes { TakesCall self.old call (number_in result) self.new }
+        ensures ticks { (t : ℕ) → call ≡ Call.Tick t → self.new.next ≡ self.old.next }
     {
         let at = questions::place(call);
-        let free = next[at];
-        let number = questions::refusal(call, self.closed, self.count, self.time, free);
-        if 0 < number {
-            return Answered {
-                number,
-                clock: self,
-            };
-        }
+        let free = self.next[at];
+        questions::refusal(call, self.closed, self.count, self.time, free)?;
         let o = questions::step_input(call, self.time);
-        next[at] = questions::free(call, free);
-        let clock = Clock {
-            time: o.time,
-            count: plus(self.count, 1),
-            closed: questions::closed(call, self.closed),
-        };
-        Answered { number: 0, clock }
+        self.time = o.time;
+        self.count = self.count.saturating_add(1);
+        self.next[at] = questions::free(call, free);
+        self.closed = questions::closed(call, self.closed);
+        Ok(())
     }
 
-    // The same for a tick, whatever the first free times are: it changes none of them.
-    fn take_tick(self, time: u64) -> Answered
-        ensures { (next : List ℕ) → TakesCall (clock_with self next) (Call.Tick time) result.number (clock_with result.clock next) }
+    // The record at a place: question 14, then those of its step.
+    pub fn read(&mut self, bytes: &[u8], place: usize) -> Result<CallRead, Refusal>
+        ensures { ReadsNext bytes.now place self.old result self.new }
     {
-        let call = Call::Tick { time };
-        let number = questions::refusal(call, self.closed, self.count, self.time, 0);
-        if 0 < number {
-            return Answered {
-                number,
-                clock: self,
-            };
-        }
-        let count = plus(self.count, 1);
-        let clock = Clock {
-            time,
-            count,
-            closed: self.closed,
-        };
-        Answered { number: 0, clock }
+        let record = recording::call_at(bytes, place)?;
+        self.take(record.call)?;
+        Ok(record)
     }
-}
 
-// The call of a record that ends before a place.
-fn asked(clock: Clock, next: &mut [u64; 176], call: Call, place: usize) -> RecordRead
-    ensures { AsksCall (clock_with clock next.old) call place result (clock_with result.clock next.new) }
-{
-    let taken = clock.take(next, call);
-    let after = taken.clock;
-    RecordRead {
-        number: taken.number,
-        call,
-        next: place,
-        clock: after,
-    }
-}
-
-// The record at a place: question 14, then those of its step.
-pub fn read(bytes: &[u8], place: usize, clock: Clock, next: &mut [u64; 176]) -> RecordRead
-    ensures { ReadsNext bytes.now place (clock_with clock next.old) result (clock_with result.clock next.new) }
-{
-    let record = recording::call_at(bytes, place);
-    if 0 < record.number {
-        return RecordRead {
-            number: record.number,
-            call: Call::Close,
-            next: 0,
-            clock,
-        };
-    }
-    let call = record.call;
-    asked(clock, next, call, record.next)
-}
-
-// Takes ticks from a place on, up to a record that is no tick or is refused.
-pub fn ticks(bytes: &[u8], place: usize, clock: Clock) -> Ticked
-    ensures { (next : List ℕ) → Ticks bytes.now place (clock_with clock next) result.place (clock_with result.clock next) }
-{
-    let mut at = place;
-    let mut later = clock;
-    loop {
-        let tick = recording::tick_at(bytes, at);
-        if !tick.there {
-            return Ticked {
-                place: at,
-                clock: later,
+    // Takes ticks from a place on, up to a record that is no tick or is refused. Returns the place behind them.
+    pub fn ticks(&mut self, bytes: &[u8], place: usize) -> usize
+        ensures takes { Ticks bytes.now place self.old result self.new }
+        ensures frees { self.new.next ≡ self.old.next }
+    {
+        let mut at = place;
+        // A walk by place, which is what it returns: a `for` over parts of ten bytes would count the place too.
+        while let Some(time) = recording::tick_at(bytes, at) {
+            let Ok(()) = self.take(Call::Tick { time }) else {
+                return at;
             };
+            at += 10;
         }
-        let taken = later.take_tick(tick.time);
-        if 0 < taken.number {
-            return Ticked {
-                place: at,
-                clock: later,
-            };
-        }
-        let after = taken.clock;
-        later = after;
-        at += 10;
+        at
     }
 }

@@ -1,7 +1,7 @@
 -- Questions have one answer, since each is answered "yes" or "no"; and the answers to the parts of a list of questions determine the answer to the
 -- list.
-use Rattle.constraint.proofs.Names.{Answer, Bool, Decides, Judged, List, Question, Refused, Taken, [], ◌++◌, ◌<◌, ◌∙◌, ◌∷◌, ◌≡◌, ◌≤◌, arith}
-use Rattle.constraint.proofs.Names.{eqb, eqb-false, eqb-true, false, inl, inr, leb, leb-false, leb-true, ltb, ltb-false, ltb-true, not}
+use Rattle.constraint.proofs.Names.{Answer, Bool, Decides, Judged, List, Question, Refused, Taken, [], ◌++◌, ◌∙◌, ◌∷◌, ◌≡◌, ◌≤◌, arith}
+use Rattle.constraint.proofs.Names.{eqb, eqb-false, eqb-true, false, inl, inr, leb, leb-false, leb-true, not}
 use Rattle.constraint.proofs.Names.{not-false, refl, subst⁻¹, sym, true, ℕ}
 
 -- anything follows where two different constructors are said to be equal: from that, `cc` proves 0 ≡ 1
@@ -39,13 +39,6 @@ test_le m n = go (leb m n) refl
     go : (b : Bool) → leb m n ≡ b → Decides (m ≤ n) b
     go true e = leb-true m n e
     go false e = λ h. omega (arith, leb-false m n e)
-
-pub test_lt : (m n : ℕ) → Decides (m < n) (ltb m n)
-test_lt m n = go (ltb m n) refl
-  where
-    go : (b : Bool) → ltb m n ≡ b → Decides (m < n) b
-    go true e = ltb-true m n e
-    go false e = λ h. omega (arith, ltb-false m n e)
 
 pub test_equal : (m n : ℕ) → Decides (m ≡ n) (eqb m n)
 test_equal m n = go (eqb m n) refl

@@ -1,12 +1,12 @@
 -- The lengths of rows, how many kinds they name, and which editions have their types: each is read off a list, and what holds for every number in a
 -- list holds at each place.
-use Rattle.constraint.proofs.Names.{List, List·getD-eq-default, [], ◌*◌, ◌∷◌, ◌≡◌, ◌≤◌, arith, at, entry_sizes}
+use Rattle.constraint.proofs.Names.{List, [], ◌*◌, ◌∷◌, ◌≡◌, ◌≤◌, arith, at, entry_sizes}
 use Rattle.constraint.proofs.Names.{Age, Arbitrary, Burst, Comparison, Constraint, Delay, ExecutionTime, Field, InputSynchronization, Order}
 use Rattle.constraint.proofs.Names.{OutputSynchronization, Pattern, Reaction, Repeat, Repetition, Sporadic, StrongDelay, StrongSynchronization}
 use Rattle.constraint.proofs.Names.{Synchronization}
 use Rattle.constraint.proofs.Names.{TypeKnown, byte, coloured, count_of, kind, kind_fields, kinds, kinds_in, offset_fields, pair_fields, plain}
 use Rattle.constraint.proofs.Names.{refl, time, tolerance, type_of, ◌++◌, ◌+◌}
-use Rattle.constraint.proofs.Names.{length, length_of, lengths, mul-le-mul_left, suc, zero, ℕ}
+use Rattle.constraint.proofs.Names.{length, lengths, mul-le-mul_left, suc, zero, ℕ}
 
 -- a list of numbers, each at most some number: so is what stands at a place of it
 abbrev pub AtMost : ℕ → List ℕ → Type 0
@@ -19,10 +19,6 @@ at_most most (x ∷ xs) h zero = h.0
 at_most most (x ∷ xs) h (suc i) = at_most most xs h.1 i
 
 -- ---- lengths
-
--- of a number that is no type's
-pub length_unknown : (t n : ℕ) → length lengths ≤ t → length_of t n ≡ 0
-length_unknown t n past = rw (List·getD-eq-default lengths 0 {n = t} past, List·getD-eq-default entry_sizes 0 {n = t} past) (omega arith)
 
 -- the entries of a list, and the rest of a row
 pub entries_small : (t n : ℕ) → n * at entry_sizes t ≤ n * 16

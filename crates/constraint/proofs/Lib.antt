@@ -2,6 +2,7 @@
 mod Names
 pub mod Library
 pub mod Lists
+pub mod Refusals
 pub mod Streams
 pub mod History
 pub mod Lawful

@@ -20,7 +20,7 @@ pub use mathlib.Core.Logic.{◌↔◌, ◌≢◌, ◌⊎◌, by_cases, inl, inr,
 pub use mathlib.Core.Option.{Option, none, some}
 pub use mathlib.Core.Path.{◌∙◌, ◌≡◌, ap, ap₂, refl, subst, subst⁻¹, subst₂, sym, transport}
 pub use native.Mathlib.Decide.{dec_lt, ℕ_discrete}
-pub use native.Mathlib.Nat.{add-mul, add-sub_cancel_left, add-suc, add-zero, div-one, le_of_suc-le-suc, le_trans, lt_of_le_of_lt}
+pub use native.Mathlib.Nat.{add-mul, add-sub_cancel_left, add-suc, add-zero, div-one, le_of_suc-le-suc, le_trans}
 pub use native.Mathlib.Nat.{mod-eq_of_lt, mul-add, mul_assoc, mul-le-mul_left, mul-le-mul_right, mul-one, mul-suc, not-suc-le-zero, one-le-pow}
 pub use native.Mathlib.Nat.{one-mul, pow-le-pow_right, pow-suc, pow-succ', suc-add, zero-add, zero-mul}
 pub use native.Mathlib.Numerals.{add-one}

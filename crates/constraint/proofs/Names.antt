@@ -1,11 +1,11 @@
 -- The names of the definitions and laws below this crate that its proofs use, passed on from one place.
-pub use Rattle.constraint.proofs.Library.{Bool, List, List·getD-append, List·getD-eq-default, [], ◌&&◌, ◌*◌, ◌++◌, ◌+◌, ◌-◌}
+pub use Rattle.constraint.proofs.Library.{Bool, List, List·getD-append, [], ◌&&◌, ◌*◌, ◌++◌, ◌+◌, ◌-◌}
 pub use Rattle.constraint.proofs.Library.{◌/◌, ◌<◌, ◌^◌, ◌||◌, ◌↔◌, ◌∙◌, ◌∷◌, ◌≡◌, ◌≢◌, ◌≤◌, ◌⊎◌, add-zero, ap, append_assoc}
 pub use Rattle.constraint.proofs.Library.{append-nil, ap₂, arith, by_cases, cond, dec_lt, drop, drop-cons, eq-eqb, eqb}
 pub use Rattle.constraint.proofs.Library.{eqb-false, eqb-true, false, get_or, get_or-append-add, get_elem?, inl, inr, le-ltb, leb}
 pub use Rattle.constraint.proofs.Library.{leb-false, leb-true, length, length-append, length-take}
-pub use Rattle.constraint.proofs.Library.{lt-ltb, ltb, mul-le-mul_left}
-pub use Rattle.constraint.proofs.Library.{ltb-false, ltb-true, map, max, ne_eqb, none, not, not-false}
+pub use Rattle.constraint.proofs.Library.{lt-ltb, mul-le-mul_left}
+pub use Rattle.constraint.proofs.Library.{map, max, ne_eqb, none, not, not-false}
 pub use Rattle.constraint.proofs.Library.{or-true as either_true, refl, some, subst, subst⁻¹, subst₂, suc, sym, take}
 pub use Rattle.constraint.proofs.Library.{take_all, take-append-le, take-append_seam, true, zero, ℕ, ℕ_discrete, ⊎_elim}
 pub use Rattle.constraint.specs.Accepted.{Accepted, AcceptedIn, EachField, FieldInRange, KindClassFits, kinds, kinds_in, row_questions}
@@ -24,11 +24,11 @@ pub use Rattle.constraint.specs.Run.{step_for, withdraws}
 pub use Rattle.constraint.specs.Steps.{Step, among, at, clock, close, event, tick}
 pub use Rattle.constraint.specs.Table.{ReadsTable, ReadsTableUpTo, TableRead, VersionUpTo, version_refused, version_taken}
 pub use Rattle.constraint.specs.Types.{Field, TypeKnown, byte, coloured, count, count_of, entry_sizes, fields_of, kind, kind_fields}
-pub use Rattle.constraint.specs.Types.{last_type, left, length_of, lengths, lower, offset, offset_fields, pair_fields, plain, right}
+pub use Rattle.constraint.specs.Types.{last_type, left, lengths, lower, offset, offset_fields, pair_fields, plain, right}
 pub use Rattle.constraint.specs.Types.{span, time}
 pub use Rattle.constraint.specs.Types.{tolerance, type_of, upper, upper_or_none}
 pub use Rattle.constraint.specs.{Questions.Question, Streams.kind_of, Streams.stream, Waiting.largest, Waiting.least, Waiting.unanswered}
-pub use Rattle.constraint.specs.{declared.Answer.Answer, declared.Answer.TheVariants.Refused, declared.Answer.TheVariants.Taken}
+pub use Rattle.constraint.specs.{Answer.Answer, Answer.Refused, Answer.Taken}
 pub use Rattle.constraint.specs.{declared.Call.Call, declared.Verdict.Verdict}
 unfoldable pub use Rattle.constraint.specs.Accepted.{InRange, KindsFit, KindsSuit, LowerFirst, rows_questions}
 unfoldable pub use Rattle.constraint.specs.Meets.{number_of, point_of}

@@ -7,7 +7,7 @@ use Rattle.constraint.specs.Questions.{Question, Judged}
 use Rattle.constraint.specs.Meets.{Compares}
 use Rattle.constraint.specs.Types.{kind, coloured, count, span, plain, lower, upper, upper_or_none, offset, left, right, Field, byte, time}
 use Rattle.constraint.specs.Types.{type_of, fields_of, count_of, TypeKnown}
-use Rattle.constraint.specs.declared.Answer.TheVariants.{Taken}
+use Rattle.constraint.specs.Answer.{Taken}
 use Rattle.constraint.specs.Constraint.{Constraint}
 
 -- §8.5; 01, questions: the kinds in a list of fields

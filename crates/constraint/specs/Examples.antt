@@ -2,8 +2,8 @@
 -- what the row reads after them.
 use Rattle.std.specs.Prelude.{List, [], ◌∷◌, map}
 use Rattle.constraint.specs.Run.{Request, asks, withdraws}
-use Rattle.constraint.specs.declared.Answer.{Answer}
-use Rattle.constraint.specs.declared.Answer.TheVariants.{Taken, Refused}
+use Rattle.constraint.specs.Answer.{Answer}
+use Rattle.constraint.specs.Answer.{Taken, Refused}
 use Rattle.constraint.specs.declared.Call.{Call}
 use Rattle.constraint.specs.declared.Call.TheVariants.{Event, Tick, Close}
 use Rattle.constraint.specs.Constraint.{Constraint, Delay, StrongDelay, Repeat, Sporadic, Order, StrongSynchronization}

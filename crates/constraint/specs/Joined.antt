@@ -7,7 +7,6 @@ use Rattle.constraint.specs.Bytes.{bytes_of}
 use Rattle.constraint.specs.Run.{step_for}
 use Rattle.constraint.specs.Table.{length_at}
 use Rattle.constraint.specs.Recording.{call_at, ReadsInOrder, recording_of, recording_refused}
-use Rattle.constraint.specs.declared.JoinAnswer.{JoinAnswer}
 
 -- §13.1; CR 8: the time of a record's step; no record is a close
 abbrev pub time_of : Step → ℕ
@@ -89,6 +88,13 @@ pub data FirstOf (kinds : List ℕ) (bytes : List ℕ) : ℕ → ℕ → Type 0 
   here : {place : ℕ} → place < length bytes → of_kinds kinds (step_for (call_at bytes place)) ≡ true → FirstOf kinds bytes place place
   later : {place found : ℕ} → place < length bytes → of_kinds kinds (step_for (call_at bytes place)) ≡ false
       → FirstOf kinds bytes (place + 2 + length_at bytes place) found → FirstOf kinds bytes place found
+
+-- §13.5, §13.8; CR 8: the length of the joined recording; or a refusal of the first or the second, with number and place; or too short a buffer
+pub data JoinAnswer : Type 0 where
+  Joined : ℕ → JoinAnswer
+  FirstRefused : ℕ → ℕ → JoinAnswer
+  SecondRefused : ℕ → ℕ → JoinAnswer
+  TooShort : JoinAnswer
 
 -- §8.16, §8.20, §13.4 to §13.8; CR 8: the answer to a join, and what the buffer holds afterwards
 pub data AnswersJoin (one two before : List ℕ) : JoinAnswer → List ℕ → Type 0 where

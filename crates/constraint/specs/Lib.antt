@@ -20,6 +20,7 @@ pub mod Steps
 pub mod Meets
 pub mod Continuation
 pub mod Waiting
+pub mod Answer
 pub mod Questions
 pub mod Types
 pub mod Accepted
@@ -33,6 +34,8 @@ pub mod Stretches
 pub mod Report
 pub mod Page
 pub mod Examples
--- What the code's records hold.
+-- What the code's results say, and what its records hold.
+pub mod Answers
 pub mod Records
 pub mod Joined
+pub mod LongAnswers

@@ -1,7 +1,7 @@
 -- How the monitor asks questions (§9.1; 01, questions).
 use Rattle.std.specs.Prelude.{ℕ, ◌≡◌, List, [], ◌∷◌, ◌⊎◌}
-use Rattle.constraint.specs.declared.Answer.{Answer}
-use Rattle.constraint.specs.declared.Answer.TheVariants.{Taken, Refused}
+use Rattle.constraint.specs.Answer.{Answer}
+use Rattle.constraint.specs.Answer.{Taken, Refused}
 
 -- §9.1; 01, questions: a question: the number of the refusal that a "no" gives, and the statement that it asks about
 abbrev pub Question : Type 1

@@ -3,7 +3,7 @@ use Rattle.std.specs.Prelude.{ℕ, ◌+◌, ◌≤◌, ◌<◌, cond, List, [], 
 use Rattle.constraint.specs.Steps.{Step, at}
 use Rattle.constraint.specs.Questions.{Question, Judged}
 use Rattle.constraint.specs.declared.Call.{Call}
-use Rattle.constraint.specs.declared.Answer.TheVariants.{Taken, Refused}
+use Rattle.constraint.specs.Answer.{Taken, Refused}
 use Rattle.constraint.specs.Run.{step_for, questions}
 use Rattle.constraint.specs.Bytes.{number_at}
 use Rattle.constraint.specs.Table.{length_at, body_at, WholeAt}

@@ -8,8 +8,8 @@ use Rattle.constraint.specs.Steps.{Step, event, tick, close, clock, closed}
 use Rattle.constraint.specs.Continuation.{Open, EventInOrder}
 use Rattle.constraint.specs.Waiting.{waiting}
 use Rattle.constraint.specs.Questions.{Question, Judged}
-use Rattle.constraint.specs.declared.Answer.{Answer}
-use Rattle.constraint.specs.declared.Answer.TheVariants.{Taken, Refused}
+use Rattle.constraint.specs.Answer.{Answer}
+use Rattle.constraint.specs.Answer.{Taken, Refused}
 use Rattle.constraint.specs.declared.Call.{Call}
 use Rattle.constraint.specs.Constraint.{Constraint}
 

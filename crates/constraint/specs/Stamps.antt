@@ -8,10 +8,9 @@ use Rattle.constraint.specs.Meets.{Between, MeetsRepeat}
 use Rattle.constraint.specs.Questions.{Question, Judged}
 use Rattle.constraint.specs.Table.{ReadsTableUpTo, table_of, table_refused}
 use Rattle.constraint.specs.Recording.{ReadsInOrder, recording_of, recording_refused}
-use Rattle.constraint.specs.declared.Answer.TheVariants.{Refused}
+use Rattle.constraint.specs.Answer.{Answer}
 use Rattle.constraint.specs.Constraint.{Constraint, Repeat}
 use Rattle.constraint.specs.declared.StampedVerdict.{StampedVerdict}
-use Rattle.constraint.specs.declared.StampedAnswer.{StampedAnswer}
 
 -- §12.1; CR 13: a choice of true times. A stamp is the recorded time of an event. Its true time is at most e before it and not after it, and true
 -- times rise strictly
@@ -39,6 +38,11 @@ abbrev pub stamps_questions : List Constraint → ℕ → ℕ → List Question
 stamps_questions rows i e =
     (15, i < length rows) ∷ (25, (k : ℕ) × ((lower : ℕ) × ((upper : ℕ) × RepeatRow rows i k lower upper))) ∷ (10, e ≤ last_time) ∷ []
 
+-- §12.5, §12.6; CR 13: what the row reads, or a refusal with its number and place
+pub data StampedAnswer : Type 0 where
+  Reads : StampedVerdict → StampedAnswer
+  Refused : ℕ → ℕ → StampedAnswer
+
 -- §12.5, §12.6, §16.3; CR 13: the answer for row i of a table, a recording and an e. Refusals 15, 25 and 10 have the place 0
 pub data AnswersStampsUpTo (newest : ℕ) (table recording : List ℕ) (i e : ℕ) : StampedAnswer → Type 0 where
   no_table : (n place : ℕ) → ReadsTableUpTo newest table (table_refused n place)
@@ -46,7 +50,7 @@ pub data AnswersStampsUpTo (newest : ℕ) (table recording : List ℕ) (i e : �
   no_recording : (rows : List Constraint) (n place : ℕ) → ReadsTableUpTo newest table (table_of rows)
       → ReadsInOrder recording (recording_refused n place) → AnswersStampsUpTo newest table recording i e (StampedAnswer.Refused n place)
   not_asked : (rows : List Constraint) (steps : List Step) (n : ℕ) → ReadsTableUpTo newest table (table_of rows)
-      → ReadsInOrder recording (recording_of steps) → Judged (stamps_questions rows i e) (Refused n)
+      → ReadsInOrder recording (recording_of steps) → Judged (stamps_questions rows i e) (Answer.Refused n)
       → AnswersStampsUpTo newest table recording i e (StampedAnswer.Refused n 0)
   reads : (rows : List Constraint) (steps : List Step) (k lower upper : ℕ) (v : StampedVerdict) → ReadsTableUpTo newest table (table_of rows)
       → ReadsInOrder recording (recording_of steps) → RepeatRow rows i k lower upper → e ≤ last_time

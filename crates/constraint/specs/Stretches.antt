@@ -8,10 +8,9 @@ use Rattle.constraint.specs.Questions.{Question, Judged}
 use Rattle.constraint.specs.Run.{step_for, questions}
 use Rattle.constraint.specs.Table.{ReadsTableUpTo, table_of, table_refused}
 use Rattle.constraint.specs.Recording.{ReadsInOrder, recording_of, recording_refused}
-use Rattle.constraint.specs.declared.Answer.TheVariants.{Taken, Refused}
+use Rattle.constraint.specs.Answer.{Answer}
 use Rattle.constraint.specs.declared.Call.{Call}
 use Rattle.constraint.specs.Constraint.{Constraint}
-use Rattle.constraint.specs.declared.StretchAnswer.{StretchAnswer}
 
 -- §14.1; CR 11: a stretch of consecutive records: the number of its first record, from 0, and its length
 pub record Stretch : Type 0 where
@@ -25,7 +24,7 @@ stretch_of first size = record { first = first; size = size }
 -- §14.2; CR 11: a fresh monitor over the rows takes each of these records: all its questions are answered "yes" after the records before it (§9.5)
 pub data TakesEach (rows : List Constraint) : List Step → Type 0 where
   takes_none : TakesEach rows []
-  takes_more : {records : List Step} (s : Call) → TakesEach rows records → Judged (questions rows records s) Taken
+  takes_more : {records : List Step} (s : Call) → TakesEach rows records → Judged (questions rows records s) Answer.Taken
       → TakesEach rows (records ++ (step_for s ∷ []))
 
 -- §14.2; CR 11: the records break the row: a monitor over this row alone takes every record, and then no continuation is left
@@ -74,10 +73,15 @@ stretch_questions rows steps i =
     (22, length steps ≤ record_limit) ∷ (15, i < length rows)
     ∷ (23, (c : Constraint) × (get_elem? rows i ≡ some c) × Some (Breaking c steps) (stretches (length steps))) ∷ []
 
+-- §14.5; CR 11: a stretch, by its first record and its length, and how many were tried; or a refusal with its number and place
+pub data StretchAnswer : Type 0 where
+  Found : ℕ → ℕ → ℕ → StretchAnswer
+  Refused : ℕ → ℕ → StretchAnswer
+
 -- §14.4, §14.5; CR 11: the answer for row i after the steps of a recording. Refusals 22, 15 and 23 have the place 0
 pub data AnswersRow (rows : List Constraint) (steps : List Step) (i : ℕ) : StretchAnswer → Type 0 where
-  no_stretch : (n : ℕ) → Judged (stretch_questions rows steps i) (Refused n) → AnswersRow rows steps i (StretchAnswer.Refused n 0)
-  found : (c : Constraint) (first size tried : ℕ) → Judged (stretch_questions rows steps i) Taken → get_elem? rows i ≡ some c
+  no_stretch : (n : ℕ) → Judged (stretch_questions rows steps i) (Answer.Refused n) → AnswersRow rows steps i (StretchAnswer.Refused n 0)
+  found : (c : Constraint) (first size tried : ℕ) → Judged (stretch_questions rows steps i) Answer.Taken → get_elem? rows i ≡ some c
       → FirstAt (Breaking c steps) (stretches (length steps)) (stretch_of first size) tried
       → AnswersRow rows steps i (StretchAnswer.Found first size tried)
 

@@ -3,8 +3,8 @@ use Rattle.std.specs.Prelude.{ℕ, ◌+◌, ◌^◌, ◌≤◌, ◌<◌, ◌≡�
 use Rattle.constraint.specs.Limits.{row_limit}
 use Rattle.constraint.specs.Steps.{at}
 use Rattle.constraint.specs.Questions.{Question, Judged}
-use Rattle.constraint.specs.declared.Answer.{Answer}
-use Rattle.constraint.specs.declared.Answer.TheVariants.{Taken, Refused}
+use Rattle.constraint.specs.Answer.{Answer}
+use Rattle.constraint.specs.Answer.{Taken, Refused}
 use Rattle.constraint.specs.Types.{Field, byte, time, value_of, type_of, fields_of, last_type, length_of, TypeKnown}
 use Rattle.constraint.specs.Accepted.{row_questions, rows_questions}
 use Rattle.constraint.specs.Bytes.{bytes_of, bytes_at, number_at}

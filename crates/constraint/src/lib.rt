@@ -1,9 +1,11 @@
-// What every crate uses: the limits, a call, the answer to it, and the verdict of a row. The contract's definitions are in specs/.
+// What every crate uses: the limits, a call, the refusals, and the verdict of a row. The contract's definitions are in specs/.
+#![tactic(auto)]
+
+ghost use Rattle.std.specs.Prelude.{◌≡◌};
+ghost use Rattle.constraint.specs.Answers.{refusal_number};
 
 // §1.2
 // The largest kind of event.
-#![tactic(auto)]
-
 pub const LAST_KIND: u8 = 63;
 // §1.2
 // The first coloured kind: those below it are plain.
@@ -31,7 +33,7 @@ pub const REPETITION_SPAN_LIMIT: u8 = 8;
 pub const WAITING_LIMIT: usize = 64;
 
 // A call, with its arguments as given: an event of a kind at a time, one of a coloured kind with its colour, a tick to a time, or the close.
-#[derive(Clone, Copy)]
+#[derive(Clone, Copy, PartialEq, Eq)]
 pub enum Call {
     Event { kind: u8, time: u64 },
     ColouredEvent { kind: u8, colour: u8, time: u64 },
@@ -39,15 +41,69 @@ pub enum Call {
     Close,
 }
 
-// The answer to a call: taken, or refused with the number of the first question answered "no".
-#[derive(Drop)]
-pub enum Answer {
-    Taken,
-    Refused(u8),
+// Why a call is refused: the first question that is answered "no". Each has the number of its question, which a host reads.
+#[derive(Clone, Copy, PartialEq, Eq)]
+pub enum Refusal {
+    // a table, or a row of it
+    TableVersion = 1,
+    RowCut = 2,
+    TooManyRows = 3,
+    RowShape = 4,
+    RowKinds = 5,
+    RowRange = 6,
+    RowBounds = 7,
+    // a step
+    Closed = 8,
+    Kind = 9,
+    TimeRange = 10,
+    TimeOrder = 11,
+    Crowded = 12,
+    // a recording, or a record of it
+    RecordingVersion = 13,
+    Record = 14,
+    // the number of a row
+    NoRow = 15,
+    // a buffer
+    Room = 16,
+    // a file
+    FileSize = 17,
+    // the kinds of a row, asked after 5
+    RowSort = 18,
+    // the kind or the colour of an event, asked after 9
+    Form = 19,
+    // two recordings
+    CommonKind = 20,
+    // a withdrawal
+    NothingToWithdraw = 21,
+    // the shortest stretch
+    TooManyRecords = 22,
+    NoStretch = 23,
+    // a step, asked after 8
+    CountFull = 24,
+    // a row for late stamps
+    NotRepeat = 25,
+    // a withdrawal of one step
+    OtherStep = 26,
+}
+
+impl From<Refusal> for u8 {
+    ghost from_gives = { λ refusal number. number ≡ refusal_number refusal };
+
+    // The number of the question.
+    fn from(refusal: Refusal) -> u8 {
+        refusal as u8
+    }
+}
+
+// A refusal, and the place in the table or the recording that it is about.
+#[derive(Clone, Copy, PartialEq, Eq)]
+pub struct RefusedAt {
+    pub refusal: Refusal,
+    pub place: usize,
 }
 
 // The verdict of a row: open, kept, or broken with the step that broke it.
-#[derive(Clone, Copy)]
+#[derive(Clone, Copy, PartialEq, Eq)]
 pub enum Verdict {
     Open,
     Kept,
@@ -56,34 +112,25 @@ pub enum Verdict {
 
 // What a Repeat row of span 1 reads at the close where stamps may be late: kept for each choice of true times, broken for each, or
 // unsure, as the choices differ.
-#[derive(Drop)]
+#[derive(Clone, Copy, PartialEq, Eq)]
 pub enum StampedVerdict {
     Kept,
     Broken,
     Unsure,
 }
 
-// The answer about such stamps: what the row reads, or refused with the number of the first question answered "no" and the place.
-#[derive(Drop)]
-pub enum StampedAnswer {
-    Reads(StampedVerdict),
-    Refused { number: u8, place: usize },
-}
-
-// The answer to a join: how many bytes it has; or refused, with the number of the first question answered "no" and the place, at the first
-// recording or at the second; or the buffer is too short.
-#[derive(Drop)]
-pub enum JoinAnswer {
-    Joined { length: usize },
-    FirstRefused { number: u8, place: usize },
-    SecondRefused { number: u8, place: usize },
+// Why two recordings are not joined: the first or the second is refused, or the buffer is too short.
+#[derive(Clone, Copy, PartialEq, Eq)]
+pub enum JoinRefusal {
+    First(RefusedAt),
+    Second(RefusedAt),
     TooShort,
 }
 
-// The answer about the shortest stretch that breaks a row: the number of its first record, from 0, its length, and how many stretches were
-// tried, with it; or refused with the number of the first question answered "no" and the place.
-#[derive(Drop)]
-pub enum StretchAnswer {
-    Found { first: u8, size: u16, tried: u32 },
-    Refused { number: u8, place: usize },
+// The shortest stretch that breaks a row: the number of its first record, from 0, its length, and how many stretches were tried, with it.
+#[derive(Clone, Copy, PartialEq, Eq)]
+pub struct FoundStretch {
+    pub first: u8,
+    pub size: u16,
+    pub tried: u32,
 }

@@ -1,5 +1,6 @@
 // Order: no times are kept; first is the number of sources beyond the number of targets, last one more than the time of a
 // target beyond the number of sources.
+// A mark is 0 where there is none: it is a word of memory that C lends, and `Registers` of specs/ reads it so.
 ghost use Rattle.std.specs.Prelude.{false, []};
 ghost use Rattle.constraint.specs.Limits.{no_limit};
 ghost use Rattle.ring.specs.Ring.{ring_of};
@@ -8,7 +9,7 @@ ghost use Rattle.delay_order.specs.Order.{stored, with_ahead, decide_order};
 
 use constraint::NO_LIMIT;
 use ring::SIZE;
-use row_type::{parts, row_words};
+use row_type::row_words;
 
 // One more than the time of a target beyond the number of sources, and how many sources are beyond the number of targets.
 const EARLY: usize = row_words::LAST;
@@ -26,14 +27,14 @@ pub fn apply(row: &mut [[u64; SIZE]; 2], stream: u64, t: u64, number: u64)
     let ahead = row[1][AHEAD];
     if stream == row[1][row_words::FIRST] {
         if early == 0 {
-            wait_for_target(&mut row[1], parts::plus(ahead, 1));
+            wait_for_target(&mut row[1], ahead.saturating_add(1));
             return;
         }
         store(&mut row[1], 0, ahead);
         return;
     }
     if ahead == 0 {
-        store(&mut row[1], parts::plus(t, 1), ahead);
+        store(&mut row[1], t.saturating_add(1), ahead);
         return;
     }
     store(&mut row[1], early, ahead - 1);
@@ -56,7 +57,7 @@ fn store(w: &mut [u64; SIZE], early: u64, ahead: u64)
     w[EARLY] = early;
     w[AHEAD] = ahead;
     if early == 0 {
-        row_words::settle(w, NO_LIMIT, row_words::one_if(ahead == 0));
+        row_words::settle(w, NO_LIMIT, u64::from(ahead == 0));
         return;
     }
     row_words::settle(w, early - 1, 0);

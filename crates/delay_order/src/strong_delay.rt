@@ -1,5 +1,6 @@
 // StrongDelay: the times are the sources beyond the number of targets; last is one more than the time of a target beyond
 // the number of sources.
+// A mark is 0 where there is none: it is a word of memory that C lends, and `Registers` of specs/ reads it so.
 ghost use Rattle.std.specs.Prelude.{◌≡◌};
 ghost use Rattle.row_type.specs.Words.{asked_of, last_saved, Applies};
 ghost use Rattle.delay_order.specs.StrongDelay.{overflows_strong_delay, decide_strong_delay};
@@ -26,19 +27,18 @@ pub fn apply(row: &mut [[u64; SIZE]; 2], stream: u64, t: u64, number: u64)
         return;
     }
     let lower = row[1][row_words::LOWER];
-    let head = row[1][row_words::HEAD] as usize;
-    let len = row[1][row_words::LEN] as usize;
-    if len == 0 {
+    let times = row_words::times(row);
+    if times.len == 0 {
         if lower == 0 {
             row_words::stay(row, number);
-            row[1][EARLY] = parts::plus(t, 1);
+            row[1][EARLY] = t.saturating_add(1);
             row_words::settle(&mut row[1], t, 0);
             return;
         }
         row_words::break_at(row, t, number);
         return;
     }
-    if parts::reaches(parts::front(&row[0], head, len), lower, t) {
+    if parts::reaches(times.front(), lower, t) {
         row_words::fewer_wait(row, 1, number);
         return;
     }
@@ -46,14 +46,9 @@ pub fn apply(row: &mut [[u64; SIZE]; 2], stream: u64, t: u64, number: u64)
 }
 
 // Whether an event lets one more wait, where there is no room.
+#[tactic(auto, unfolding(crate::specs::StrongDelay::overflows_strong_delay))]
 pub fn overflows(w: &[u64; SIZE], stream: u64, t: u64) -> bool
     ensures { result ≡ asked_of overflows_strong_delay w.now stream t }
 {
-    if stream != w[row_words::FIRST] {
-        return false;
-    }
-    if w[row_words::LEN] < SIZE as u64 {
-        return false;
-    }
-    w[EARLY] == 0
+    stream == w[row_words::FIRST] && w[row_words::LEN] >= SIZE as u64 && w[EARLY] == 0
 }

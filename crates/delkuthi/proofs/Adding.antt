@@ -6,7 +6,7 @@ use Rattle.constraint.specs.{Limits.row_limit, Steps.at, Table.ShapeFits}
 use Rattle.fresh.proofs.Refusals.{AllAbove, accepted_small, number_above, refused_small}
 use Rattle.delkuthi.specs.Tables.{AddsNumbered}
 use Rattle.table.specs.Appending.{AddsRow, AddsTo, add_questions, body_questions, row_right, row_wrong, table_wrong}
-use Rattle.table.specs.declared.append.AddAnswer.{AddAnswer}
+use Rattle.table.specs.AddAnswer.{AddAnswer}
 use Rattle.table_row.proofs.Lines.{known_short}
 
 -- an answer whose number is small

@@ -1,11 +1,13 @@
 -- The page that is written says what the rows read: it is made of the summary, which says the type of each of the table's rows and its verdict.
-use Rattle.delkuthi.proofs.Names.{Accepted, Constraint, Copied, Follows, List, Monitor, PageOf, Pages, Reads, Request, Step, StepFits, Valid}
+use Rattle.delkuthi.proofs.Names.{Accepted, Constraint, Copied, Follows, List, Monitor, PageOf, Pages, Reads, Request, RowSummary, Step, StepFits}
+use Rattle.delkuthi.proofs.Names.{Valid}
 use Rattle.delkuthi.proofs.Names.{Verdict, WritesPage, ◌<◌, ◌∙◌, ◌≡◌, ◌≤◌, after, after_follows, ap, arith, at, broken_in, by_cases, count_of}
-use Rattle.delkuthi.proofs.Names.{dec_lt, every_type_exact, equal_pages, fit_reads, has_row, length, line_read, lt-ltb, map, name_of, page_of}
+use Rattle.delkuthi.proofs.Names.{dec_lt, every_type_exact, equal_pages, fit_reads, has_row, length, line_read, lt-ltb, ltb, map, name_of, page_of}
 use Rattle.delkuthi.proofs.Names.{page_reads_back, page_too_short, page_written, page_text, printed, printed_rows, reads_broken, reads_kept}
-use Rattle.delkuthi.proofs.Names.{reads_open, row_limit, row_verdict, same_rows, some, subst, summary_of, sym, text_of, type_in, type_of, verdict_at}
-use Rattle.delkuthi.proofs.Names.{verdict_for, verdict_of, verdicts_in, verdicts_of, ℕ}
-use Rattle.delkuthi.proofs.Summaries.{at_map, count_is, each_summarized, made_follows, row_summarized}
+use Rattle.delkuthi.proofs.Names.{reads_open, row_limit, row_verdict, same_rows, some, subst, summary_of, sym, text_of, type_in, type_of, types_of}
+use Rattle.delkuthi.proofs.Names.{verdict_at}
+use Rattle.delkuthi.proofs.Names.{verdict_for, verdict_of, verdict_said, verdicts_in, verdicts_of, ℕ}
+use Rattle.delkuthi.proofs.Summaries.{count_is, each_summarized, made_follows, row_summarized, said_at}
 
 -- a step that a row reads is one of those taken, of which there are fewer than 2^64
 reads_fits : {c : Constraint} {steps : List Step} (v : Verdict) → Valid steps → Reads c steps v → StepFits v
@@ -88,9 +90,10 @@ pub page_kept : (m : Monitor) (before : List ℕ) (answer : ℕ) (left : List �
     → Copied (text_of (summary_of m)) before answer left → WritesPage m before answer left
 page_kept m before answer left whole copied =
     let text : text_of (summary_of m) ≡ printed m =
-    same_rows (at (summary_of m).types) (type_in m) (verdicts_of m.closed (summary_of m).steps) (λ i. verdict_for m.closed (broken_in m i))
-    (printed_rows m) (λ i h. at_map (λ r. r.parameters.tag) m.rows i (omega arith))
-    (λ i h. ap (verdict_for m.closed) (at_map (λ r. r.now.broken) m.rows i (omega arith))) in
+    same_rows (types_of (summary_of m).rows) (type_in m) (verdicts_of (ltb 0 m.closed) (summary_of m).rows)
+    (λ i. verdict_for m.closed (broken_in m i))
+    (printed_rows m) (λ i h. ap (λ (r : RowSummary). r.tag) (said_at m.rows i (omega arith)))
+    (λ i h. ap (verdict_said (ltb 0 m.closed)) (said_at m.rows i (omega arith))) in
     let equal = subst (λ (text : List ℕ). Copied text before answer left) text copied in
     record {
       equals = equal;

@@ -1,28 +1,39 @@
 -- The report's text follows from what reading the table and the recording gave, and there is room for all of it.
-use Rattle.delkuthi.proofs.Names.{BeginsUpTo, Call, Constraint, HoldsText, Copied, EachReads, HoldsMonitor, LeftBy, List, Monitor, ReadAnswer}
+use Rattle.delkuthi.proofs.Names.{BeginsUpTo, Bool, Call, Constraint, HoldsText, Copied, EachReads, HoldsMonitor, LeftBy, List, Monitor, ReadAnswer}
 use Rattle.delkuthi.proofs.Names.{ReadsRecording, ReadsTableUpTo, RecordingTakenAs, ReportOfUpTo, ReportsOf, ReportsOnUpTo, ReportsSteps}
-use Rattle.delkuthi.proofs.Names.{ReportsUpTo, Step, Summary, TakesRecords, Text, Verdict, Words, [], ◌%◌, ◌*◌, ◌++◌, ◌+◌, ◌/◌, ◌<◌, ◌∙◌, ◌∷◌}
+use Rattle.delkuthi.proofs.Names.{ReportsUpTo, RowSummary, Step, Summary, TakesRecords, Text, Verdict, Words, [], ◌*◌, ◌++◌, ◌+◌, ◌<◌, ◌∙◌, ◌∷◌}
 use Rattle.delkuthi.proofs.Names.{◌≡◌, ◌≤◌, add-one, after, all_taken_lem, ap, ap₂, arith, asks, at, begun, close, closed_append, closed_close}
-use Rattle.delkuthi.proofs.Names.{closed_length, closed_line, closed_text, copied_reports, drop, drop-cons, empty_text, extended, extended_append}
-use Rattle.delkuthi.proofs.Names.{fresh_lent, holds_all, le-ltb, length, lt-ltb, map, never, no_recording, no_table, over, read_accepted}
-use Rattle.delkuthi.proofs.Names.{reads_once, recording_of, refl, refusal_of, refused, refused_length, refused_text, report_limit, report_text}
-use Rattle.delkuthi.proofs.Names.{reported, row_reads, row_line, row_lines, rows_more, rows_room, subst, suc, summary_of, sym, table_of, unclosed}
-use Rattle.delkuthi.proofs.Names.{unused, used, verdicts_in, words_of_lent, ℕ}
+use Rattle.delkuthi.proofs.Names.{closed_length, closed_line, closed_text, cond, copied_reports, drop, drop-cons, empty_text, extended}
+use Rattle.delkuthi.proofs.Names.{extended_append}
+use Rattle.delkuthi.proofs.Names.{false, fresh_lent, holds_all, length, ltb, map, never, no_recording, no_table, over, read_accepted}
+use Rattle.delkuthi.proofs.Names.{reads_once, recording_of, refl, refused, refused_length, refused_text, report_limit, report_text}
+use Rattle.delkuthi.proofs.Names.{reported, row_of, row_reads, row_line, row_lines, rows_more, rows_room, subst, suc, summary_of, sym, table_of}
+use Rattle.delkuthi.proofs.Names.{unclosed}
+use Rattle.delkuthi.proofs.Names.{true, unused, used, verdicts_in, words_of_lent, ℕ}
+use Rattle.std.specs.Prelude.{Result, Ok, Err, ◌^◌}
+use Rattle.constraint.proofs.Refusals.{numbered}
+use Rattle.constraint.specs.Answers.{refused_number}
 use Rattle.constraint.specs.Report.{no_row_lem}
+use Rattle.constraint.specs.declared.RefusedAt.{RefusedAt}
+use Rattle.delkuthi.specs.TakingRecords.{taken_number}
+use Rattle.fresh.proofs.Refusals.{refused_small}
+use Rattle.fresh.specs.Fresh.{table_code}
+use Rattle.table.specs.ReadAnswer.{read_answer_of}
 use Rattle.delkuthi.proofs.{Hosts.follows_fresh, Taking.took_follows}
 use Rattle.delkuthi.proofs.Summaries.{each_summarized, made_follows, verdicts_few}
-use Rattle.table.specs.declared.ReadAnswer.TheVariants.{Accepted, Refused}
+use Rattle.table.specs.ReadAnswer.{Accepted, Refused}
 
 -- ---- the text
 
 -- the lines of the rows from row i on, behind a text: first that of row i
-pub lines_next : (f : ℕ → Verdict) (l : List ℕ) (i : ℕ) (text : Text) → i < length l
-    → extended (row_lines (i + 1) (map f (drop (i + 1) l))) (extended (row_line i (f (at l i))) text) ≡ extended (row_lines i (map f (drop i l))) text
+pub lines_next : (f : RowSummary → Verdict) (l : List RowSummary) (i : ℕ) (text : Text) → i < length l
+    → extended (row_lines (i + 1) (map f (drop (i + 1) l))) (extended (row_line i (f (row_of l i))) text)
+    ≡ extended (row_lines i (map f (drop i l))) text
 lines_next f l i text there =
     rw (
-      drop-cons l i 0 there,
-      rows_more i (f (at l i)) (map f (drop (suc i) l)),
-      extended_append (row_line i (f (at l i))) (row_lines (i + 1) (map f (drop (suc i) l))) text,
+      drop-cons l i (record { tag = 0; broken = 0 }) there,
+      rows_more i (f (row_of l i)) (map f (drop (suc i) l)),
+      extended_append (row_line i (f (row_of l i))) (row_lines (i + 1) (map f (drop (suc i) l))) text,
       add-one i,
     )
 
@@ -66,13 +77,29 @@ module _ {newest : ℕ} (table : List ℕ) (before : Words) where
     left_used number words (refused n place read above below) e answer last takes = absurd (omega (arith, e, above))
 
     -- another number is the refusal's
-    pub left_unused : (number : ℕ) (words : Words) → BeginsUpTo newest table before number words → (number ≡ 0 → ⊥)
-        → LeftBy newest before table recording (refusal_of number) words
-    left_unused number words (begun rows read accepted indexes) other = absurd (other refl)
-    left_unused number words (refused n place read above below) other =
-        let number_is : n ≡ (place * 256 + n) % 256 = omega arith in
-        let place_is : place ≡ (place * 256 + n) / 256 = omega arith in
+    unused_by : (number m at : ℕ) (words : Words) → number ≡ at * 256 + m → 0 < m → m < 256 → BeginsUpTo newest table before number words
+        → LeftBy newest before table recording (Refused m at) words
+    unused_by number m at words e above' below' (begun rows read accepted indexes) = absurd (omega (arith, e, above'))
+    unused_by number m at words e above' below' (refused n place read above below) =
+        let number_is : n ≡ m = omega (arith, e, below, below') in
+        let place_is : place ≡ at = omega (arith, e, below, below') in
         subst (λ (answer : ReadAnswer). LeftBy newest before table recording answer before) (ap₂ Refused number_is place_is) (unused n place read)
+
+    pub left_unused : (refused_at : RefusedAt) (words : Words) → BeginsUpTo newest table before (table_code {T = Unit {0}} (Err refused_at)) words
+        → LeftBy newest before table recording (Refused (refused_number refused_at) refused_at.place) words
+    left_unused refused_at words begins =
+        let small = numbered refused_at.refusal in
+        unused_by _ (refused_number refused_at) refused_at.place words refl small.0 (omega (arith, small.1)) begins
+
+  -- the place of a refusal is small, so the number that is answered has it
+  small_code : (number : ℕ) (words : Words) → BeginsUpTo newest table before number words → number < 2 ^ 56
+  small_code number words (begun rows read accepted indexes) = omega arith
+  small_code number words (refused n place read above below) = omega (arith, below, (refused_small table n place read).1)
+
+  pub fresh_number : (taken : Result (Unit {0}) RefusedAt) (words : Words) → BeginsUpTo newest table before (table_code taken) words
+      → taken_number (read_answer_of taken) ≡ table_code taken
+  fresh_number (Ok x) words begins = refl
+  fresh_number (Err refused_at) words begins = omega (arith, small_code _ words begins)
 
 -- ---- the report
 
@@ -108,25 +135,25 @@ pub copied_none : (before : List ℕ) → Copied [] before 0 before
 copied_none before = record { fits = λ fits. (refl, refl); too_short = λ short. absurd (omega arith) }
 
 -- of a monitor that was stepped call by call: before the close nothing is written
-pub reports_unclosed : (m : Monitor) (before : List ℕ) → m.closed ≤ 0 → ReportsOf m before 0 before
+pub reports_unclosed : (m : Monitor) (before : List ℕ) → ltb 0 m.closed ≡ false → ReportsOf m before 0 before
 reports_unclosed m before not_yet =
     record {
-      equals = rw (le-ltb 0 m.closed not_yet) (copied_none before);
+      equals = rw not_yet (copied_none before);
       means = λ rows requests accepted made.
-          let a = made_follows rows requests accepted made in (a.0, a.1, unclosed (sym a.2.closed_is ∙ le-ltb _ _ not_yet));
+          let a = made_follows rows requests accepted made in (a.0, a.1, unclosed (sym a.2.closed_is ∙ not_yet));
     }
 
-pub reports_closed : (m : Monitor) (before : List ℕ) (answer : ℕ) (written : List ℕ) → 0 < m.closed
+pub reports_closed : (m : Monitor) (before : List ℕ) (answer : ℕ) (written : List ℕ) → ltb 0 m.closed ≡ true
     → Copied (report_text Accepted (summary_of m)) before answer written → ReportsOf m before answer written
 reports_closed m before answer written shut copied =
     record {
-      equals = rw (lt-ltb 0 m.closed shut) copied;
+      equals = subst (λ (b : Bool). Copied (cond b (report_text Accepted (summary_of m)) []) before answer written) (sym shut) copied;
       means = λ rows requests accepted made.
           let a = made_follows rows requests accepted made in
           let f = a.2 in (
             a.0,
             a.1,
-            reported (verdicts_in (summary_of m)) (sym f.closed_is ∙ lt-ltb _ _ shut) (each_summarized rows a.0.steps m f)
+            reported (verdicts_in (summary_of m)) (sym f.closed_is ∙ shut) (each_summarized rows a.0.steps m f)
                 (rw f.count_is at copied),
           );
     }

@@ -1,10 +1,15 @@
 -- Records are taken one after the other: what is taken from a place on, after the records before it, is what is taken from the first record on.
 use Rattle.delkuthi.proofs.Names.{Accepted, Call, CallAt, Constraint, HoldsMonitor, List, Memory, ReadAnswer, RecordAt, RecordingLeaves, Takes}
-use Rattle.delkuthi.proofs.Names.{VersionKnown, [], ◌+◌, ◌<◌, ◌≡◌, ◌≤◌, after, arith, asks, call_at, last_count, length, never, refl, subst, suc}
-use Rattle.delkuthi.proofs.Names.{sym, zero, ℕ}
+use Rattle.delkuthi.proofs.Names.{VersionKnown, [], ◌+◌, ◌<◌, ◌≡◌, ◌≤◌, after, arith, asks, call_at, last_count, length, refl, subst}
+use Rattle.delkuthi.proofs.Names.{sym, ℕ}
 use Rattle.delkuthi.proofs.Progress.{TakenUpTo, up_to_end, up_to_more, up_to_none, up_to_refused, up_to_start, version_unknown}
 use Rattle.constraint.specs.Table.{length_at}
-use Rattle.delkuthi.specs.TakingRecords.{TakesBytes, TakesFrom, all_taken_lem, no_version, not_whole, step_refused, step_taken, versioned}
+use Rattle.std.specs.Prelude.{Ok, Err}
+use Rattle.constraint.proofs.Refusals.{numbered}
+use Rattle.constraint.specs.Answers.{refusal_number}
+use Rattle.constraint.specs.declared.Refusal.{Refusal}
+use Rattle.constraint.specs.declared.Refusal.TheVariants.{Record}
+use Rattle.delkuthi.specs.TakingRecords.{TakesBytes, TakesFrom, TakesNext, all_taken_lem, no_version, not_whole, step_refused, step_taken, versioned}
 
 -- ---- how far the records were taken
 
@@ -21,32 +26,43 @@ module _ (bytes : List ℕ) (start : Memory) where
     to_end last = versioned before.version (before.whole ReadAnswer.Accepted words (all_taken_lem last))
 
     module _ (there : place < length bytes) where
-      pub to_none : ¬ RecordAt bytes place → TakesBytes bytes start (ReadAnswer.Refused 14 place) words
-      to_none none = versioned before.version (before.whole (ReadAnswer.Refused 14 place) words (not_whole there none))
+      pub to_more : (next : ℕ) (end : Memory) → TakesNext bytes place words (Ok next) end → TakenTo bytes start next end
+      to_more next end (whole, next_is, takes) =
+          record {
+            version = before.version;
+            whole = λ answer last rest.
+                before.whole answer last (step_taken there whole takes
+                (subst (λ (p : ℕ). TakesFrom bytes end p answer last) next_is rest));
+          }
 
-      module _ (s : Call) (next : ℕ) (read : CallAt bytes place s next) where
-        of_record : {number : ℕ} {end : Memory} → Takes words (asks s) number end → Takes words (asks (call_at bytes place)) number end
-        of_record {number} {end} takes = subst (λ (call : Call). Takes words (asks call) number end) (sym read.call_read) takes
+      pub to_refused : (refusal : Refusal) (end : Memory) → TakesNext bytes place words (Err refusal) end
+          → TakesBytes bytes start (ReadAnswer.Refused (refusal_number refusal) place) end
+      to_refused refusal end (same, from) =
+          subst (λ (last : Memory). TakesBytes bytes start (ReadAnswer.Refused (refusal_number refusal) place) last) (sym same)
+          (versioned before.version (before.whole (ReadAnswer.Refused (refusal_number refusal) place) words (from there)))
 
-        pub to_more : (number : ℕ) (end : Memory) → number ≡ 0 → Takes words (asks s) number end → TakenTo bytes start next end
-        to_more (suc n) end is takes = never (omega (arith, is))
-        to_more zero end is takes =
-            record {
-              version = before.version;
-              whole = λ answer last rest.
-                  before.whole answer last (step_taken there read.there (of_record takes)
-                  (subst (λ (p : ℕ). TakesFrom bytes end p answer last) read.next_read rest));
-            }
+-- ---- one record
 
-        pub to_refused : (number : ℕ) (end : Memory) → 0 < number → number < 256 → Takes words (asks s) number end
-            → TakesBytes bytes start (ReadAnswer.Refused number place) end
-        to_refused number end above below takes =
-            let same : end ≡ words = takes.untouched (λ is. omega (arith, is, above)) in
-            let stays : Takes words (asks (call_at bytes place)) number words =
-            subst (λ (last : Memory). Takes words (asks (call_at bytes place)) number last) same (of_record takes) in
-            subst (λ (last : Memory). TakesBytes bytes start (ReadAnswer.Refused number place) last) (sym same)
-            (versioned before.version
-            (before.whole (ReadAnswer.Refused number place) words (step_refused number there read.there above below stays)))
+module _ (bytes : List ℕ) (words : Memory) (place : ℕ) where
+  pub next_none : {refusal : Refusal} → (¬ RecordAt bytes place) × (refusal ≡ Record) → TakesNext bytes place words (Err refusal) words
+  next_none {refusal} (none, is) =
+      subst (λ (r : Refusal). TakesNext bytes place words (Err r) words) (sym is) (refl, λ there. not_whole there none)
+
+  module _ (s : Call) (next : ℕ) (read : CallAt bytes place s next) where
+    of_record : {number : ℕ} {end : Memory} → Takes words (asks s) number end → Takes words (asks (call_at bytes place)) number end
+    of_record {number} {end} takes = subst (λ (call : Call). Takes words (asks call) number end) (sym read.call_read) takes
+
+    pub next_taken : (end : Memory) → Takes words (asks s) 0 end → TakesNext bytes place words (Ok next) end
+    next_taken end takes = (read.there, read.next_read, of_record takes)
+
+    pub next_refused : (refusal : Refusal) (end : Memory) → Takes words (asks s) (refusal_number refusal) end
+        → TakesNext bytes place words (Err refusal) end
+    next_refused refusal end takes =
+        let small = numbered refusal in
+        let same : end ≡ words = takes.untouched (λ is. omega (arith, is, small.0)) in
+        let stays : Takes words (asks (call_at bytes place)) (refusal_number refusal) words =
+        subst (λ (last : Memory). Takes words (asks (call_at bytes place)) (refusal_number refusal) last) same (of_record takes) in
+        (same, λ there. step_refused (refusal_number refusal) there read.there small.0 (omega (arith, small.1)) stays)
 
 -- ---- the number of a refusal
 

@@ -1,7 +1,10 @@
 -- What is read of the words of a lent monitor is what the monitor that lies there says: each of its numbers has its own place.
-use Rattle.delkuthi.proofs.Names.{HoldsMonitor, Lent, List, Monitor, Request, Shaped, Stepped, Steps, Takes, Words, [], ◌-◌, ◌<◌, ◌∙◌, ◌≡◌}
+use Rattle.std.specs.Int.{from_bool}
+use Rattle.constraint.proofs.Library.{ltb-false}
+use Rattle.delkuthi.proofs.Names.{Bool, HoldsMonitor, Lent, List, Monitor, Request, Shaped, Stepped, Steps, Takes, Words, [], ◌<◌, ◌≤◌, ◌∙◌, ◌≡◌}
 use Rattle.delkuthi.proofs.Names.{answer_from, ap, arith, get_or, held_rows, kept_at, leaves, length, min, no_row, number_at, number_words}
-use Rattle.delkuthi.proofs.Names.{place_small, place_of, refl, result_of, row_lies, row_at, row_limit, row_as_words, stepped_from, subst, sym}
+use Rattle.delkuthi.proofs.Names.{ltb, ltb-true, place_small, place_of, refl, result_of, row_lies, row_at, row_limit, row_as_words, split}
+use Rattle.delkuthi.proofs.Names.{stepped_from, subst, sym}
 use Rattle.delkuthi.proofs.Names.{verdict_by, words_of_lent, ℕ}
 use Rattle.row.specs.Stored as Stored
 
@@ -24,10 +27,16 @@ module _ (words : Words) (m : Monitor) (holds : HoldsMonitor words m) where
       let here : n ≡ min h.monitor.len row_limit = says h holds.words_are holds.indexes.shaped in
       subst (λ (x : Monitor). n ≡ x.len) is (omega (arith, here, holds.indexes.sound.rows_few))
 
-  pub closed_read : (n : ℕ) → Said words (λ x. n ≡ 1 - (1 - x.monitor.closed)) → n ≡ m.closed
-  closed_read n says =
-      let here : n ≡ 1 - (1 - h.monitor.closed) = says h holds.words_are holds.indexes.shaped in
-      subst (λ (x : Monitor). n ≡ x.closed) is (omega (arith, here, holds.indexes.sound.closed_mark))
+  pub closed_read : (b : Bool) → Said words (λ x. b ≡ ltb 0 x.monitor.closed) → b ≡ ltb 0 m.closed
+  closed_read b says = subst (λ (x : Monitor). b ≡ ltb 0 x.closed) is (says h holds.words_are holds.indexes.shaped)
+
+  -- its number
+  mark_read : (b : Bool) → Said words (λ x. b ≡ ltb 0 x.monitor.closed) → from_bool b ≡ m.closed
+  mark_read b says =
+      let few : m.closed ≤ 1 = subst (λ (x : Monitor). x.closed ≤ 1) is holds.indexes.sound.closed_mark in
+      rw (closed_read b says)
+      (split (ltb 0 m.closed) (λ v. from_bool v ≡ m.closed) (λ e. omega (arith, ltb-true 0 m.closed e))
+      (λ e. omega (arith, ltb-false 0 m.closed e)))
 
   pub count_read : get_or (get_or (get_or words 32 []) 0 []) 1 0 ≡ m.count
   count_read = number_at h holds.indexes.shaped words holds.words_are 1 ∙ ap (λ (x : Monitor). x.count) is
@@ -52,14 +61,14 @@ pub placed : (at row : ℕ) → at ≡ place_of row → at < row_limit
 placed at row e = subst (λ (k : ℕ). k < row_limit) (sym e) (place_small row)
 
 -- what it is read off
-pub verdict_read : (words : Words) (m : Monitor) → HoldsMonitor words m → (row at len closed : ℕ) → at ≡ place_of row
-    → Said words (λ x. len ≡ held_rows x.monitor) → Said words (λ x. closed ≡ 1 - (1 - x.monitor.closed))
-    → verdict_by row len closed (get_or (get_or (get_or words at []) 1 []) 19 0)
+pub verdict_read : (words : Words) (m : Monitor) → HoldsMonitor words m → (row at len : ℕ) (closed : Bool) → at ≡ place_of row
+    → Said words (λ x. len ≡ held_rows x.monitor) → Said words (λ x. closed ≡ ltb 0 x.monitor.closed)
+    → verdict_by row len (from_bool closed) (get_or (get_or (get_or words at []) 1 []) 19 0)
     ≡ verdict_by row m.len m.closed (get_or m.rows (place_of row) no_row).now.broken
 verdict_read words m holds row at len closed there counted marked =
     let broken : ℕ = get_or (get_or (get_or words at []) 1 []) 19 0 in
-    ap (λ (n : ℕ). verdict_by row n closed broken) (len_read words m holds len counted)
-    ∙ ap (λ (n : ℕ). verdict_by row m.len n broken) (closed_read words m holds closed marked)
+    ap (λ (n : ℕ). verdict_by row n (from_bool closed) broken) (len_read words m holds len counted)
+    ∙ ap (λ (n : ℕ). verdict_by row m.len n broken) (mark_read words m holds closed marked)
     ∙ ap (verdict_by row m.len m.closed)
     (broken_read words m holds at (placed at row there) ∙ ap (λ (k : ℕ). (get_or m.rows k no_row).now.broken) there)
 

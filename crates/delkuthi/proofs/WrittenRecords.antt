@@ -1,18 +1,28 @@
 -- A record that is stored behind the bytes before it stands there as it was stored, so it reads back as its call.
-use Rattle.delkuthi.proofs.Names.{Answer, Call, Judged, List, Question, Refused, Taken, [], ◌++◌, ◌+◌, ◌<◌, ◌∙◌, ◌∷◌, ◌≡◌, ◌≤◌, answer_from}
+use Rattle.delkuthi.proofs.Names.{Answer, Call, Judged, List, Question, Refused, Taken, [], ◌++◌, ◌+◌, ◌<◌, ◌∙◌, ◌∷◌, ◌≡◌, ◌≤◌}
 use Rattle.delkuthi.proofs.Names.{ap, append-nil, ap₂, arith, at, cond, drop, eqb, judged_all, judged_no, judged_none, judged_parts}
 use Rattle.delkuthi.proofs.Names.{judged_yes}
-use Rattle.delkuthi.proofs.Names.{length, length-append, length-take-le, never, refl, split, subst, suc, sym, take, true, zero, ℕ}
+use Rattle.delkuthi.proofs.Names.{length, length-append, length-take-le, refl, split, subst, sym, take, true, ℕ}
+use Rattle.std.specs.Prelude.{max}
 use Rattle.delkuthi.proofs.RecordNumbers.{number_short, short?}
 use Rattle.constraint.proofs.Judged.{judged_first, judged_later}
 use Rattle.constraint.proofs.Library.{◌⊎◌, subst₂}
-use Rattle.constraint.proofs.Library.{List·getD-append, drop_at, eqb-false, get_or-set_same, get_or-take, length-sets, sets, sets-eq, take_at}
+use Rattle.constraint.proofs.Library.{List·getD-append, drop_at, eqb-false, eqb-true, get_or-set_same, get_or-take, length-sets, sets, sets-eq}
+use Rattle.constraint.proofs.Library.{take_at}
 use Rattle.constraint.specs.Bytes.{bytes_of}
 use Rattle.delkuthi.specs.Stamps.{place_number}
 use Rattle.delkuthi.specs.Writing.{PutsRecord, begun, form_questions, place_for, refused, version_for, with_record, write_questions, written}
 use Rattle.join.proofs.Bytes.{read_coloured, read_plain, read_tick}
 use Rattle.join.specs.Walk.{call_bytes}
 use Rattle.recording.specs.Record.{CallAt}
+
+-- the place of the next record is at least 1
+pub place_max : (size : ℕ) → max size 1 ≡ place_for size
+place_max size =
+    split (eqb size 0) (λ b. max size 1 ≡ cond b 1 size) (λ e. omega (arith, eqb-true size 0 e)) (λ e. omega (arith, eqb-false size 0 e))
+
+pub place_least : (size : ℕ) → 0 < place_for size
+place_least size = omega (arith, place_max size)
 
 -- ---- the bytes up to the end of the record
 
@@ -28,11 +38,7 @@ module _ (buffer : List ℕ) (size : ℕ) (call : Call) (room : place_for size +
       split (eqb size 0) (λ b. length (cond b (sets buffer 0 (2 ∷ [])) buffer) ≡ length buffer) (λ e. length-sets buffer 0 (2 ∷ [])) (λ e. refl)
 
   place_above : 0 < place
-  place_above = split (eqb size 0) (λ b. 0 < cond b 1 size) (λ e. omega arith) (λ e. above_zero size (eqb-false size 0 e))
-    where
-      above_zero : (n : ℕ) → ¬ (n ≡ 0) → 0 < n
-      above_zero zero some = absurd (some refl)
-      above_zero (suc n) some = omega arith
+  place_above = place_least size
 
   front_length : length (take place (begun buffer size)) ≡ place
   front_length = length-take-le place (begun buffer size) (omega (arith, begun_length, room))
@@ -110,21 +116,18 @@ module _ (buffer : List ℕ) (size : ℕ) (call : Call) where
         (λ known. none (subst (λ (v : ℕ). (v ≡ 1) ⊎ (v ≡ 2)) (sym is) known))
 
     module _ (known : (version ≡ 1) ⊎ (version ≡ 2)) where
-      pub form_refused : (n : ℕ) → 0 < n → Judged (form_questions version call) (answer_from n)
-          → Judged (write_questions buffer size call) (answer_from n)
-      form_refused zero above judged = never (omega (arith, above))
-      form_refused (suc n) above judged =
-          judged_yes 13 _ (form_questions (version_for buffer size) call ++ room_question) (Refused (suc n)) (same_known known)
-          (judged_first (form_questions (version_for buffer size) call) room_question (suc n)
-          (subst (λ (v : ℕ). Judged (form_questions v call) (Refused (suc n))) is judged))
+      pub form_refused : (n : ℕ) → Judged (form_questions version call) (Refused n) → Judged (write_questions buffer size call) (Refused n)
+      form_refused n judged =
+          judged_yes 13 _ (form_questions (version_for buffer size) call ++ room_question) (Refused n) (same_known known)
+          (judged_first (form_questions (version_for buffer size) call) room_question n
+          (subst (λ (v : ℕ). Judged (form_questions v call) (Refused n)) is judged))
 
-      module _ (n : ℕ) (none : n ≡ 0) (form : Judged (form_questions version call) (answer_from n)) where
+      module _ (form : Judged (form_questions version call) Taken) where
         behind_form : (answer : Answer) → Judged room_question answer → Judged (write_questions buffer size call) answer
         behind_form answer later =
             judged_yes 13 _ (form_questions (version_for buffer size) call ++ room_question) answer (same_known known)
             (judged_later (form_questions (version_for buffer size) call) room_question answer
-            (subst (λ (v : ℕ). Judged (form_questions v call) Taken) is
-            (subst (λ (k : ℕ). Judged (form_questions version call) (answer_from k)) none form))
+            (subst (λ (v : ℕ). Judged (form_questions v call) Taken) is form)
             later)
 
         pub no_room : ¬ (place_for size + length (call_bytes call) ≤ length buffer) → Judged (write_questions buffer size call) (Refused 16)
@@ -133,25 +136,20 @@ module _ (buffer : List ℕ) (size : ℕ) (call : Call) where
         pub room_there : place_for size + length (call_bytes call) ≤ length buffer → Judged (write_questions buffer size call) Taken
         room_there fits = behind_form Taken (judged_yes 16 _ [] Taken fits judged_none)
 
-  pub put_refused : (n : ℕ) → 0 < n → Judged (write_questions buffer size call) (answer_from n) → PutsRecord buffer size call n buffer
-  put_refused zero above judged = never (omega (arith, above))
-  put_refused (suc n) above judged =
-      let small = refusal_write buffer size call (suc n) judged in refused (suc n) judged small.0 small.1
+  pub put_refused : (n : ℕ) → Judged (write_questions buffer size call) (Refused n) → PutsRecord buffer size call n buffer
+  put_refused n judged = let small = refusal_write buffer size call n judged in refused n judged small.0 small.1
 
   -- there is room where no question says no
-  pub put_room : (n : ℕ) → n ≡ 0 → Judged (write_questions buffer size call) (answer_from n)
-      → place_for size + length (call_bytes call) ≤ length buffer
-  put_room zero none judged = (judged_form buffer size call judged).1
-  put_room (suc n) none judged = never (omega (arith, none))
+  pub put_room : Judged (write_questions buffer size call) Taken → place_for size + length (call_bytes call) ≤ length buffer
+  put_room judged = (judged_form buffer size call judged).1
 
-  pub put_written : (n : ℕ) → n ≡ 0 → Judged (write_questions buffer size call) (answer_from n) → {number place next : ℕ} {mid after : List ℕ}
-      → place ≡ place_for size → next ≡ place + length (call_bytes call) → number ≡ place_number next → mid ≡ begun buffer size
-      → after ≡ sets mid place (call_bytes call) → PutsRecord buffer size call number after
-  put_written (suc n) none judged p e f g h = never (omega (arith, none))
-  put_written zero none judged p e f g h =
+  pub put_written : Judged (write_questions buffer size call) Taken → {place next : ℕ} {mid after : List ℕ}
+      → place ≡ place_for size → next ≡ place + length (call_bytes call) → mid ≡ begun buffer size
+      → after ≡ sets mid place (call_bytes call) → PutsRecord buffer size call (place_number next) after
+  put_written judged p e g h =
       let parts = judged_form buffer size call judged in
       let end : ℕ = place_for size + length (call_bytes call) in
       subst₂ (PutsRecord buffer size call)
-      (sym (f ∙ ap place_number (e ∙ ap (λ (k : ℕ). k + length (call_bytes call)) p)))
+      (sym (ap place_number (e ∙ ap (λ (k : ℕ). k + length (call_bytes call)) p)))
       (sym (h ∙ ap₂ (λ (l : List ℕ) (k : ℕ). sets l k (call_bytes call)) g p))
       (written end judged (reads_back buffer size call parts.1 parts.0))

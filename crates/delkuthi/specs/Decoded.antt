@@ -1,13 +1,13 @@
 -- What a host reads off an answer of 64 bits by the macros of `delkuthi.h`: whether the call was taken, the number of a refusal, and the rest.
 use Rattle.std.specs.Prelude.{ℕ, ◌-◌, ◌/◌, ◌%◌, ◌^◌, min, ◌≡◌, cond, eqb}
 use Rattle.constraint.specs.Table.{TableRead, table_of, table_refused}
-use Rattle.constraint.specs.declared.Answer.{Answer}
-use Rattle.constraint.specs.declared.Answer.TheVariants.{Taken, Refused}
-use Rattle.constraint.specs.declared.JoinAnswer.{JoinAnswer}
-use Rattle.constraint.specs.declared.StampedAnswer.{StampedAnswer}
+use Rattle.constraint.specs.Answer.{Answer}
+use Rattle.constraint.specs.Answer.{Taken, Refused}
+use Rattle.constraint.specs.Joined.{JoinAnswer}
+use Rattle.constraint.specs.Stamps.{StampedAnswer}
 use Rattle.constraint.specs.declared.StampedVerdict.{StampedVerdict}
 use Rattle.in_place.specs.Contract.{answer_from}
-use Rattle.table.specs.declared.WriteAnswer.{WriteAnswer}
+use Rattle.table.specs.WriteAnswer.{WriteAnswer}
 
 -- ---- the macros
 

@@ -4,9 +4,9 @@ use Rattle.constraint.specs.Steps.{Step}
 use Rattle.constraint.specs.Questions.{Question, Judged}
 use Rattle.constraint.specs.Recording.{ReadsInOrder, recording_of}
 use Rattle.constraint.specs.Joined.{joined_bytes, NoneInCommon, AnswersJoin}
-use Rattle.constraint.specs.declared.Answer.{Answer}
-use Rattle.constraint.specs.declared.Answer.TheVariants.{Taken, Refused}
-use Rattle.constraint.specs.declared.JoinAnswer.{JoinAnswer}
+use Rattle.constraint.specs.Answer.{Answer}
+use Rattle.constraint.specs.Answer.{Taken, Refused}
+use Rattle.constraint.specs.Joined.{JoinAnswer}
 use Rattle.delkuthi.specs.Stamps.{place_number}
 
 -- §13.5: the refusal in an answer; a buffer that is too short is 16

@@ -12,7 +12,7 @@ use Rattle.monitor.specs.Contract.{after, Remains}
 use Rattle.monitor.specs.declared.Monitor.{Monitor}
 use Rattle.in_place.specs.Layout.{Words, words_of_lent}
 use Rattle.fresh.specs.Fresh.{BeginsUpTo, fresh_lent}
-use Rattle.table.specs.declared.ReadAnswer.{ReadAnswer}
+use Rattle.table.specs.ReadAnswer.{ReadAnswer}
 use Rattle.delkuthi.specs.Summary.{summary_of, report_text}
 use Rattle.delkuthi.specs.Taking.{RecordingLeaves}
 

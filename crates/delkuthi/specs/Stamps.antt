@@ -1,7 +1,7 @@
 -- The number that answers for late stamps to a host, and its promise.
 use Rattle.std.specs.Prelude.{ℕ, ◌+◌, ◌-◌, ◌*◌, ◌^◌, ◌<◌, min, ◌≡◌, List}
 use Rattle.constraint.specs.Stamps.{AnswersStampsUpTo}
-use Rattle.constraint.specs.declared.StampedAnswer.{StampedAnswer}
+use Rattle.constraint.specs.Stamps.{StampedAnswer}
 use Rattle.constraint.specs.declared.StampedVerdict.{StampedVerdict}
 
 -- §12.6: 256 times the number of the word: kept and broken have those of a row's verdict (§11.5)

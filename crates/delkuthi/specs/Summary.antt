@@ -1,35 +1,30 @@
 -- The summary of a monitor, and what a report says of it.
-use Rattle.std.specs.Prelude.{ℕ, ◌/◌, ◌%◌, min, List, map, take}
+use Rattle.std.specs.Prelude.{ℕ, min, List, map, take, ltb}
 use Rattle.constraint.specs.Limits.{row_limit}
 use Rattle.constraint.specs.Report.{closed_text, refused_text}
 use Rattle.constraint.specs.declared.Verdict.{Verdict}
 use Rattle.text.specs.Content.{HoldsText}
 use Rattle.text.specs.declared.Text.{Text}
 use Rattle.monitor.specs.declared.Monitor.{Monitor}
-use Rattle.page.specs.Sheet.{verdict_for}
+use Rattle.page.specs.Sheet.{verdict_said}
+use Rattle.page.specs.declared.RowSummary.{RowSummary}
 use Rattle.page.specs.declared.Summary.{Summary}
-use Rattle.table.specs.declared.ReadAnswer.{ReadAnswer}
-
--- the refusal of a table, from the number that answers to it (`Begins`)
-abbrev pub refusal_of : ℕ → ReadAnswer
-refusal_of number = ReadAnswer.Refused (number % 256) (number / 256)
+use Rattle.row.specs.declared.Row.{Row}
+use Rattle.table.specs.ReadAnswer.{ReadAnswer}
 
 -- ---- the summary
 
+-- of a row
+abbrev pub row_summary : Row → RowSummary
+row_summary r = record { tag = r.parameters.tag; broken = r.now.broken }
+
 -- of a monitor
 abbrev pub summary_of : Monitor → Summary
-summary_of m =
-    record {
-      types = map (λ r. r.parameters.tag) m.rows;
-      steps = map (λ r. r.now.broken) m.rows;
-      rows = m.len;
-      count = m.count;
-      closed = m.closed;
-    }
+summary_of m = record { rows = map row_summary m.rows; len = m.len; count = m.count; closed = ltb 0 m.closed }
 
 -- what each row reads
 abbrev pub verdicts_in : Summary → List Verdict
-verdicts_in summary = map (verdict_for summary.closed) (take (min summary.rows row_limit) summary.steps)
+verdicts_in summary = map (verdict_said summary.closed) (take (min summary.len row_limit) summary.rows)
 
 -- ---- the text
 

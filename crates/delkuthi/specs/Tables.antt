@@ -2,8 +2,8 @@
 use Rattle.std.specs.Prelude.{ℕ, ◌+◌, ◌*◌, ◌<◌, ◌≡◌, cond, List, eqb}
 use Rattle.table.specs.Raw.{FirstRefused, WritesRaw}
 use Rattle.table.specs.Appending.{AddsRow}
-use Rattle.table.specs.declared.WriteAnswer.{WriteAnswer}
-use Rattle.table.specs.declared.append.AddAnswer.{AddAnswer}
+use Rattle.table.specs.WriteAnswer.{WriteAnswer}
+use Rattle.table.specs.AddAnswer.{AddAnswer}
 
 -- §11.5: 256 times the number of bytes written; or 256 times the row and the refusal's number, and 16 alone
 abbrev pub table_number : WriteAnswer → ℕ → ℕ

@@ -6,14 +6,14 @@ use Rattle.constraint.specs.Accepted.{Accepted}
 use Rattle.constraint.specs.Table.{length_at}
 use Rattle.constraint.specs.Recording.{call_at, record_questions, recording_of, recording_refused}
 use Rattle.constraint.specs.Recording.{ReadsRecording}
-use Rattle.constraint.specs.declared.Answer.TheVariants.{Taken}
+use Rattle.constraint.specs.Answer.{Taken}
 use Rattle.constraint.specs.Run.{step_for, asks}
 use Rattle.constraint.specs.declared.Call.{Call}
 use Rattle.constraint.specs.Constraint.{Constraint}
 use Rattle.monitor.specs.Contract.{after}
 use Rattle.monitor.specs.Beside.{TakesAll}
 use Rattle.in_place.specs.Contract.{HoldsMonitor}
-use Rattle.table.specs.declared.ReadAnswer.{ReadAnswer}
+use Rattle.table.specs.ReadAnswer.{ReadAnswer}
 use Rattle.delkuthi.specs.Host.{Memory, Host, none_refused}
 
 -- the steps of the records before a place: none before the version byte and before the first record, which stands behind it

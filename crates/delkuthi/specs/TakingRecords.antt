@@ -1,13 +1,15 @@
 -- What taking the records of a recording on a lent monitor gives (§7.24): each record is one call, up to the first that is refused.
-use Rattle.std.specs.Prelude.{ℕ, ◌+◌, ◌<◌, ◌≤◌, ◌≡◌, List, length}
+use Rattle.std.specs.Prelude.{ℕ, ◌+◌, ◌<◌, ◌≤◌, ◌≡◌, List, length, Result, Ok, Err}
 use Rattle.constraint.specs.Questions.{Judged}
 use Rattle.constraint.specs.Table.{length_at}
 use Rattle.constraint.specs.Recording.{call_at, RecordAt, VersionKnown, record_questions}
 use Rattle.constraint.specs.Run.{asks, Left, left_by}
-use Rattle.constraint.specs.declared.Answer.TheVariants.{Taken, Refused}
+use Rattle.constraint.specs.Answer.{Taken, Refused}
+use Rattle.constraint.specs.Answers.{refusal_number}
 use Rattle.constraint.specs.Constraint.{Constraint}
+use Rattle.constraint.specs.declared.Refusal.{Refusal}
 use Rattle.in_place.specs.Contract.{Takes}
-use Rattle.table.specs.declared.ReadAnswer.{ReadAnswer}
+use Rattle.table.specs.ReadAnswer.{ReadAnswer}
 use Rattle.delkuthi.specs.Host.{Memory}
 use Rattle.delkuthi.specs.Stamps.{place_number}
 
@@ -22,6 +24,13 @@ pub data TakesFrom (bytes : List ℕ) : Memory → ℕ → ReadAnswer → Memory
   step_taken : {h mid end : Memory} {place : ℕ} {answer : ReadAnswer} → place < length bytes → RecordAt bytes place
       → Takes h (asks (call_at bytes place)) 0 mid → TakesFrom bytes mid (place + 2 + length_at bytes place) answer end
       → TakesFrom bytes h place answer end
+
+-- §7.24: the record at a place: it is taken, and the next one stands behind it; or it is refused, and no word changes
+abbrev pub TakesNext : List ℕ → ℕ → Memory → Result ℕ Refusal → Memory → Type 0
+TakesNext bytes place h (Ok next) end =
+    RecordAt bytes place × (next ≡ place + 2 + length_at bytes place) × Takes h (asks (call_at bytes place)) 0 end
+TakesNext bytes place h (Err refusal) end =
+    (end ≡ h) × (place < length bytes → TakesFrom bytes h place (ReadAnswer.Refused (refusal_number refusal) place) h)
 
 -- §7.24, §9.4: question 13, then record by record
 pub data TakesBytes (bytes : List ℕ) (h : Memory) : ReadAnswer → Memory → Type 0 where

@@ -2,7 +2,7 @@
 use Rattle.std.specs.Prelude.{ℕ, ◌≡◌, true, List, [], ◌∷◌, length}
 use Rattle.constraint.specs.Questions.{Question}
 use Rattle.constraint.specs.Run.{Left, withdraws}
-use Rattle.constraint.specs.declared.Answer.TheVariants.{Taken, Refused}
+use Rattle.constraint.specs.Answer.{Taken, Refused}
 use Rattle.monitor.specs.Contract.{result_of}
 use Rattle.monitor.specs.declared.Monitor.{Monitor}
 use Rattle.in_place.specs.Contract.{Takes, HoldsMonitor}

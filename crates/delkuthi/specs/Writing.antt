@@ -1,11 +1,13 @@
 -- What the writer of recordings promises (§7.26): one more record behind those that a buffer has, which reads back as its call.
-use Rattle.std.specs.Prelude.{ℕ, ◌+◌, ◌≤◌, ◌<◌, ◌≡◌, cond, List, [], ◌∷◌, ◌++◌, ◌⊎◌, length, take, eqb}
+use Rattle.std.specs.Prelude.{ℕ, ◌+◌, ◌≤◌, ◌<◌, ◌≡◌, cond, List, [], ◌∷◌, ◌++◌, ◌⊎◌, length, take, eqb, Result, Ok, Err}
 use Rattle.std.proofs.lemmas.List.Edits.{sets}
 use Rattle.constraint.specs.Limits.{last_kind, first_coloured, last_colour, last_time}
 use Rattle.constraint.specs.Steps.{at}
 use Rattle.constraint.specs.Questions.{Question, Judged}
-use Rattle.constraint.specs.declared.Answer.TheVariants.{Taken, Refused}
+use Rattle.constraint.specs.Answer.{Taken, Refused}
+use Rattle.constraint.specs.Answers.{refusal_number}
 use Rattle.constraint.specs.declared.Call.{Call}
+use Rattle.constraint.specs.declared.Refusal.{Refusal}
 use Rattle.recording.specs.Record.{CallAt}
 use Rattle.join.specs.Walk.{call_bytes}
 use Rattle.delkuthi.specs.Stamps.{place_number}
@@ -44,3 +46,8 @@ pub data PutsRecord (buffer : List ℕ) (size : ℕ) (call : Call) : ℕ → Lis
   written : (next : ℕ) → Judged (write_questions buffer size call) Taken
       → CallAt (take next (with_record buffer size call)) (place_for size) call next
       → PutsRecord buffer size call (place_number next) (with_record buffer size call)
+
+-- §7.26: the number that a result is: that of the size then, or of the refusal
+abbrev pub put_number : Result ℕ Refusal → ℕ
+put_number (Ok next) = place_number next
+put_number (Err refusal) = refusal_number refusal

@@ -2,15 +2,17 @@
 ghost use Rattle.std.specs.Prelude.{◌≤◌, ◌≡◌};
 ghost use Rattle.constraint.specs.declared.Call.{Call};
 ghost use Rattle.monitor.specs.Contract.{verdict_in, Reading};
+ghost use Rattle.monitor.specs.Stepped.{row_verdict_of};
 ghost use Rattle.monitor.specs.declared.Monitor.{Monitor};
 ghost use Rattle.constraint.specs.Run.{asks, withdraws};
 ghost use Rattle.in_place.specs.Contract.{Takes, HoldsMonitor, ReadOff};
 ghost use Rattle.fresh.specs.Fresh.{BeginsUpTo, Begins};
 ghost use Rattle.delkuthi.specs.Lent.{KnownWord, WordOfVerdict, StepOfVerdict, NumberOfRows, version, monitor_size};
 
-use constraint::Verdict;
+use crate::answers::{call_number, taken_number};
+use constraint::{Refusal, Verdict};
 use in_place::{Words, calls};
-use monitor::{RowVerdict, verdicts};
+use monitor::verdicts;
 use row_type::row_words;
 
 // The library's version: 1.0.0 as major * 1,000,000 + minor * 1,000 + patch.
@@ -43,7 +45,7 @@ pub extern "C" fn delkuthi_monitor_size() -> u64
 pub extern "C" fn delkuthi_fresh(m: &mut Words, table: &[u8]) -> u64
     ensures { Begins table.now m.old result m.new }
 {
-    fresh::fresh(1, m, table)
+    taken_number(fresh::fresh(1, m, table))
 }
 
 // §16.1 to §16.3, §16.6, §16.7
@@ -52,7 +54,7 @@ pub extern "C" fn delkuthi_fresh(m: &mut Words, table: &[u8]) -> u64
 pub extern "C" fn delkuthi_fresh_2(m: &mut Words, table: &[u8]) -> u64
     ensures { BeginsUpTo 2 table.now m.old result m.new }
 {
-    fresh::fresh(2, m, table)
+    taken_number(fresh::fresh(2, m, table))
 }
 
 // The number for each verdict, and the number for "there is no such row".
@@ -65,12 +67,17 @@ pub const BROKEN: u8 = 2;
 pub const NO_ROW: u8 = 15;
 
 // Returns what a row of the lent monitor reads.
-fn read(m: &Words, row: u64) -> RowVerdict
-    ensures { (n : Monitor) → HoldsMonitor m.now n → Reading n row (verdict_in result) }
+fn read(m: &Words, row: u64) -> Result<Verdict, Refusal>
+    ensures { (n : Monitor) → HoldsMonitor m.now n → Reading n row (verdict_in (row_verdict_of result)) }
 {
     let at = verdicts::place(row);
     let broken = m[at][1][row_words::BROKEN];
-    verdicts::by(row, in_place::held(m), in_place::closed(m), broken)
+    verdicts::by(
+        row,
+        in_place::held(m),
+        u64::from(in_place::closed(m)),
+        broken,
+    )
 }
 
 // §3.4, §11.2, §11.5
@@ -79,7 +86,7 @@ fn read(m: &Words, row: u64) -> RowVerdict
 pub extern "C" fn delkuthi_event(m: &mut Words, kind: u8, time: u64) -> u8
     ensures { Takes m.old (asks (Call.Event kind time)) result m.new }
 {
-    calls::event(m, kind, time)
+    call_number(calls::event(m, kind, time))
 }
 
 // §11.2
@@ -88,7 +95,7 @@ pub extern "C" fn delkuthi_event(m: &mut Words, kind: u8, time: u64) -> u8
 pub extern "C" fn delkuthi_coloured_event(m: &mut Words, kind: u8, colour: u8, time: u64) -> u8
     ensures { Takes m.old (asks (Call.ColouredEvent kind colour time)) result m.new }
 {
-    calls::coloured_event(m, kind, colour, time)
+    call_number(calls::coloured_event(m, kind, colour, time))
 }
 
 // §3.4, §11.2
@@ -97,7 +104,7 @@ pub extern "C" fn delkuthi_coloured_event(m: &mut Words, kind: u8, colour: u8, t
 pub extern "C" fn delkuthi_tick(m: &mut Words, time: u64) -> u8
     ensures { Takes m.old (asks (Call.Tick time)) result m.new }
 {
-    calls::tick(m, time)
+    call_number(calls::tick(m, time))
 }
 
 // §3.4, §11.2
@@ -106,7 +113,7 @@ pub extern "C" fn delkuthi_tick(m: &mut Words, time: u64) -> u8
 pub extern "C" fn delkuthi_close(m: &mut Words) -> u8
     ensures { Takes m.old (asks Call.Close) result m.new }
 {
-    calls::close(m)
+    call_number(calls::close(m))
 }
 
 // §3.12, §3.14, §8.21, §11.2, §11.5
@@ -115,7 +122,7 @@ pub extern "C" fn delkuthi_close(m: &mut Words) -> u8
 pub extern "C" fn delkuthi_withdraw(m: &mut Words) -> u8
     ensures { Takes m.old withdraws result m.new }
 {
-    calls::withdraw(m)
+    call_number(calls::withdraw(m))
 }
 
 // §3.5, §8.15, §11.2, §11.5
@@ -125,12 +132,10 @@ pub extern "C" fn delkuthi_row_verdict(m: &Words, row: u64) -> u8
     ensures { KnownWord result × ReadOff m.now (λ n. WordOfVerdict n row) result }
 {
     match read(m, row) {
-        RowVerdict::Refused(_) => NO_ROW,
-        RowVerdict::Reads(v) => match v {
-            Verdict::Open => OPEN,
-            Verdict::Kept => KEPT,
-            Verdict::Broken(_) => BROKEN,
-        },
+        Ok(Verdict::Open) => OPEN,
+        Ok(Verdict::Kept) => KEPT,
+        Ok(Verdict::Broken(_)) => BROKEN,
+        Err(_) => NO_ROW,
     }
 }
 
@@ -141,12 +146,10 @@ pub extern "C" fn delkuthi_row_step(m: &Words, row: u64) -> u64
     ensures { ReadOff m.now (λ n. StepOfVerdict n row) result }
 {
     match read(m, row) {
-        RowVerdict::Refused(_) => 0,
-        RowVerdict::Reads(v) => match v {
-            Verdict::Open => 0,
-            Verdict::Kept => 0,
-            Verdict::Broken(step) => step,
-        },
+        Ok(Verdict::Open) => 0,
+        Ok(Verdict::Kept) => 0,
+        Ok(Verdict::Broken(step)) => step,
+        Err(_) => 0,
     }
 }
 

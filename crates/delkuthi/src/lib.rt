@@ -1,6 +1,7 @@
 // The C interface that steps, reports and writes. This file has the report on a recording: what the rows of a table read after it.
 #![tactic(auto)]
 
+pub mod answers;
 pub mod ffi;
 pub mod joining;
 pub mod printed;
@@ -18,8 +19,8 @@ ghost use Rattle.delkuthi.specs.Program.{Prints};
 ghost use Rattle.delkuthi.specs.Summary.{Tells};
 ghost use Rattle.delkuthi.specs.Reporting.{ReportsOnUpTo, ReportsOn, ReportsOf};
 
+use constraint::Refusal;
 use in_place::Words;
-use table::ReadAnswer;
 use text::Text;
 
 // The largest size of a table file in bytes.
@@ -34,12 +35,12 @@ pub fn program_text(table: &[u8], recording: &[u8]) -> Text
 {
     if TABLE_SIZE_LIMIT < table.len() || RECORDING_SIZE_LIMIT < recording.len() {
         let mut text = Text::new();
-        text.refused_line(17, 0);
+        text.refused_line(u8::from(Refusal::FileSize), 0);
         return text;
     }
     let mut m = [[[0u64; 64]; 2]; 35];
     let answer = report::answer_on(1, &mut m, table, recording);
-    report::text_of(answer, report::summary_of(&m))
+    report::text_of(answer, &report::summary_of(&m))
 }
 
 // §7.3, §7.8, §7.9
@@ -101,8 +102,8 @@ pub extern "C" fn delkuthi_report_of(m: &Words, buffer: &mut [u8]) -> usize
         × ReadOff m.now (λ n answer. ReportsOf n buffer.old answer buffer.new) result }
 {
     let summary = report::summary_of(m);
-    if summary.closed == 0 {
+    if !summary.closed {
         return 0;
     }
-    report::write(ReadAnswer::Accepted, summary, buffer)
+    report::write(Ok(()), &summary, buffer)
 }

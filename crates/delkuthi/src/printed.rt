@@ -13,5 +13,5 @@ pub extern "C" fn delkuthi_page(m: &Words, buffer: &mut [u8]) -> usize
     ensures { WritesText buffer.old result buffer.new
         × ReadOff m.now (λ n answer. WritesPage n buffer.old answer buffer.new) result }
 {
-    summary_of(m).write(buffer)
+    summary_of(m).write(buffer).unwrap_or(0)
 }

@@ -1,13 +1,12 @@
 // Writes the records of a recording one behind the other into a buffer, for a host in C.
-ghost use Rattle.std.specs.Prelude.{◌≡◌, ◌⊎◌};
-ghost use Rattle.constraint.specs.Records.{Decides};
+ghost use Rattle.std.specs.Prelude.{◌≡◌};
+ghost use Rattle.constraint.specs.Answers.{answer_of};
 ghost use Rattle.constraint.specs.Questions.{Judged};
 ghost use Rattle.constraint.specs.declared.Call.{Call};
-ghost use Rattle.in_place.specs.Contract.{answer_from};
-ghost use Rattle.delkuthi.specs.Writing.{version_for, place_for, form_questions, write_questions, begun, PutsRecord};
+ghost use Rattle.delkuthi.specs.Writing.{version_for, place_for, form_questions, write_questions, begun, put_number, PutsRecord};
 
-use crate::stamped::place_number;
-use constraint::{Call, FIRST_COLOURED, LAST_COLOUR, LAST_KIND, LAST_TIME};
+use crate::answers::place_number;
+use constraint::{Call, FIRST_COLOURED, LAST_COLOUR, LAST_KIND, LAST_TIME, Refusal};
 use join::{put_call, size_of};
 
 // The version of a recording that the writer begins.
@@ -18,99 +17,80 @@ fn version_for(recording: &[u8], size: usize) -> u8
     ensures { result ≡ version_for recording.now size }
 {
     if size == 0 {
-        return VERSION;
+        VERSION
+    } else {
+        recording::version(recording)
     }
-    recording::version(recording)
-}
-
-// Question 13: is the version 1 or 2?
-fn version_fits(version: u8) -> bool
-    ensures { Decides ((version ≡ 1) ⊎ (version ≡ 2)) result }
-{
-    version == 1 || version == 2
 }
 
 // Returns the place of the next record.
 fn place_for(size: usize) -> usize
     ensures { result ≡ place_for size }
 {
-    if size == 0 { 1 } else { size }
+    size.max(1)
 }
 
 // Asks 10.
-fn time_form(time: u64) -> u8
-    ensures { Judged (form_questions 2 (Call.Tick time)) (answer_from result) }
+fn time_form(time: u64) -> Result<(), Refusal>
+    ensures { Judged (form_questions 2 (Call.Tick time)) (answer_of result) }
 {
     if LAST_TIME < time {
-        return 10;
+        return Err(Refusal::TimeRange);
     }
-    0
+    Ok(())
 }
 
 // Asks 9, 19 and 10 of an event of a plain kind.
-fn plain_form(kind: u8, time: u64) -> u8
-    ensures { Judged (form_questions 2 (Call.Event kind time)) (answer_from result) }
+fn plain_form(kind: u8, time: u64) -> Result<(), Refusal>
+    ensures { Judged (form_questions 2 (Call.Event kind time)) (answer_of result) }
 {
     if LAST_KIND < kind {
-        return 9;
+        return Err(Refusal::Kind);
     }
     if FIRST_COLOURED <= kind {
-        return 19;
+        return Err(Refusal::Form);
     }
     time_form(time)
 }
 
 // Asks 9, 19 and 10 of an event of a coloured kind. A recording of version 1 has no colours.
-fn coloured_form(version: u8, kind: u8, colour: u8, time: u64) -> u8
-    ensures { Judged (form_questions version (Call.ColouredEvent kind colour time)) (answer_from result) }
+fn coloured_form(version: u8, kind: u8, colour: u8, time: u64) -> Result<(), Refusal>
+    ensures { Judged (form_questions version (Call.ColouredEvent kind colour time)) (answer_of result) }
 {
     if LAST_KIND < kind {
-        return 9;
+        return Err(Refusal::Kind);
     }
-    if kind < FIRST_COLOURED {
-        return 19;
-    }
-    if LAST_COLOUR < colour {
-        return 19;
-    }
-    if version == 1 {
-        return 19;
+    if kind < FIRST_COLOURED || LAST_COLOUR < colour || version == 1 {
+        return Err(Refusal::Form);
     }
     time_form(time)
 }
 
 // Asks the questions of a record alone. A close has no record.
-fn form_refusal(version: u8, call: Call) -> u8
-    ensures { Judged (form_questions version call) (answer_from result) }
+fn form_refusal(version: u8, call: Call) -> Result<(), Refusal>
+    ensures { Judged (form_questions version call) (answer_of result) }
 {
     match call {
         Call::Event { kind, time } => plain_form(kind, time),
         Call::ColouredEvent { kind, colour, time } => coloured_form(version, kind, colour, time),
         Call::Tick { time } => time_form(time),
-        Call::Close => 14,
+        Call::Close => Err(Refusal::Record),
     }
 }
 
-// Asks all questions. Returns the number of the first "no", or 0.
-fn write_refusal(recording: &[u8], size: usize, call: Call) -> u8
-    ensures { Judged (write_questions recording.now size call) (answer_from result) }
+// Asks all questions.
+fn write_refusal(recording: &[u8], size: usize, call: Call) -> Result<(), Refusal>
+    ensures { Judged (write_questions recording.now size call) (answer_of result) }
 {
     let version = version_for(recording, size);
-    if !version_fits(version) {
-        return 13;
+    if version != 1 && version != 2 {
+        return Err(Refusal::RecordingVersion);
     }
-    let form = form_refusal(version, call);
-    if 0 < form {
-        return form;
+    form_refusal(version, call)?;
+    if recording.len().saturating_sub(size_of(call)) < place_for(size) {
+        return Err(Refusal::Room);
     }
-    let more = size_of(call);
-    if recording.len() < more {
-        return 16;
-    }
-    if recording.len() - more < place_for(size) {
-        return 16;
-    }
-    0
+    Ok(())
 }
 
 // Begins a recording where there is none.
@@ -122,19 +102,26 @@ fn begin(recording: &mut [u8], size: usize)
     }
 }
 
-// Writes a record behind the first `size` bytes of a buffer. Returns 256 times the size then, or the number of the refusal.
-fn put_record(recording: &mut [u8], size: usize, call: Call) -> u64
-    ensures { PutsRecord recording.old size call result recording.new }
+// Writes a record behind the first `size` bytes of a buffer. Returns the size then.
+fn put_record(recording: &mut [u8], size: usize, call: Call) -> Result<usize, Refusal>
+    ensures { PutsRecord recording.old size call (put_number result) recording.new }
 {
-    let refusal = write_refusal(recording, size, call);
-    if 0 < refusal {
-        return refusal as u64;
-    }
+    write_refusal(recording, size, call)?;
     let place = place_for(size);
     let next = place + size_of(call);
     begin(recording, size);
     put_call(recording, place, call);
-    place_number(next)
+    Ok(next)
+}
+
+// Returns 256 times the size of the recording then, or the number of the refusal.
+fn put_number(put: Result<usize, Refusal>) -> u64
+    ensures { result ≡ put_number put }
+{
+    match put {
+        Ok(next) => place_number(next),
+        Err(refusal) => u64::from(u8::from(refusal)),
+    }
 }
 
 // §7.26
@@ -143,7 +130,7 @@ fn put_record(recording: &mut [u8], size: usize, call: Call) -> u64
 pub extern "C" fn delkuthi_put_event(recording: &mut [u8], size: usize, kind: u8, time: u64) -> u64
     ensures { PutsRecord recording.old size (Call.Event kind time) result recording.new }
 {
-    put_record(recording, size, Call::Event { kind, time })
+    put_number(put_record(recording, size, Call::Event { kind, time }))
 }
 
 // §7.26
@@ -158,7 +145,7 @@ pub extern "C" fn delkuthi_put_coloured_event(
 ) -> u64
     ensures { PutsRecord recording.old size (Call.ColouredEvent kind colour time) result recording.new }
 {
-    put_record(recording, size, Call::ColouredEvent { kind, colour, time })
+    put_number(put_record(recording, size, Call::ColouredEvent { kind, colour, time }))
 }
 
 // §7.26
@@ -167,5 +154,5 @@ pub extern "C" fn delkuthi_put_coloured_event(
 pub extern "C" fn delkuthi_put_tick(recording: &mut [u8], size: usize, time: u64) -> u64
     ensures { PutsRecord recording.old size (Call.Tick time) result recording.new }
 {
-    put_record(recording, size, Call::Tick { time })
+    put_number(put_record(recording, size, Call::Tick { time }))
 }

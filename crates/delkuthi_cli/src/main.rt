@@ -17,6 +17,7 @@ fn load(files: &impl Files, path: &str, buffer: &mut [u8]) -> usize
         return 0;
     };
     let mut count = 0;
+    // Stays a `while`: of a short file `read_exact` tells no length, and `read_to_end` needs the heap.
     while count < buffer.len() {
         match file.read(&mut buffer[count..]) {
             Ok(0) | Err(_) => break,
@@ -33,7 +34,5 @@ fn main(rt: HostRuntime) -> io::Result<()> {
     let table_size = load(&rt, "table.bin", &mut table);
     let recording_size = load(&rt, "recording.bin", &mut recording);
     let text = delkuthi::program_text(&table[..table_size], &recording[..recording_size]);
-    let bytes = text.bytes;
-    let len = text.len;
-    io::writer(&rt).write_all(&bytes[..len])
+    io::writer(&rt).write_all(&text.bytes[..text.len])
 }

@@ -4,7 +4,7 @@ mod ByColour
 mod ByPairs
 pub mod ByWords
 pub mod Events
-mod Firsts
+pub mod Firsts
 mod Colour
 pub mod Reaction
 pub mod Age

@@ -1,6 +1,6 @@
 -- Rows of coloured kinds with five words for each colour: one for each of the row's kinds, at the kind's place among them. An event gives the word of
 -- its kind a new value, and the due time is the first last moment of the eight colours.
-use Rattle.std.specs.Prelude.{ℕ, zero, suc, ◌+◌, ◌*◌, ◌%◌, min, max, Bool, cond, ◌||◌, List, [], ◌∷◌, get_or, length, set, eqb, ltb}
+use Rattle.std.specs.Prelude.{ℕ, ◌≡◌, zero, suc, ◌+◌, ◌*◌, ◌%◌, min, max, Bool, cond, ◌||◌, List, [], ◌∷◌, get_or, length, set, eqb, ltb}
 use Rattle.constraint.specs.Limits.{no_limit}
 use Rattle.constraint.specs.Steps.{at}
 use Rattle.ring.specs.declared.Edit.{Edit}
@@ -46,6 +46,10 @@ words_but words d j x e = cond (eqb e d) (set (words_at words d) j x) (words_at 
 -- the due time so far: the first last moment of the first n colours, by what a type owes on a colour's words
 unfoldable pub due_words : (List ℕ → ℕ) → List ℕ → ℕ → ℕ → ℕ → ℕ → ℕ
 due_words owed words d j x n = least_of (λ e. owed (words_but words d j x e)) n
+
+-- nothing is owed on a colour's words, whatever the j-th becomes
+abbrev pub OwesNothing : (List ℕ → ℕ) → List ℕ → ℕ → Type 0
+OwesNothing owed w j = (owed w ≡ no_limit) × ((x : ℕ) → owed (set w j x) ≡ no_limit)
 
 -- the change that a new word of the j-th kind and of the colour d makes
 abbrev pub noted : (List ℕ → ℕ) → Registers → List ℕ → ℕ → ℕ → ℕ → Change

@@ -9,7 +9,6 @@ use Rattle.row_type.specs.Words.{last_saved}
 use Rattle.row_type.specs.declared.Parameters.{Parameters}
 use Rattle.row_type.specs.declared.Registers.{Registers}
 use Rattle.row_type.specs.declared.Change.{Change}
-use Rattle.event_chain.specs.OutputSynchronization.{owed_output}
 use Rattle.event_chain.specs.Coloured.{least_of, most_of, first_word, decide_words}
 
 -- each of the n kinds has a stimulus, and the latest ones lie within tolerance of one another
@@ -19,10 +18,6 @@ together n tolerance w = ltb 0 (least_of (at w) n) && leb (most_of (at w) n) (pl
 -- the last moment of a colour: that of a response which is owed a stimulus
 abbrev pub owed_input : ℕ → ℕ → List ℕ → ℕ
 owed_input n tolerance w = cond (eqb (at w n) 0 || together n tolerance w) no_limit (at w n - 1)
-
--- the last moment of a colour, of this type or of an OutputSynchronization
-unfoldable pub owed_either : Bool → ℕ → ℕ → List ℕ → ℕ
-owed_either input n tolerance w = cond input (owed_input n tolerance w) (owed_output n tolerance w)
 
 -- a stimulus after the first response, of which this is the word, breaks the row
 abbrev pub late_stimulus : ℕ → ℕ → ℕ → ℕ → Bool

@@ -1,7 +1,9 @@
 -- The machines of rows of coloured kinds.
 pub mod Marked
+pub mod Coloured
+pub mod Pairs
 pub mod Reaction
 pub mod Age
-pub mod Coloured
 pub mod OutputSynchronization
 pub mod InputSynchronization
+pub mod FirstOwed

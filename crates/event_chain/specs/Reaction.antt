@@ -1,6 +1,6 @@
 -- Reaction: two words for each colour. Both 0: nothing yet; a second word above 0: the first response has to come from the first word on and
 -- before the second; else it came at one less than the first word.
-use Rattle.std.specs.Prelude.{ℕ, zero, suc, ◌+◌, ◌-◌, ◌*◌, ◌%◌, min, true, false, cond, List, get_or, length, eqb, ltb}
+use Rattle.std.specs.Prelude.{ℕ, zero, suc, ◌+◌, ◌-◌, ◌*◌, ◌%◌, min, cond, List, get_or, length, eqb, ltb, Option}
 use Rattle.constraint.specs.Limits.{no_limit}
 use Rattle.ring.specs.declared.Edit.TheVariants.{Store}
 use Rattle.row_type.specs.Parts.{plus, breaking}
@@ -10,24 +10,18 @@ use Rattle.row_type.specs.declared.Change.{Change}
 use Rattle.row_type.specs.Words.{last_saved}
 use Rattle.row_type.specs.Machine.{Machine, never_overflows, none_taken}
 use Rattle.event_chain.specs.Marked.{coloured_kind, due_marked, due_next, marking}
-use Rattle.event_chain.specs.declared.reaction.Pair.{Pair}
-
--- the words of a colour that goes on, and of one that breaks the row
-abbrev pub pair_of : ℕ → ℕ → Pair
-pair_of low high = record { breaks = false; low = low; high = high }
-
-abbrev pub no_pair : Pair
-no_pair = record { breaks = true; low = 0; high = 0 }
+use Rattle.event_chain.specs.Pairs.{pair_of, no_pair, change_by}
+use Rattle.event_chain.specs.declared.pairs.Pair.{Pair}
 
 -- a stimulus at t: the first of its colour opens the interval, a later one moves its lower end; after the response it has to suit that one
-abbrev pub after_stimulus : ℕ → ℕ → ℕ → ℕ → ℕ → Pair
+abbrev pub after_stimulus : ℕ → ℕ → ℕ → ℕ → ℕ → Option Pair
 after_stimulus minimum maximum low high t =
     cond (eqb high 0)
     (cond (eqb low 0) (pair_of (plus t minimum) (plus (plus t maximum) 1)) (cond (ltb (plus t minimum) low) (pair_of low 0) no_pair))
     (cond (ltb (plus t minimum) high) (pair_of (plus t minimum) high) no_pair)
 
 -- a response at t: the first of its colour closes the interval, and later ones do not count
-abbrev pub after_response : ℕ → ℕ → ℕ → Pair
+abbrev pub after_response : ℕ → ℕ → ℕ → Option Pair
 after_response low high t =
     cond (eqb high 0) (cond (eqb low 0) (pair_of (plus t 1) 0) (pair_of low 0)) (cond (ltb t low) no_pair (pair_of (plus t 1) 0))
 
@@ -45,16 +39,15 @@ due_but zero colour high words = no_limit
 due_but (suc n) colour high words = min (due_but n colour high words) (latest (high_but colour high words n))
 
 -- what an event at t makes of its colour's words
-abbrev pub pair_after : Parameters → ℕ → ℕ → ℕ → ℕ → Pair
+abbrev pub pair_after : Parameters → ℕ → ℕ → ℕ → ℕ → Option Pair
 pair_after parameters s low high t =
     cond (eqb (coloured_kind s) parameters.first) (after_stimulus parameters.lower parameters.upper low high t) (after_response low high t)
 
 -- the change that new words of a colour make, whose second word was another
-abbrev pub paired : Registers → List ℕ → ℕ → ℕ → Pair → Change
+abbrev pub paired : Registers → List ℕ → ℕ → ℕ → Option Pair → Change
 paired registers words colour old pair =
-    cond pair.breaks breaking
-    (marking (Store (2 * colour) pair.low pair.high) registers
-    (due_next (due_marked registers) (latest old) (latest pair.high) (due_but 8 colour pair.high words)))
+    change_by (λ low high. marking (Store (2 * colour) low high) registers
+    (due_next (due_marked registers) (latest old) (latest high) (due_but 8 colour high words))) pair
 
 -- an event of one of the row's streams; a row of fewer than 16 words, which none is, breaks
 unfoldable pub decide_reaction : Parameters → Registers → List ℕ → ℕ → ℕ → Change

@@ -7,8 +7,8 @@ use Rattle.constraint.specs.Continuation.{Reads}
 use Rattle.constraint.specs.Run.{asks, none_left, Run}
 use Rattle.constraint.specs.Promise.{ReadsRow, row, play, Played}
 use Rattle.constraint.specs.Examples.{Example, examples}
-use Rattle.constraint.specs.declared.Answer.{Answer}
-use Rattle.constraint.specs.declared.Answer.TheVariants.{Taken, Refused}
+use Rattle.constraint.specs.Answer.{Answer}
+use Rattle.constraint.specs.Answer.{Taken, Refused}
 use Rattle.constraint.specs.declared.Call.{Call}
 use Rattle.constraint.specs.declared.Call.TheVariants.{Tick}
 use Rattle.constraint.specs.Constraint.{Constraint}

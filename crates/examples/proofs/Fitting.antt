@@ -11,7 +11,7 @@ use Rattle.constraint.specs.Meets.{Compares}
 use Rattle.constraint.specs.Accepted.{kinds, KindsFit, KindClassFits, KindsSuit, EachField, FieldInRange, InRange, NotBelow, bound_after, Ordered}
 use Rattle.constraint.specs.Accepted.{LowerFirst, row_questions_in, rows_questions, Accepted}
 use Rattle.constraint.specs.Records.{Absent}
-use Rattle.constraint.specs.declared.Answer.TheVariants.{Taken}
+use Rattle.constraint.specs.Answer.{Taken}
 use Rattle.constraint.specs.Constraint.{Constraint}
 use Rattle.constraint.proofs.FittingKinds.{kinds_none, kinds_more}
 use Rattle.constraint.proofs.Lists.{both, or-true}

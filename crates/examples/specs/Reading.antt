@@ -4,8 +4,8 @@ use Rattle.std.proofs.Math.Option.{some}
 use Rattle.constraint.specs.Run.{asks, Left, none_left, Run}
 use Rattle.constraint.specs.Continuation.{Reads}
 use Rattle.constraint.specs.Promise.{ReadsRow}
-use Rattle.constraint.specs.declared.Answer.{Answer}
-use Rattle.constraint.specs.declared.Answer.TheVariants.{Taken}
+use Rattle.constraint.specs.Answer.{Answer}
+use Rattle.constraint.specs.Answer.{Taken}
 use Rattle.constraint.specs.declared.Call.{Call}
 use Rattle.constraint.specs.declared.Call.TheVariants.{Tick}
 use Rattle.constraint.specs.Constraint.{Constraint}

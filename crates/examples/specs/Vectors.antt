@@ -4,8 +4,8 @@ use Rattle.std.specs.Prelude.{ℕ, zero, suc, ◌+◌, ◌-◌, ◌^◌, List, [
 use Rattle.constraint.specs.Limits.{last_time, no_limit}
 use Rattle.constraint.specs.Constraint.{Pattern, Arbitrary, Comparison}
 use Rattle.constraint.specs.Examples.{Example, reads}
-use Rattle.constraint.specs.declared.Answer.{Answer}
-use Rattle.constraint.specs.declared.Answer.TheVariants.{Taken, Refused}
+use Rattle.constraint.specs.Answer.{Answer}
+use Rattle.constraint.specs.Answer.{Taken, Refused}
 use Rattle.constraint.specs.declared.Call.{Call}
 use Rattle.constraint.specs.declared.Call.TheVariants.{Event, ColouredEvent, Tick, Close}
 use Rattle.constraint.specs.Constraint.{Constraint}

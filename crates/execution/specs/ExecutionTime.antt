@@ -8,8 +8,19 @@ use Rattle.row_type.specs.Parts.{plus, registers_of, continues_with, breaking}
 use Rattle.row_type.specs.declared.Parameters.{Parameters}
 use Rattle.row_type.specs.declared.Registers.{Registers}
 use Rattle.row_type.specs.declared.Change.{Change}
+use Rattle.execution.specs.declared.execution_time.Phase.{Phase}
+use Rattle.execution.specs.declared.execution_time.Phase.TheVariants.{Idle, Running, Preempted}
 use Rattle.row_type.specs.Words.{first_three_saved}
 use Rattle.row_type.specs.Machine.{Machine, never_overflows, none_taken}
+
+-- the phase that a number stands for, and the number of a phase
+abbrev pub phase_at : ℕ → Phase
+phase_at word = cond (eqb word 0) Idle (cond (eqb word 1) Running Preempted)
+
+abbrev pub phase_number : Phase → ℕ
+phase_number Idle = 0
+phase_number Running = 1
+phase_number Preempted = 2
 
 -- the phase, and how long the execution begun has run up to the last event
 abbrev pub phase_of : Registers → ℕ

@@ -9,13 +9,14 @@ pub use Rattle.constraint.proofs.Library.{length-take-le, ltb}
 pub use Rattle.constraint.proofs.Library.{ltb-false, ltb-true, map, pow-le-pow_right, pow-suc, refl, replicate}
 pub use Rattle.constraint.proofs.Library.{replicate-append-replicate, set}
 pub use Rattle.constraint.proofs.Library.{set_at, subst, subst₂, suc, sym, take, take_all, take-append-le, take_at, take-length, take-set-le}
-pub use Rattle.constraint.proofs.Library.{take-set-lt, take-suc-set, true, zero, zero-add, ℕ}
+pub use Rattle.constraint.proofs.Library.{take-set-lt, true, zero, zero-add, ℕ}
 pub use Rattle.constraint.proofs.Lists.{both, split}
-pub use Rattle.constraint.proofs.{Accepted.row_accepted, Judged.judged_all, Judged.never}
+pub use Rattle.constraint.proofs.{Accepted.row_accepted, Judged.judged_all, Judged.never, Refusals.numbered}
+pub use Rattle.constraint.specs.Answers.{refusal_number}
 pub use Rattle.constraint.specs.Table.{ReadsRows, ReadsTableUpTo, ShapeFits, TableRead, body_at, length_at, no_more, row_refused, row_taken, row_then}
 pub use Rattle.constraint.specs.Table.{table_of, table_refused, version_refused, version_taken}
 pub use Rattle.constraint.specs.{Accepted.Accepted, Limits.row_limit, Limits.waiting_limit, Questions.Question, Records.filler, Steps.at}
-pub use Rattle.constraint.specs.{declared.Answer.TheVariants.Refused, declared.Answer.TheVariants.Taken, Constraint.Constraint, Types.Known}
+pub use Rattle.constraint.specs.{Answer.Refused, Answer.Taken, Constraint.Constraint, Types.Known}
 pub use Rattle.constraint.specs.{Types.TypeKnown, Types.count_of, Types.type_of}
 pub use Rattle.fresh.specs.Fresh.{BeginsUpTo, ListsLie, RowsBehind, RowsLie, RowsPut, begun, fresh_lent, refused, with_lists}
 pub use Rattle.in_place.proofs.{Blocks.last_written, Blocks.row_lies, Parts.numbers_read, RowSets.in_all}

@@ -52,9 +52,6 @@ row_known {edition} bytes rows reads i =
 
 -- ---- stored
 
-pub put_none : (entry : Words) (m : Monitor) → RowsPut entry m 0 entry
-put_none entry m = record { long = refl; rows_lie = λ i below. absurd (omega (arith, below)); others = λ i _. refl }
-
 pub put_next : (entry : Words) (m : Monitor) (n : ℕ) (words : Words) (block : List (List ℕ)) → n < length entry → RowsPut entry m n words
     → block ≡ Stored.words_of_row (row_at m n) (kept_at m n) → RowsPut entry m (n + 1) (set words n block)
 put_next entry m n words block room so_far is =

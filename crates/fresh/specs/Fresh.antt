@@ -1,17 +1,18 @@
 -- A lent monitor made fresh over a table: every word of it, and the number that answers to the table's bytes.
 use Rattle.std.specs.Prelude.{ℕ, zero, suc, ◌+◌, ◌*◌, ◌<◌, ◌≤◌, ◌≡◌, Bool, cond, List, [], ◌∷◌, ◌++◌, length, get_or, take, replicate}
+use Rattle.std.specs.Prelude.{Result, Ok, Err}
 use Rattle.constraint.specs.Limits.{row_limit}
 use Rattle.constraint.specs.Accepted.{Accepted}
 use Rattle.constraint.specs.Table.{ReadsRows, ReadsTableUpTo, table_of, table_refused}
 use Rattle.constraint.specs.Steps.{at}
 use Rattle.constraint.specs.Constraint.{Constraint}
-use Rattle.table.specs.Scan.{Counted}
+use Rattle.constraint.specs.Answers.{refused_number}
+use Rattle.constraint.specs.declared.RefusedAt.{RefusedAt}
 use Rattle.row.specs.Stored as Stored
 use Rattle.monitor.specs.Contract.{after}
 use Rattle.monitor.specs.declared.Monitor.{Monitor}
 use Rattle.in_place.specs.Layout.{Lent, Words, words_of_lent, Shaped, all_rows, row_at, kept_at}
 use Rattle.in_place.specs.Contract.{is_of, Indexes}
-use Rattle.fresh.specs.declared.Validated.{Validated}
 
 -- ---- the set of rows for each kind
 
@@ -38,6 +39,11 @@ abbrev pub fresh_lent : List Constraint → Lent
 fresh_lent rows =
     record { monitor = after rows []; soonest = 0; full = all_rows; lists = sets_to (after rows []) (length rows) 64 }
 
+-- §11.5: the number that a result is
+abbrev pub table_code : {T : Type 0} → Result T RefusedAt → ℕ
+table_code (Ok x) = 0
+table_code (Err refused) = refused.place * 256 + refused_number refused
+
 -- §11.5: the number that answers and the words then: 0, and each is the fresh monitor's; or 256 times the place and the number of the refusal, and
 -- each as it was
 pub data BeginsUpTo (newest : ℕ) (bytes : List ℕ) (entry : Words) : ℕ → Words → Type 0 where
@@ -51,20 +57,6 @@ abbrev pub Begins : List ℕ → Words → ℕ → Words → Type 0
 Begins = BeginsUpTo 1
 
 -- ---- what its parts promise
-
--- the refusal that a number answers with
-pub record RefusedAs (newest : ℕ) (bytes : List ℕ) (number : ℕ) : Type 0 where
-  pub question : ℕ
-  pub place : ℕ
-  pub reads : ReadsTableUpTo newest bytes (table_refused question place)
-  pub above : 0 < question
-  pub below : question < 256
-  pub numbered : number ≡ place * 256 + question
-
--- the number that answers to a table's bytes, and where it is 0 how many rows they hold
-pub record Validates (newest : ℕ) (bytes : List ℕ) (judged : Validated) : Type 0 where
-  pub accepted : judged.number ≡ 0 → Counted (at bytes 0) (ReadsTableUpTo newest bytes) judged.rows
-  pub refused : ¬ (judged.number ≡ 0) → RefusedAs newest bytes judged.number
 
 -- the first blocks are those of a monitor's rows
 abbrev pub RowsLie : Monitor → ℕ → Words → Type 0

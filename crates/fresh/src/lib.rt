@@ -6,46 +6,20 @@ ghost use Rattle.std.specs.Prelude.{◌<◌, ◌≤◌, ◌≡◌, cond, length,
 ghost use Rattle.in_place.specs.Layout.{no_words};
 ghost use Rattle.in_place.specs.Steps.{Updates, Computes};
 ghost use Rattle.in_place.specs.Contract.{is_of};
-ghost use Rattle.fresh.specs.Fresh.{with_lists, set_from, BeginsUpTo, Validates, HoldsRows, StoresRows, StoresAll, Enlists};
+ghost use Rattle.fresh.specs.Fresh.{with_lists, set_from, table_code, BeginsUpTo, HoldsRows, StoresRows, StoresAll, Enlists};
 
+use constraint::RefusedAt;
 use in_place::{ALL_ROWS, FULL, NUMBERS, OPEN, ROWS, Words};
 use row::{concerns, stored};
 use row_type::row_words::parameters_at;
-use table::{ReadAnswer, scan};
-
-// The result of validating a table's bytes: the answer, 0 or 256 times the place plus the number of the refusal; and the number of rows.
-#[derive(Drop)]
-pub struct Validated {
-    pub number: u64,
-    pub rows: usize,
-}
-
-// Validates the bytes of a table of an edition up to `newest`.
-fn validate(newest: u8, table: &[u8]) -> Validated
-    ensures { Validates newest table.now result }
-{
-    let scanned = scan::validate(newest, table);
-    let answer = scanned.answer;
-    match answer {
-        ReadAnswer::Accepted => Validated {
-            number: 0,
-            rows: scanned.rows,
-        },
-        ReadAnswer::Refused { number, place } => Validated {
-            number: place as u64 * 256 + number as u64,
-            rows: 0,
-        },
-    }
-}
+use table::scan;
 
 // Sets every word to 0.
 fn clear(blocks: &mut [[[u64; 64]; 2]])
     ensures { blocks.new ≡ replicate (length blocks.old) no_words }
 {
-    let mut i = 0;
-    while i < blocks.len() {
-        blocks[i] = [[0u64; 64]; 2];
-        i += 1;
+    for block in blocks.iter_mut() {
+        *block = [[0u64; 64]; 2];
     }
 }
 
@@ -57,12 +31,10 @@ fn put_rows(m: &mut Words, table: &[u8])
 {
     let mut values = [0u64; 18];
     let mut place = 1;
-    let mut i = 0;
-    while i < 32 {
+    for i in 0..32 {
         let found = scan::load_at(&mut values, table, place);
         stored::begin(&mut m[i], found.tag, &values);
         place = found.next;
-        i += 1;
     }
 }
 
@@ -83,11 +55,7 @@ fn digit_of(m: &Words, i: usize, kind: usize) -> u64
     requires { i < 32 }
     ensures { (result ≤ 1) × Computes m.now (λ h. cond (is_of h.monitor kind i) 1 0) result }
 {
-    if concerns(parameters_at(&m[i][1]), kind as u64) {
-        1
-    } else {
-        0
-    }
+    u64::from(concerns(parameters_at(&m[i][1]), kind as u64))
 }
 
 // Returns the set of those of the first n rows that a kind concerns.
@@ -96,9 +64,7 @@ fn set_of(m: &Words, kind: usize, n: usize) -> u64
     ensures { Computes m.now (λ h. set_from (is_of h.monitor kind) 0 n) result }
 {
     let mut rows = 0;
-    let mut i = n;
-    while 0 < i {
-        i -= 1;
+    for i in (0..n).rev() {
         rows = 2 * rows + digit_of(m, i, kind);
     }
     rows
@@ -117,24 +83,18 @@ fn enlist(m: &mut Words, n: usize)
     requires { n ≤ 32 }
     ensures { Enlists n m.old m.new }
 {
-    let mut kind = 0;
-    while kind < 64 {
+    for kind in 0..64 {
         let rows = set_of(m, kind, n);
         put_set(m, kind, rows);
-        kind += 1;
     }
 }
 
-// Makes a lent monitor fresh over the bytes of a table of an edition up to `newest`. Returns 0, or 256 times the place plus the number of the
-// refusal; then all words stay as they were.
-pub fn fresh(newest: u8, m: &mut Words, table: &[u8]) -> u64
-    ensures { BeginsUpTo newest table.now m.old result m.new }
+// Makes a lent monitor fresh over the bytes of a table of an edition up to `newest`. After a refusal all words stay as they were.
+pub fn fresh(newest: u8, m: &mut Words, table: &[u8]) -> Result<(), RefusedAt>
+    ensures { BeginsUpTo newest table.now m.old (table_code result) m.new }
 {
-    let judged = validate(newest, table);
-    let number = judged.number;
-    if number == 0 {
-        begin(m, table, judged.rows);
-        enlist(m, judged.rows);
-    }
-    number
+    let rows = scan::validate(newest, table)?;
+    begin(m, table, rows);
+    enlist(m, rows);
+    Ok(())
 }

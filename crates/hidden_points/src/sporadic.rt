@@ -1,12 +1,13 @@
 // Sporadic: no times are kept; the last hidden point can be at each place from first to second, and last is one more
 // than the last event's time.
+// A mark is 0 where there is none: it is a word of memory that C lends, and `Registers` of specs/ reads it so.
 ghost use Rattle.std.specs.Prelude.{◌≡◌, cond, eqb, min};
 ghost use Rattle.constraint.specs.Limits.{no_limit};
 ghost use Rattle.row_type.specs.Parts.{plus};
 ghost use Rattle.row_type.specs.Words.{first_three_saved, MakesAt, Applies};
 ghost use Rattle.hidden_points.specs.Sporadic.{point_at, stride, decide_sporadic};
 
-use ring::{SIZE, minus};
+use ring::SIZE;
 use row_type::{parts, row_words};
 
 // Where the last hidden point can be: from a low to a high.
@@ -20,7 +21,7 @@ pub fn apply(row: &mut [[u64; SIZE]; 2], stream: u64, t: u64, number: u64)
     ensures { Applies first_three_saved decide_sporadic row.old stream t number row.new }
 {
     let upper = row[1][row_words::UPPER];
-    let near = minus(t, row[1][row_words::JITTER]);
+    let near = t.saturating_sub(row[1][row_words::JITTER]);
     let last = row[1][row_words::LAST];
     if last == 0 {
         place(row, t, near, t, number);
@@ -28,7 +29,7 @@ pub fn apply(row: &mut [[u64; SIZE]; 2], stream: u64, t: u64, number: u64)
     }
     let stride = stride(row[1][row_words::LOWER]);
     if stride <= upper && parts::far_enough(row[1][row_words::MINIMUM], last, t) {
-        let low = parts::larger(parts::plus(row[1][LOW], stride), near);
+        let low = row[1][LOW].saturating_add(stride).max(near);
         let high = latest(upper, row[1][HIGH], t);
         if low <= high {
             place(row, t, low, high, number);
@@ -43,13 +44,12 @@ fn place(row: &mut [[u64; SIZE]; 2], t: u64, low: u64, high: u64, number: u64)
     ensures { MakesAt first_three_saved row.old (λ parameters registers times. point_at parameters registers t low high) t number
         row.new }
 {
-    let due = parts::plus(
-        parts::plus(high, row[1][row_words::UPPER]),
-        row[1][row_words::JITTER],
-    );
+    let due = high
+        .saturating_add(row[1][row_words::UPPER])
+        .saturating_add(row[1][row_words::JITTER]);
     row_words::save_undo_first_three(row);
     row_words::stay(row, number);
-    row[1][row_words::LAST] = parts::plus(t, 1);
+    row[1][row_words::LAST] = t.saturating_add(1);
     row[1][LOW] = low;
     row[1][HIGH] = high;
     row_words::settle(&mut row[1], due, 1);
@@ -59,12 +59,12 @@ fn place(row: &mut [[u64; SIZE]; 2], t: u64, low: u64, high: u64, number: u64)
 fn latest(upper: u64, high: u64, t: u64) -> u64
     ensures { result ≡ cond (eqb upper no_limit) t (min (plus high upper) t) }
 {
-    parts::smaller(parts::plus(high, upper), t)
+    high.saturating_add(upper).min(t)
 }
 
 // How far the next point is from the last at least.
 fn stride(lower: u64) -> u64
     ensures { result ≡ stride lower }
 {
-    parts::larger(lower, 1)
+    lower.max(1)
 }

@@ -8,7 +8,9 @@ pub use Rattle.constraint.proofs.Library.{leb, leb-false, length, length-set, lt
 pub use Rattle.constraint.proofs.Library.{not, not-suc-le-zero, one-le-pow, pow-suc, refl, set, set-get_or, subst, subst₂, suc, suc-add, sym, take}
 pub use Rattle.constraint.proofs.Library.{take-set-le, take-set-lt}
 pub use Rattle.constraint.proofs.Library.{true, zero, zero-add, ℕ, ℕ_discrete, ⊎_elim}
-pub use Rattle.constraint.proofs.{Lists.both, Lists.or_false, Lists.split, Streams.plain_kind, Streams.stream_below, Streams.stream_kind}
+pub use Rattle.constraint.proofs.{Lists.both, Lists.or_false, Lists.split, Refusals.numbered, Streams.plain_kind, Streams.stream_below}
+pub use Rattle.constraint.proofs.{Streams.stream_kind}
+pub use Rattle.constraint.specs.{Answers.number_in, Answers.refusal_number, declared.Refusal.Refusal}
 pub use Rattle.constraint.specs.Limits.{first_coloured, last_colour, last_count, last_kind, last_time, row_limit, stream_count}
 pub use Rattle.constraint.specs.{Run.Request, Run.asks, Run.withdraws, Streams.kind_of, Streams.stream, declared.Call.Call}
 pub use Rattle.in_place.specs.Contract.{Indexes, FullSound, SoundNumbers, Takes, is_of, stepped_from}
@@ -20,7 +22,7 @@ pub use Rattle.in_place.specs.Steps.{OnStream, Stores, answer_to, all_rows_undon
 pub use Rattle.in_place.specs.Steps.{recorded_on, recorded_to, crowded}
 pub use Rattle.in_place.specs.Steps.{crowded_at, crowded_on, clock_applied_at, clock_applied, leaves, left_after, left_on, next_number}
 pub use Rattle.in_place.specs.Steps.{number_of, rows_expired}
-pub use Rattle.in_place.specs.Steps.{refusal_in, soonest_all, soonest_of, soonest_of_four, restored_monitor, up_to_four}
+pub use Rattle.in_place.specs.Steps.{kind_refusal, refusal_in, soonest_all, soonest_of, soonest_of_four, restored_monitor, up_to_four}
 pub use Rattle.in_place.specs.Steps.{dispatched_to, dispatched, due_counted, full_marked}
 pub use Rattle.in_place.specs.Steps.{with_closed, with_full, with_monitor, with_next, with_row, with_soonest, withdrawn_lent, without_asked}
 pub use lib.Bits.{bit_and, bit_or}

@@ -1,26 +1,51 @@
 -- The questions 8 and 24 come first: where one is answered "no" that is the number, and else the call's own questions give it.
 use Rattle.in_place.proofs.Names.{Bool, Call, Lent, Shaped, Stores, Words, ◌<◌, ◌∙◌, ◌≡◌, ◌≤◌, answer_to, ap, arith, asks, cond, cond_false}
-use Rattle.in_place.proofs.Names.{cond_true, false, last_count, le-ltb, leb, left_after, lt-ltb, ltb, ltb-false, next_for, own_refusal, refl}
+use Rattle.in_place.proofs.Names.{cond_true, false, kind_refusal, last_count, last_kind, le-ltb, leb, left_after, lt-ltb, ltb, ltb-false, next_for}
+use Rattle.in_place.proofs.Names.{Refusal, numbered, own_refusal, refl, refusal_number}
 use Rattle.in_place.proofs.Names.{refusal_in, split, sym, true, words_of_lent, ℕ}
+
+pub some_number : (refusal : Refusal) → ¬ (refusal_number refusal ≡ 0)
+some_number refusal none = let some = numbered refusal in omega (arith, none, some.0)
 
 first_no : (a b : Bool) (n own : ℕ) → n ≡ cond a 8 (cond b 24 0) → 0 < n → n ≡ cond a 8 (cond b 24 own)
 first_no true b n own e l = e
 first_no false true n own e l = e
 first_no false false n own e l = absurd (omega (arith, e, l))
 
-first_yes : (a b : Bool) (n own : ℕ) → n ≡ cond a 8 (cond b 24 0) → n ≤ 0 → cond a 8 (cond b 24 own) ≡ own
-first_yes true b n own e l = absurd (omega (arith, e, l))
-first_yes false true n own e l = absurd (omega (arith, e, l))
-first_yes false false n own e l = refl
+first_yes : (a b : Bool) (own : ℕ) → ◌≡◌ {A = ℕ} 0 (cond a 8 (cond b 24 0)) → cond a 8 (cond b 24 own) ≡ own
+first_yes true b own e = absurd (omega (arith, e))
+first_yes false true own e = absurd (omega (arith, e))
+first_yes false false own e = refl
 
-pub first_number : (h : Lent) (call : Call) (first : ℕ) → first ≡ cond (ltb 0 h.monitor.closed) 8 (cond (leb last_count h.monitor.count) 24 0)
-    → 0 < first → first ≡ refusal_in h call
-first_number h call first e l = first_no (ltb 0 h.monitor.closed) (leb last_count h.monitor.count) first _ e l
+kind_no : (a b k : Bool) (n own : ℕ) → n ≡ cond a 8 (cond b 24 (cond k 9 0)) → 0 < n → n ≡ cond a 8 (cond b 24 (cond k 9 own))
+kind_no true b k n own e l = e
+kind_no false true k n own e l = e
+kind_no false false true n own e l = e
+kind_no false false false n own e l = absurd (omega (arith, e, l))
 
-pub own_number : (h : Lent) (call : Call) (first number : ℕ) → first
-    ≡ cond (ltb 0 h.monitor.closed) 8 (cond (leb last_count h.monitor.count) 24 0)
-    → first ≤ 0 → number ≡ own_refusal call h.monitor.clock (next_for h.monitor call) → number ≡ refusal_in h call
-own_number h call first number e l own = own ∙ sym (first_yes (ltb 0 h.monitor.closed) (leb last_count h.monitor.count) first _ e l)
+kind_yes : (a b k : Bool) (own : ℕ) → ◌≡◌ {A = ℕ} 0 (cond a 8 (cond b 24 (cond k 9 0))) → cond a 8 (cond b 24 (cond k 9 own)) ≡ own
+kind_yes true b k own e = absurd (omega (arith, e))
+kind_yes false true k own e = absurd (omega (arith, e))
+kind_yes false false true own e = absurd (omega (arith, e))
+kind_yes false false false own e = refl
+
+module _ (h : Lent) where
+  -- the first questions, and then some other
+  abbrev pub asked_first : ℕ → ℕ
+  asked_first own = cond (ltb 0 h.monitor.closed) 8 (cond (leb last_count h.monitor.count) 24 own)
+
+  pub first_number : (first own : ℕ) → first ≡ asked_first 0 → 0 < first → first ≡ asked_first own
+  first_number first own e l = first_no (ltb 0 h.monitor.closed) (leb last_count h.monitor.count) first own e l
+
+  pub own_number : (number own : ℕ) → 0 ≡ asked_first 0 → number ≡ own → number ≡ asked_first own
+  own_number number own e is = is ∙ sym (first_yes (ltb 0 h.monitor.closed) (leb last_count h.monitor.count) own e)
+
+  -- the same for an event, whose kind is asked next
+  pub kind_number : (kind first own : ℕ) → first ≡ kind_refusal h kind → 0 < first → first ≡ asked_first (cond (ltb last_kind kind) 9 own)
+  kind_number kind first own e l = kind_no (ltb 0 h.monitor.closed) (leb last_count h.monitor.count) (ltb last_kind kind) first own e l
+
+  pub form_number : (kind number own : ℕ) → 0 ≡ kind_refusal h kind → number ≡ own → number ≡ asked_first (cond (ltb last_kind kind) 9 own)
+  form_number kind number own e is = is ∙ sym (kind_yes (ltb 0 h.monitor.closed) (leb last_count h.monitor.count) (ltb last_kind kind) own e)
 
 pub not_closed : (closed : ℕ) (b : Bool) (own : ℕ) → cond (ltb 0 closed) 8 (cond b 24 own) ≡ 0 → closed ≡ 0
 not_closed closed b own =

@@ -2,12 +2,12 @@
 use Rattle.std.specs.Prelude.{ℕ, zero, suc, ◌<◌, ◌≤◌, ◌≡◌, Bool, false}
 use Rattle.constraint.specs.Limits.{row_limit, waiting_limit}
 use Rattle.constraint.specs.Run.{Request}
-use Rattle.constraint.specs.declared.Answer.{Answer}
-use Rattle.constraint.specs.declared.Answer.TheVariants.{Taken, Refused}
+use Rattle.constraint.specs.Answer.{Answer}
+use Rattle.constraint.specs.Answer.{Taken, Refused}
 use Rattle.row.specs.Machine.{concerns, no_event}
 use Rattle.monitor.specs.Contract.{Steps}
 use Rattle.monitor.specs.declared.Monitor.{Monitor}
-use Rattle.monitor.specs.declared.Stepped.{Stepped}
+use Rattle.monitor.specs.Stepped.{Stepped}
 use Rattle.in_place.specs.Layout.{Lent, Words, words_of_lent, Shaped, is_in, set_of, held_rows, row_at, kept_at, due_at}
 use Rattle.in_place.specs.Steps.{number_of, leaves}
 

@@ -2,7 +2,7 @@
 use Rattle.std.specs.Prelude.{ℕ, zero, suc, ◌+◌, ◌-◌, ◌*◌, ◌/◌, ◌^◌, ◌≤◌, ◌<◌, min, ◌≡◌, Bool, true, false, cond, ◌||◌, List, [], ◌∷◌, get_or, set}
 use Rattle.std.specs.Prelude.{ltb, leb}
 use Rattle.std.specs.Int.Bits.{bit_and, bit_or}
-use Rattle.constraint.specs.Limits.{no_limit, last_count}
+use Rattle.constraint.specs.Limits.{no_limit, last_count, last_kind}
 use Rattle.constraint.specs.Streams.{stream}
 use Rattle.constraint.specs.declared.Call.{Call}
 use Rattle.constraint.specs.Run.{Request, asks, withdraws}
@@ -268,6 +268,10 @@ withdrawn_lent h = counters_restored (with_free (all_rows_undone h))
 -- 8 or 24, which every call is asked first; 0 where neither is answered "no"
 abbrev pub first_refusal : Lent → ℕ
 first_refusal h = cond (ltb 0 h.monitor.closed) 8 (cond (leb last_count h.monitor.count) 24 0)
+
+-- 8, 24 and 9, of an event
+abbrev pub kind_refusal : Lent → ℕ → ℕ
+kind_refusal h kind = cond (ltb 0 h.monitor.closed) 8 (cond (leb last_count h.monitor.count) 24 (cond (ltb last_kind kind) 9 0))
 
 -- a coloured kind and one of the colours
 abbrev pub ColourKnown : ℕ → ℕ → Type 0

@@ -1,11 +1,13 @@
-// The calls on a lent monitor. Each returns 0 if the call is taken, else the number of its refusal.
-ghost use Rattle.std.specs.Prelude.{◌<◌, ◌≡◌};
+// The calls on a lent monitor. Each is taken, or refused by the first question that is answered "no".
+ghost use Rattle.std.specs.Prelude.{◌<◌, ◌≡◌, get_or};
+ghost use Rattle.questions.specs.Questions.{time_refusal};
 ghost use Rattle.constraint.specs.declared.Call.{Call};
+ghost use Rattle.constraint.specs.Answers.{number_in};
 ghost use Rattle.constraint.specs.Run.{asks, withdraws};
 ghost use Rattle.row.specs.Machine.{tick_at};
 ghost use Rattle.in_place.specs.Layout.{Lent, words_of_lent, Shaped};
 ghost use Rattle.constraint.specs.Streams.{stream};
-ghost use Rattle.in_place.specs.Steps.{Updates, Computes, ColourKnown, rows_expired, deadlines_checked, AsksOverflow, OnStream};
+ghost use Rattle.in_place.specs.Steps.{Updates, Computes, ColourKnown, kind_refusal, rows_expired, deadlines_checked, AsksOverflow, OnStream};
 ghost use Rattle.in_place.specs.Steps.{refusal_in, Stores};
 
 use crate::numbers::{
@@ -15,7 +17,7 @@ use crate::numbers::{
 use crate::{
     CLOCK, COUNT, FULL, NUMBERS, SOONEST, UNDO_ALLOWED, UNDO_NEXT, UNDO_STREAM, Words, held, rows,
 };
-use constraint::{FIRST_COLOURED, LAST_COLOUR, LAST_KIND};
+use constraint::{FIRST_COLOURED, LAST_COLOUR, LAST_KIND, Refusal};
 use monitor::Monitor;
 use questions::{NO_EVENT, NO_STREAM, place_in, time_refusal};
 use row::StepInput;
@@ -27,6 +29,7 @@ fn expire_rows(m: &mut Words, time: u64)
     let rows = held(m);
     let soonest = rows::soonest(m, rows);
     if soonest < time {
+        // Built here: `questions::step_input` takes a call and asks which one it is.
         let o = StepInput {
             kind: NO_EVENT,
             stream: NO_STREAM,
@@ -69,44 +72,55 @@ fn event_would_overflow(m: &mut Words, kind: usize, stream: usize, time: u64) ->
 }
 
 // Takes an event of a stream that only question 12 can still refuse.
-fn event_on(m: &mut Words, kind: usize, stream: usize, time: u64) -> u8
+fn event_on(m: &mut Words, kind: usize, stream: usize, time: u64) -> Result<(), Refusal>
     requires { (kind < 64) × (stream < 176) }
-    ensures { OnStream m.old kind stream time result m.new }
+    ensures { OnStream m.old kind stream time (number_in result) m.new }
 {
     if event_would_overflow(m, kind, stream, time) {
-        return 12;
+        return Err(Refusal::Crowded);
     }
     record_event(m, stream, time);
     check_deadlines(m, time);
     rows::dispatch_event(m, kind, stream as u64, time);
-    0
+    Ok(())
 }
 
-// Asks all questions about an event of a plain kind except 12. Returns the number of the first "no", or 0.
-pub fn event_refusal(m: &Words, kind: u8, time: u64) -> u8
-    ensures { (result ≡ 0 → kind < 48) × ((h : Lent) → m.now ≡ words_of_lent h → Shaped h → result ≡ refusal_in h (Call.Event kind time)) }
+// Asks the questions about an event that come before its form: 8, 24 and 9.
+fn kind_refusal(m: &Words, kind: u8) -> Result<(), Refusal>
+    ensures { (number_in result ≡ 0 → kind < 64) × Computes m.now (λ h. kind_refusal h kind) (number_in result) }
 {
-    let first = first_refusal(m);
-    if 0 < first {
-        return first;
-    }
+    first_refusal(m)?;
     if LAST_KIND < kind {
-        return 9;
+        return Err(Refusal::Kind);
     }
+    Ok(())
+}
+
+// Asks the questions about the time of an event of a stream: 10 and 11.
+fn stream_refusal(m: &Words, stream: usize, time: u64) -> Result<(), Refusal>
+    requires { stream < 176 }
+    ensures { Computes m.now (λ h. time_refusal time h.monitor.clock (get_or h.monitor.next stream 0)) (number_in result) }
+{
+    time_refusal(time, m[NUMBERS][0][CLOCK], free_at(m, stream))
+}
+
+// Asks all questions about an event of a plain kind except 12.
+pub fn event_refusal(m: &Words, kind: u8, time: u64) -> Result<(), Refusal>
+    ensures { (number_in result ≡ 0 → kind < 48)
+        × ((h : Lent) → m.now ≡ words_of_lent h → Shaped h → number_in result ≡ refusal_in h (Call.Event kind time)) }
+{
+    kind_refusal(m, kind)?;
     if FIRST_COLOURED <= kind {
-        return 19;
+        return Err(Refusal::Form);
     }
-    time_refusal(time, m[NUMBERS][0][CLOCK], free_at(m, kind as usize))
+    stream_refusal(m, kind as usize, time)
 }
 
 // Takes an event of a plain kind.
-pub fn event(m: &mut Words, kind: u8, time: u64) -> u8
-    ensures { Stores m.old (asks (Call.Event kind time)) result m.new }
+pub fn event(m: &mut Words, kind: u8, time: u64) -> Result<(), Refusal>
+    ensures { Stores m.old (asks (Call.Event kind time)) (number_in result) m.new }
 {
-    let refusal = event_refusal(m, kind, time);
-    if 0 < refusal {
-        return refusal;
-    }
+    event_refusal(m, kind, time)?;
     event_on(m, kind as usize, kind as usize, time)
 }
 
@@ -118,77 +132,56 @@ fn stream_of(kind: u8, colour: u8) -> usize
     48 + 8 * (kind as usize - 48) + colour as usize
 }
 
-// Asks all questions about an event of a coloured kind except 12. Returns the number of the first "no", or 0.
-fn coloured_refusal(m: &Words, kind: u8, colour: u8, time: u64) -> u8
-    ensures { (result ≡ 0 → ColourKnown kind colour) × Computes m.now (λ h. refusal_in h (Call.ColouredEvent kind colour time)) result }
+// Asks all questions about an event of a coloured kind except 12.
+fn coloured_refusal(m: &Words, kind: u8, colour: u8, time: u64) -> Result<(), Refusal>
+    ensures { (number_in result ≡ 0 → ColourKnown kind colour)
+        × Computes m.now (λ h. refusal_in h (Call.ColouredEvent kind colour time)) (number_in result) }
 {
-    let first = first_refusal(m);
-    if 0 < first {
-        return first;
+    kind_refusal(m, kind)?;
+    if kind < FIRST_COLOURED || LAST_COLOUR < colour {
+        return Err(Refusal::Form);
     }
-    if LAST_KIND < kind {
-        return 9;
-    }
-    if kind < FIRST_COLOURED {
-        return 19;
-    }
-    if LAST_COLOUR < colour {
-        return 19;
-    }
-    let stream = stream_of(kind, colour);
-    time_refusal(time, m[NUMBERS][0][CLOCK], free_at(m, stream))
+    stream_refusal(m, stream_of(kind, colour), time)
 }
 
 // Takes an event of a coloured kind.
-pub fn coloured_event(m: &mut Words, kind: u8, colour: u8, time: u64) -> u8
-    ensures { Stores m.old (asks (Call.ColouredEvent kind colour time)) result m.new }
+pub fn coloured_event(m: &mut Words, kind: u8, colour: u8, time: u64) -> Result<(), Refusal>
+    ensures { Stores m.old (asks (Call.ColouredEvent kind colour time)) (number_in result) m.new }
 {
-    let refusal = coloured_refusal(m, kind, colour, time);
-    if 0 < refusal {
-        return refusal;
-    }
+    coloured_refusal(m, kind, colour, time)?;
     let stream = stream_of(kind, colour);
     event_on(m, kind as usize, stream, time)
 }
 
-// Asks all questions about a tick. Returns the number of the first "no", or 0.
-fn tick_refusal(m: &Words, time: u64) -> u8
-    ensures { (h : Lent) → m.now ≡ words_of_lent h → Shaped h → result ≡ refusal_in h (Call.Tick time) }
+// Asks all questions about a tick. `questions::refusal` asks the same over a clock in registers; here each number is read only when it is asked.
+fn tick_refusal(m: &Words, time: u64) -> Result<(), Refusal>
+    ensures { (h : Lent) → m.now ≡ words_of_lent h → Shaped h → number_in result ≡ refusal_in h (Call.Tick time) }
 {
-    let first = first_refusal(m);
-    if 0 < first {
-        return first;
-    }
+    first_refusal(m)?;
     if Monitor::LAST_TIME < time {
-        return 10;
+        return Err(Refusal::TimeRange);
     }
     if time <= m[NUMBERS][0][CLOCK] {
-        return 11;
+        return Err(Refusal::TimeOrder);
     }
-    0
+    Ok(())
 }
 
 // Takes a tick, which moves the clock to a time.
-pub fn tick(m: &mut Words, time: u64) -> u8
-    ensures { Stores m.old (asks (Call.Tick time)) result m.new }
+pub fn tick(m: &mut Words, time: u64) -> Result<(), Refusal>
+    ensures { Stores m.old (asks (Call.Tick time)) (number_in result) m.new }
 {
-    let refusal = tick_refusal(m, time);
-    if 0 < refusal {
-        return refusal;
-    }
+    tick_refusal(m, time)?;
     record_tick(m, time);
     check_deadlines(m, time);
-    0
+    Ok(())
 }
 
 // Takes the close.
-pub fn close(m: &mut Words) -> u8
-    ensures { Stores m.old (asks Call.Close) result m.new }
+pub fn close(m: &mut Words) -> Result<(), Refusal>
+    ensures { Stores m.old (asks Call.Close) (number_in result) m.new }
 {
-    let refusal = first_refusal(m);
-    if 0 < refusal {
-        return refusal;
-    }
+    first_refusal(m)?;
     let clock = m[NUMBERS][0][CLOCK];
     record_tick(m, clock);
     mark_closed(m);
@@ -201,15 +194,15 @@ pub fn close(m: &mut Words) -> u8
     };
     rows::apply_clock_all(m, held(m), o, number);
     put_soonest(m, 0);
-    0
+    Ok(())
 }
 
-// Withdraws the last step. Returns 0, or 21 if no step may be withdrawn.
-pub fn withdraw(m: &mut Words) -> u8
-    ensures { Stores m.old withdraws result m.new }
+// Withdraws the last step, if one may be withdrawn.
+pub fn withdraw(m: &mut Words) -> Result<(), Refusal>
+    ensures { Stores m.old withdraws (number_in result) m.new }
 {
     if m[NUMBERS][0][UNDO_ALLOWED] == 0 {
-        return 21;
+        return Err(Refusal::NothingToWithdraw);
     }
     let number = m[NUMBERS][0][COUNT];
     rows::undo_rows(m, held(m), number);
@@ -217,5 +210,5 @@ pub fn withdraw(m: &mut Words) -> u8
     let free = m[NUMBERS][0][UNDO_NEXT];
     put_free(m, place, free);
     restore_counters(&mut m[NUMBERS]);
-    0
+    Ok(())
 }

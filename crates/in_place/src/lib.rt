@@ -1,10 +1,9 @@
 // The monitor in memory that the host lends: 35 blocks of two arrays of 64 words. Every call changes these words in place.
+// The C interface needs plain words, so a number has an index here and is no field of a struct; `words_of_lent` says what lies where.
 #![tactic(auto)]
 
-ghost use Rattle.std.specs.Prelude.{◌-◌, ◌≤◌, ◌≡◌};
+ghost use Rattle.std.specs.Prelude.{◌≤◌, ◌≡◌, ltb};
 ghost use Rattle.in_place.specs.Layout.{Lent, words_of_lent, Shaped, held_rows};
-
-use ring::minus;
 
 pub mod calls;
 mod numbers;
@@ -51,13 +50,12 @@ pub const ALL_ROWS: u64 = 4294967295;
 pub fn held(m: &Words) -> usize
     ensures { (result ≤ 32) × ((h : Lent) → m.now ≡ words_of_lent h → Shaped h → result ≡ held_rows h.monitor) }
 {
-    let n = m[NUMBERS][0][ROWS];
-    if n < 32 { n as usize } else { 32 }
+    m[NUMBERS][0][ROWS].min(32) as usize
 }
 
-// Returns 1 once the recording is closed, else 0.
-pub fn closed(m: &Words) -> u64
-    ensures { (h : Lent) → m.now ≡ words_of_lent h → Shaped h → result ≡ 1 - (1 - h.monitor.closed) }
+// Returns whether the recording is closed.
+pub fn closed(m: &Words) -> bool
+    ensures { (h : Lent) → m.now ≡ words_of_lent h → Shaped h → result ≡ ltb 0 h.monitor.closed }
 {
-    minus(1, m[NUMBERS][0][OPEN])
+    m[NUMBERS][0][OPEN] == 0
 }

@@ -1,5 +1,6 @@
 // The numbers of a lent monitor outside its rows: the questions that they answer, and what a step stores in them.
 ghost use Rattle.std.specs.Prelude.{◌<◌, ◌≡◌, get_or, set};
+ghost use Rattle.constraint.specs.Answers.{number_in};
 ghost use Rattle.in_place.specs.Layout.{Lent, words_of_lent, Shaped};
 ghost use Rattle.in_place.specs.Steps.{Updates, UpdatesOpen, Computes, RecordsStep, RestoresCounters, first_refusal, with_soonest, with_full};
 ghost use Rattle.in_place.specs.Steps.{with_next, with_closed};
@@ -9,9 +10,8 @@ use crate::{
     ALL_ROWS, CLOCK, COLOURED, COUNT, FULL, NUMBERS, OPEN, PLAIN, SOONEST, UNDO_ALLOWED,
     UNDO_CLOCK, UNDO_CLOSED, UNDO_COUNT, UNDO_NEXT, UNDO_STREAM, Words,
 };
+use constraint::Refusal;
 use monitor::Monitor;
-use ring::minus;
-use row_type::parts::plus;
 
 // Returns the first free time of a stream.
 pub(crate) fn free_at(m: &Words, stream: usize) -> u64
@@ -38,17 +38,17 @@ pub(crate) fn put_free(m: &mut Words, stream: usize, time: u64)
     m[COLOURED][place / 64][place % 64] = time;
 }
 
-// Asks questions 8 and 24, which come first in every call. Returns the number of the first "no", or 0.
-pub(crate) fn first_refusal(m: &Words) -> u8
-    ensures { Computes m.now first_refusal result }
+// Asks questions 8 and 24, which come first in every call.
+pub(crate) fn first_refusal(m: &Words) -> Result<(), Refusal>
+    ensures { Computes m.now first_refusal (number_in result) }
 {
     if m[NUMBERS][0][OPEN] == 0 {
-        return 8;
+        return Err(Refusal::Closed);
     }
     if Monitor::LAST_COUNT <= m[NUMBERS][0][COUNT] {
-        return 24;
+        return Err(Refusal::CountFull);
     }
-    0
+    Ok(())
 }
 
 // Stores a new soonest deadline.
@@ -72,7 +72,7 @@ fn record_step(n: &mut [[u64; 64]; 2], stream: u64, free: u64, time: u64)
     let clock = n[0][CLOCK];
     let count = n[0][COUNT];
     n[0][CLOCK] = time;
-    n[0][COUNT] = plus(count, 1);
+    n[0][COUNT] = count.saturating_add(1);
     n[0][UNDO_ALLOWED] = 1;
     n[0][UNDO_STREAM] = stream;
     n[0][UNDO_NEXT] = free;
@@ -87,7 +87,7 @@ pub(crate) fn record_event(m: &mut Words, stream: usize, time: u64)
     ensures { UpdatesOpen m.old (λ h. recorded_on h stream time) m.new }
 {
     let free = free_at(m, stream);
-    put_free(m, stream, plus(time, 1));
+    put_free(m, stream, time.saturating_add(1));
     record_step(&mut m[NUMBERS], stream as u64, free, time);
 }
 
@@ -117,7 +117,7 @@ pub(crate) fn restore_counters(n: &mut [[u64; 64]; 2])
     let closed = n[0][UNDO_CLOSED];
     n[0][CLOCK] = clock;
     n[0][COUNT] = count;
-    n[0][OPEN] = minus(1, closed);
+    n[0][OPEN] = 1u64.saturating_sub(closed);
     n[0][SOONEST] = 0;
     n[0][FULL] = ALL_ROWS;
     n[0][UNDO_ALLOWED] = 0;

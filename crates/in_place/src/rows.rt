@@ -1,6 +1,5 @@
 // Loops over the rows of a lent monitor: the rows of a kind after an event, and all rows after the clock, the close and a withdrawal.
-ghost use Rattle.std.specs.Prelude.{◌+◌, ◌-◌, ◌<◌, ◌≤◌, ◌^◌, ◌≡◌};
-ghost use Rattle.std.specs.Int.Bits.{bit_and};
+ghost use Rattle.std.specs.Prelude.{◌<◌, ◌≤◌, ◌≡◌};
 ghost use Rattle.row.specs.Machine.{event_at};
 ghost use Rattle.in_place.specs.Layout.{Lent, words_of_lent, Shaped, rows_in};
 ghost use Rattle.in_place.specs.Steps.{Updates, Computes, full_marked, dispatched, kind_applied, clock_applied, crowded, rows_undone};
@@ -9,7 +8,6 @@ ghost use Rattle.in_place.specs.Steps.{soonest_of, soonest_of_four, up_to_four};
 use crate::{COUNT, FULL, NUMBERS, SOONEST, Words};
 use constraint::NO_LIMIT;
 use row::{StepInput, stored};
-use row_type::parts::smaller;
 use row_type::row_words::{DUE, LEN};
 
 // A row with at most as many waiting has room for two more words.
@@ -18,13 +16,13 @@ const NEARLY_FULL: u64 = 62;
 // A set of rows is a number below it: the remainder of a word is one, whatever the word says.
 pub(crate) const SETS: u64 = 4294967296;
 
-// Marks row i, the lowest of a set, as nearly full if it is.
-fn mark_full(m: &mut Words, i: usize, left: u32)
-    requires { (i < 32) × (0 < left) × (left ≡ bit_and left (left - 1) + 2 ^ i) }
+// Marks row i as nearly full if it is.
+fn mark_full(m: &mut Words, i: usize)
+    requires { i < 32 }
     ensures { Updates m.old (λ h. full_marked h i) m.new }
 {
     if NEARLY_FULL < m[i][1][LEN] {
-        m[NUMBERS][0][FULL] = m[NUMBERS][0][FULL] | (left - (left & (left - 1))) as u64;
+        m[NUMBERS][0][FULL] |= 1 << i;
     }
 }
 
@@ -34,12 +32,13 @@ fn dispatch_rows(m: &mut Words, rows: u32, stream: u64, t: u64, number: u64)
 {
     let mut soonest = m[NUMBERS][0][SOONEST];
     let mut left = rows;
+    // No plainer as a `for`: an iterator over the rows of a set would be longer than its two loops, here and in `rows_overflow`.
     while 0 < left {
-        let i = u32::trailing_zeros(left) as usize;
+        let i = left.trailing_zeros() as usize;
         stored::event(&mut m[i], stream, t, number);
-        soonest = smaller(soonest, m[i][1][DUE]);
-        mark_full(m, i, left);
-        left = left & (left - 1);
+        soonest = soonest.min(m[i][1][DUE]);
+        mark_full(m, i);
+        left &= left - 1;
     }
     m[NUMBERS][0][SOONEST] = soonest;
 }
@@ -59,12 +58,13 @@ pub(crate) fn rows_overflow(m: &Words, rows: u32, stream: u64, t: u64) -> bool
     ensures { (h : Lent) → m.now ≡ words_of_lent h → Shaped h → result ≡ crowded h (rows_in rows) stream t }
 {
     let mut left = rows;
+    // No plainer as a `for`: see `dispatch_rows`.
     while 0 < left {
-        let i = u32::trailing_zeros(left) as usize;
+        let i = left.trailing_zeros() as usize;
         if stored::event_overflows(&m[i], stream, t) {
             return true;
         }
-        left = left & (left - 1);
+        left &= left - 1;
     }
     false
 }
@@ -74,9 +74,9 @@ fn soonest_of_four(m: &Words, i: usize) -> u64
     requires { i ≤ 28 }
     ensures { Computes m.now (λ h. soonest_of_four h.monitor.rows i) result }
 {
-    let one = smaller(m[i][1][DUE], m[i + 1][1][DUE]);
-    let two = smaller(m[i + 2][1][DUE], m[i + 3][1][DUE]);
-    smaller(one, two)
+    let one = m[i][1][DUE].min(m[i + 1][1][DUE]);
+    let two = m[i + 2][1][DUE].min(m[i + 3][1][DUE]);
+    one.min(two)
 }
 
 // Returns the earliest deadline of the first n rows, and of those up to the next place that four divides.
@@ -85,10 +85,8 @@ pub(crate) fn soonest(m: &Words, n: usize) -> u64
     ensures { Computes m.now (λ h. soonest_of h.monitor.rows (up_to_four n)) result }
 {
     let mut time = NO_LIMIT;
-    let mut i = 0;
-    while i < n {
-        time = smaller(time, soonest_of_four(m, i));
-        i += 4;
+    for i in 0..n.div_ceil(4) {
+        time = time.min(soonest_of_four(m, 4 * i));
     }
     time
 }
@@ -98,10 +96,8 @@ pub(crate) fn apply_clock_all(m: &mut Words, n: usize, o: StepInput, number: u64
     requires { n ≤ 32 }
     ensures { Updates m.old (λ h. clock_applied h n o number) m.new }
 {
-    let mut i = 0;
-    while i < n {
+    for i in 0..n {
         stored::apply_clock(&mut m[i], o, number);
-        i += 1;
     }
 }
 
@@ -110,9 +106,7 @@ pub(crate) fn undo_rows(m: &mut Words, n: usize, number: u64)
     requires { n ≤ 32 }
     ensures { Updates m.old (λ h. rows_undone h n number) m.new }
 {
-    let mut i = 0;
-    while i < n {
+    for i in 0..n {
         stored::undo_step(&mut m[i], number);
-        i += 1;
     }
 }

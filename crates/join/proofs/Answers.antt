@@ -1,48 +1,54 @@
 -- The answer is put together in the order of the questions: the first recording's, the second's, 20 and 16.
-use Rattle.join.proofs.Names.{AnswersJoin, Found, JoinAnswer, List, NoneInCommon, Passed, Passes, ReadsInOrder, Records, Step, Walked, Walks}
+use Rattle.std.specs.Prelude.{Option, Some, None, Ok}
+use Rattle.std.specs.Option.{ok_or}
+use Rattle.constraint.specs.LongAnswers.{joined_of}
+use Rattle.constraint.specs.declared.JoinRefusal.TheVariants.{TooShort}
+use Rattle.join.proofs.Names.{recording_refused}
+use Rattle.join.proofs.Names.{AnswersJoin, Found, JoinAnswer, List, NoneInCommon, Passed, Passes, ReadsInOrder, Records, Step, Walks}
 use Rattle.join.proofs.Names.{◌<◌, ◌∙◌, ◌≡◌, arith, both, false, in_common, joined_bytes, kinds_of, length, no_first, no_second, recording_of}
-use Rattle.join.proofs.Names.{replicate, split, stores_front, subst, sym, too_short, true, written, ℕ, ⊎_elim}
+use Rattle.join.proofs.Names.{replicate, stores_front, subst, sym, too_short, true, written, ℕ}
 use Rattle.join.proofs.Names.{Bool, Decides, OutgrowsIn}
 use Rattle.join.proofs.Records.{whole}
 
-module _ (one two before : List ℕ) (p : Passed) (IsFirst-passes : Passes one (replicate 64 0) p) where
-  pub answer_first : 0 < p.number → AnswersJoin one two before (JoinAnswer.FirstRefused p.number p.place) before
-  answer_first h = no_first p.number p.place (IsFirst-passes.refused h)
+module _ (one two before : List ℕ) where
+  pub answer_first : (n place : ℕ) → ReadsInOrder one (recording_refused n place)
+      → AnswersJoin one two before (JoinAnswer.FirstRefused n place) before
+  answer_first n place refused = no_first n place refused
 
-  module _ (first_taken : p.number ≡ 0) (q : Passed) (second_passes : Passes two p.kinds q) where
+  module _ (p : Passed) (first_passes : Passes one (replicate 64 false) (Ok p)) where
     first : List Step
-    first = (IsFirst-passes.taken first_taken).0
+    first = first_passes.0
 
     first_read : ReadsInOrder one (recording_of first)
     unfolding first
-    first_read = (IsFirst-passes.taken first_taken).1
+    first_read = first_passes.1
 
-    pub answer_second : 0 < q.number → AnswersJoin one two before (JoinAnswer.SecondRefused q.number q.place) before
-    answer_second h = no_second first q.number q.place first_read (second_passes.refused h)
+    pub answer_second : (n place : ℕ) → ReadsInOrder two (recording_refused n place)
+        → AnswersJoin one two before (JoinAnswer.SecondRefused n place) before
+    answer_second n place refused = no_second first n place first_read refused
 
-    module _ (second_taken : q.number ≡ 0) where
+    module _ (q : Passed) (second_passes : Passes two p.kinds (Ok q)) where
       second : List Step
-      second = (second_passes.taken second_taken).0
+      second = second_passes.0
 
       second_read : ReadsInOrder two (recording_of second)
       unfolding second
-      second_read = (second_passes.taken second_taken).1
+      second_read = second_passes.1
 
       found : Found (kinds_of first) two second q.common
       unfolding first second
-      found = (second_passes.taken second_taken).3 (kinds_of first) (IsFirst-passes.taken first_taken).2
+      found = second_passes.3 (kinds_of first) first_passes.2
 
-      pub answer_common : 0 < q.common → AnswersJoin one two before (JoinAnswer.SecondRefused 20 q.common) before
+      pub answer_common : (place : ℕ) → q.common ≡ Some place → AnswersJoin one two before (JoinAnswer.SecondRefused 20 place) before
       unfolding NoneInCommon
-      answer_common h =
-          ⊎_elim (λ none. absurd (omega (arith, none.0, h)))
-          (λ hit. in_common first second q.common first_read second_read
-          (λ apart. both (sym hit.2.2 ∙ apart hit.2.0 hit.2.1)) hit.1) found
+      answer_common place is =
+          let hit = subst (Found (kinds_of first) two second) is found in
+          in_common first second place first_read second_read (λ apart. both (sym hit.1.2 ∙ apart hit.1.0 hit.1.1)) hit.0
 
-      module _ (Free-of : q.common ≡ 0) where
+      module _ (free : q.common ≡ None) where
         apart : NoneInCommon first second
         unfolding NoneInCommon
-        apart = ⊎_elim (λ none. none.1) (λ hit. absurd (omega (arith, hit.0, Free-of))) found
+        apart = subst (Found (kinds_of first) two second) free found
 
         first_records : Records one 1 first
         first_records = (whole one first first_read).records
@@ -58,14 +64,14 @@ module _ (one two before : List ℕ) (p : Passed) (IsFirst-passes : Passes one (
           answer_short e = too_short first second first_read second_read apart
               (subst (Decides (length before < length (joined_bytes one two first second))) e is_long)
 
-          pub answer_written : long ≡ false → (w : Walked) (end : List ℕ) → Walks one two before (length before) w end
-              → AnswersJoin one two before (JoinAnswer.Joined w.size) end
-          answer_written e w end walks =
-              let fits = subst (Decides (length before < length (joined_bytes one two first second))) e is_long in
-              split w.fits (λ x. AnswersJoin one two before (JoinAnswer.Joined w.size) end)
-              (λ t. let (size, room, stored) = walks.fits t first second first_records second_records in
-              subst (λ (n : ℕ). AnswersJoin one two before (JoinAnswer.Joined n) end) (sym size)
+          pub answer_written : long ≡ false → (r : Option ℕ) (end : List ℕ) → Walks one two before (length before) r end
+              → AnswersJoin one two before (joined_of (ok_or r TooShort)) end
+          answer_written e (Some size) end walks =
+              let (size_is, room, stored) = walks first second first_records second_records in
+              subst (λ (n : ℕ). AnswersJoin one two before (JoinAnswer.Joined n) end) (sym size_is)
               (subst (AnswersJoin one two before (JoinAnswer.Joined (length (joined_bytes one two first second))))
-              (sym (stored (omega arith) ∙ stores_front before (joined_bytes one two first second) (omega (arith, size, room))))
-              (written first second first_read second_read apart (omega (arith, size, room)))))
-              (λ f. absurd (fits (walks.short f first second first_records second_records)))
+              (sym (stored (omega arith) ∙ stores_front before (joined_bytes one two first second) (omega (arith, size_is, room))))
+              (written first second first_read second_read apart (omega (arith, size_is, room))))
+          answer_written e None end walks =
+              absurd (subst (Decides (length before < length (joined_bytes one two first second))) e is_long
+              (walks first second first_records second_records))

@@ -1,7 +1,8 @@
 -- A joined recording is never longer than both recordings together: each record keeps its bytes or is dropped.
-use Rattle.join.proofs.Names.{List, Records, Step, [], ◌+◌, ◌-◌, ◌<◌, ◌≤◌, ◌≡◌, ◌∷◌, ap, arith, body_at, call_bytes, call_of, cond}
+use Rattle.std.specs.Prelude.{Option, Some, None, is_some}
+use Rattle.join.proofs.Names.{List, Records, Step, [], ◌+◌, ◌-◌, ◌≤◌, ◌≡◌, ◌∷◌, ap, arith, body_at, call_bytes, call_of, cond}
 use Rattle.join.proofs.Names.{bytes_of, eqb, eqb-true, is_dropped, joined_bytes, leb, length, length-append, length-take-le, length_at}
-use Rattle.join.proofs.Names.{Decides, OutgrowsIn, Walked, Walks, not, refl}
+use Rattle.join.proofs.Names.{Bool, OutgrowsIn, Walks, both, false, not, sym, true}
 use Rattle.join.proofs.Names.{Call, at, call_at, colour_in, number_at, step_for}
 use Rattle.join.proofs.Names.{merged, more, none, split, step_bytes, steps_bytes, drop, length-drop, time_of, undropped, ℕ}
 
@@ -76,9 +77,10 @@ joined_size one two first second records others =
     omega (arith, undropped_size 0 (merged first second), merged_size first second, records_size one records, records_size two others)
 
 -- what the walk measures says whether the joined recording is longer than the limit
-pub measured_decides : (one two before : List ℕ) (limit : ℕ) (r : Walked) (after : List ℕ) → Walks one two before limit r after
-    → OutgrowsIn one two limit (not r.fits)
-measured_decides one two before limit r after walks first second records others =
-    split r.fits (λ x. r.fits ≡ x → Decides (limit < length (joined_bytes one two first second)) (not x))
-    (λ e f h. let measured = walks.fits f first second records others in omega (arith, measured.0, measured.1, h))
-    (λ e f. walks.short f first second records others) refl
+pub measured_decides : (one two before : List ℕ) (limit : ℕ) (r : Option ℕ) (after : List ℕ) → Walks one two before limit r after
+    → (long : Bool) → is_some r ≡ not long → OutgrowsIn one two limit long
+measured_decides one two before limit (Some found) after walks true e = both e
+measured_decides one two before limit (Some found) after walks false e = λ first second records others h.
+    let measured = walks first second records others in omega (arith, measured.0, measured.1, h)
+measured_decides one two before limit None after walks true e = walks
+measured_decides one two before limit None after walks false e = both (sym e)

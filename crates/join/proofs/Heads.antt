@@ -1,13 +1,17 @@
 -- A head says what its record says: how many bytes it has, whether it is kept, and what is stored.
-use Rattle.join.proofs.Names.{Call, CallAt, Head, HeadAt, Keeps, Kept, List, RecordSize, [], ◌%◌, ◌*◌, ◌++◌, ◌+◌, ◌-◌, ◌/◌, ◌<◌, ◌^◌, ◌∙◌}
+use Rattle.std.specs.Prelude.{Ok}
+use Rattle.std.specs.Int.{to_be_bytes, w64}
+use borrow.Rule.Slice.PartMut.{put_mid}
+use Rattle.constraint.proofs.Library.{append_assoc, drop-drop, sets-eq, take}
+use Rattle.join.proofs.Names.{Call, CallAt, Head, HeadAt, KeepsWithin, Part, List, RecordSize, [], ◌++◌, ◌+◌, ◌-◌, ◌<◌, ◌∙◌}
 use Rattle.join.proofs.Names.{◌∷◌}
 use Rattle.join.proofs.Names.{◌≡◌, ◌≤◌, ap, arith, at, body_at, both, bytes_of, call_bytes, call_of, colour_in, cond, div-one, drop, eqb}
 use Rattle.join.proofs.Names.{eqb-false}
-use Rattle.join.proofs.Names.{eqb-true, false, get_or, head_bytes, head_for, head_front, is_dropped, is_kept, le-leb, le-ltb, leb, leb-false}
+use Rattle.join.proofs.Names.{eqb-true, head_bytes, head_for, head_front, is_dropped, is_kept, le-leb, le-ltb, leb, leb-false}
 use Rattle.join.proofs.Names.{leb-true}
 use Rattle.join.proofs.Names.{left_bytes, left_clock, length, length-drop, length-set, length-take-le, length_at, lt-leb, lt-ltb, ltb, not}
 use Rattle.join.proofs.Names.{number_at, refl, set}
-use Rattle.join.proofs.Names.{sets, shifted_down, split, step_for, stores_append, subst, sym, time_of, true, ℕ}
+use Rattle.join.proofs.Names.{sets, split, step_for, stores_append, subst, sym, time_of, true, ℕ}
 
 -- ---- a record
 
@@ -42,13 +46,8 @@ call_next bytes place call next read =
       omega (arith, read.next_read, read.there.0.1),
     )
 
-pub tick_head : (bytes : List ℕ) (place t : ℕ) → CallAt bytes place (Call.Tick t) (place + 10)
-    → HeadAt bytes place (record { size = 10; time = t; kind = 0; colour = 0 })
-tick_head bytes place t read = (
-  record { number = 0; call = Call.Tick t; next = place + 10 },
-  record { whole = λ e. read; none = λ more. absurd (omega (arith, more)) },
-  refl,
-)
+pub tick_head : (bytes : List ℕ) (place t : ℕ) → CallAt bytes place (Call.Tick t) (place + 10) → HeadAt bytes place (head_for (Call.Tick t))
+tick_head bytes place t read = (Ok (record { call = Call.Tick t; next = place + 10 }), read, refl)
 
 pub whole_size : (call : Call) → 0 < (head_for call).size → RecordSize (head_for call)
 whole_size (Call.Event k t) h = (omega arith, omega arith)
@@ -88,29 +87,28 @@ kept_as now (Call.ColouredEvent k c t) h = refl
 kept_as now (Call.Tick t) h = later_tick now t
 kept_as now Call.Close h = absurd (omega (arith, h))
 
-pub keeps_within : (before : List ℕ) (size limit now : ℕ) (h : Head) (r : Kept) (after : List ℕ) → Keeps before size limit now h r after
-    → size ≤ limit → r.fits ≡ true → r.size ≤ limit
-keeps_within before size limit now h r after keeps room fits =
-    split (is_kept now h) (λ x. r.size ≤ limit) (λ e. (keeps.kept fits e).1) (λ e. omega (arith, (keeps.dropped fits e).0, room))
+pub keeps_within : (before : List ℕ) (size limit now : ℕ) (h : Head) (r : Part) (after : List ℕ) → KeepsWithin before size limit now h r after
+    → size ≤ limit → r.size ≤ limit
+keeps_within before size limit now h r after keeps room =
+    split (is_kept now h) (λ x. r.size ≤ limit) (λ e. (keeps.kept e).1) (λ e. omega (arith, (keeps.dropped e).0, room))
 
-module _ (before : List ℕ) (size limit now : ℕ) (call : Call) (r : Kept) (after : List ℕ)
-    (keeps : Keeps before size limit now (head_for call) r after) (there : 0 < (head_for call).size) where
-  pub keeps_left : r.fits ≡ true → (r.size ≡ size + length (left_bytes now call)) × (r.clock ≡ left_clock now call)
+module _ (before : List ℕ) (size limit now : ℕ) (call : Call) (there : 0 < (head_for call).size) where
+  pub keeps_left : (r : Part) (after : List ℕ) → KeepsWithin before size limit now (head_for call) r after
+      → (r.size ≡ size + length (left_bytes now call)) × (r.clock ≡ left_clock now call)
       × (limit ≤ length before → after ≡ sets before size (left_bytes now call))
-  keeps_left fits =
+  keeps_left r after keeps =
       split (is_dropped now (step_for call))
       (λ x. (r.size ≡ size + length (cond x [] (call_bytes call))) × (r.clock ≡ cond x now (time_of (step_for call)))
       × (limit ≤ length before → after ≡ sets before size (cond x [] (call_bytes call))))
-      (λ e. let g = keeps.dropped fits (kept_as now call there ∙ ap not e) in (omega (arith, g.0), g.1, λ room. g.2))
-      (λ e. let g = keeps.kept fits (kept_as now call there ∙ ap not e) in (
+      (λ e. let g = keeps.dropped (kept_as now call there ∙ ap not e) in (omega (arith, g.0), g.1, λ room. g.2))
+      (λ e. let g = keeps.kept (kept_as now call there ∙ ap not e) in (
         g.0 ∙ ap (λ (n : ℕ). size + n) (size_is call),
         g.2 ∙ time_is call there,
         λ room. g.3 room ∙ ap (λ (l : List ℕ). sets before size l) (bytes_are call there),
       ))
 
-  pub keeps_short : r.fits ≡ false → limit < size + length (left_bytes now call)
-  keeps_short fits =
-      let g = keeps.short fits in
+  pub keeps_short : (is_kept now (head_for call) ≡ true) × (limit < size + (head_for call).size) → limit < size + length (left_bytes now call)
+  keeps_short g =
       split (is_dropped now (step_for call)) (λ x. limit < size + length (cond x [] (call_bytes call)))
       (λ e. both (sym g.0 ∙ kept_as now call there ∙ ap not e)) (λ e. omega (arith, g.1, size_is call))
 
@@ -123,6 +121,15 @@ pub stored_behind : (buffer one two : List ℕ) (place n : ℕ) (front back : Li
 stored_behind buffer one two place n front back size first second =
     second ∙ ap (λ (l : List ℕ). sets l (place + n) back) first
     ∙ sym (stores_append buffer place front back ∙ ap (λ (k : ℕ). sets (sets buffer place front) (place + k) back) size)
+
+-- the eight bytes of a number, in the place of those that are there
+pub eight_stored : (l ys : List ℕ) (p x : ℕ) → p + 8 ≤ length l → ys ≡ to_be_bytes w64 x → put_mid p (p + 8 - p) l ys ≡ sets l p (bytes_of 8 x)
+unfolding bytes_of
+eight_stored l ys p x room is =
+    let eight : p + 8 - p ≡ 8 = omega arith in
+    let same : to_be_bytes w64 x ≡ bytes_of 8 x = rw div-one refl in
+    rw (eight, is ∙ same, drop-drop 8 p l)
+    (sym (append_assoc (take p l) (bytes_of 8 x) (drop (p + 8) l)) ∙ sym (sets-eq (bytes_of 8 x) l p (omega (arith, room))))
 
 -- bytes stored one by one
 module _ (l : List ℕ) (p : ℕ) where
@@ -138,18 +145,6 @@ module _ (l : List ℕ) (p : ℕ) where
   abbrev pub put_four : ℕ → ℕ → ℕ → ℕ → List ℕ
   put_four a b c d = set (put_three a b c) (p + 3) d
 
-  abbrev pub put_five : ℕ → ℕ → ℕ → ℕ → ℕ → List ℕ
-  put_five a b c d e = set (put_four a b c d) (p + 4) e
-
-  abbrev pub put_six : ℕ → ℕ → ℕ → ℕ → ℕ → ℕ → List ℕ
-  put_six a b c d e f = set (put_five a b c d e) (p + 5) f
-
-  abbrev pub put_seven : ℕ → ℕ → ℕ → ℕ → ℕ → ℕ → ℕ → List ℕ
-  put_seven a b c d e f g = set (put_six a b c d e f) (p + 6) g
-
-  abbrev pub put_eight : ℕ → ℕ → ℕ → ℕ → ℕ → ℕ → ℕ → ℕ → List ℕ
-  put_eight a b c d e f g h = set (put_seven a b c d e f g) (p + 7) h
-
   pub long_one : (a : ℕ) → length (put_one a) ≡ length l
   long_one a = length-set l p a
 
@@ -158,21 +153,6 @@ module _ (l : List ℕ) (p : ℕ) where
 
   pub long_three : (a b c : ℕ) → length (put_three a b c) ≡ length l
   long_three a b c = length-set (put_two a b) (p + 2) c ∙ long_two a b
-
-  pub long_four : (a b c d : ℕ) → length (put_four a b c d) ≡ length l
-  long_four a b c d = length-set (put_three a b c) (p + 3) d ∙ long_three a b c
-
-  pub long_five : (a b c d e : ℕ) → length (put_five a b c d e) ≡ length l
-  long_five a b c d e = length-set (put_four a b c d) (p + 4) e ∙ long_four a b c d
-
-  pub long_six : (a b c d e f : ℕ) → length (put_six a b c d e f) ≡ length l
-  long_six a b c d e f = length-set (put_five a b c d e) (p + 5) f ∙ long_five a b c d e
-
-  pub long_seven : (a b c d e f g : ℕ) → length (put_seven a b c d e f g) ≡ length l
-  long_seven a b c d e f g = length-set (put_six a b c d e f) (p + 6) g ∙ long_six a b c d e f
-
-  pub long_eight : (a b c d e f g h : ℕ) → length (put_eight a b c d e f g h) ≡ length l
-  long_eight a b c d e f g h = length-set (put_seven a b c d e f g) (p + 7) h ∙ long_seven a b c d e f g
 
   stored_two : (a b : ℕ) → put_two a b ≡ sets l p (a ∷ b ∷ [])
   stored_two a b =
@@ -185,41 +165,6 @@ module _ (l : List ℕ) (p : ℕ) where
   stored_four : (a b c d : ℕ) → put_four a b c d ≡ sets l p (a ∷ b ∷ c ∷ d ∷ [])
   stored_four a b c d =
       stored_behind l (put_three a b c) (put_four a b c d) p 3 (a ∷ b ∷ c ∷ []) (d ∷ []) refl (stored_three a b c) refl
-
-  stored_five : (a b c d e : ℕ) → put_five a b c d e ≡ sets l p (a ∷ b ∷ c ∷ d ∷ e ∷ [])
-  stored_five a b c d e =
-      stored_behind l (put_four a b c d) (put_five a b c d e) p 4 (a ∷ b ∷ c ∷ d ∷ []) (e ∷ []) refl (stored_four a b c d) refl
-
-  stored_six : (a b c d e f : ℕ) → put_six a b c d e f ≡ sets l p (a ∷ b ∷ c ∷ d ∷ e ∷ f ∷ [])
-  stored_six a b c d e f =
-      stored_behind l (put_five a b c d e) (put_six a b c d e f) p 5 (a ∷ b ∷ c ∷ d ∷ e ∷ []) (f ∷ []) refl (stored_five a b c d e) refl
-
-  stored_seven : (a b c d e f g : ℕ) → put_seven a b c d e f g ≡ sets l p (a ∷ b ∷ c ∷ d ∷ e ∷ f ∷ g ∷ [])
-  stored_seven a b c d e f g =
-      stored_behind l (put_six a b c d e f) (put_seven a b c d e f g) p 6 (a ∷ b ∷ c ∷ d ∷ e ∷ f ∷ []) (g ∷ []) refl (stored_six a b c d e f) refl
-
-  stored_eight : (a b c d e f g h : ℕ) → put_eight a b c d e f g h ≡ sets l p (a ∷ b ∷ c ∷ d ∷ e ∷ f ∷ g ∷ h ∷ [])
-  stored_eight a b c d e f g h =
-      stored_behind l (put_seven a b c d e f g) (put_eight a b c d e f g h) p 7 (a ∷ b ∷ c ∷ d ∷ e ∷ f ∷ g ∷ []) (h ∷ []) refl
-      (stored_seven a b c d e f g) refl
-
--- a byte that is cut out by a shift
-cut : (k x byte : ℕ) → byte ∷ [] ≡ bytes_of 1 (x / 2 ^ (8 * k)) → byte ≡ x / 256 ^ k % 256
-unfolding bytes_of
-cut k x byte e = rw (ap (λ (bytes : List ℕ). get_or bytes 0 0) e, div-one, shifted_down k x)
-
-cut_last : (x byte : ℕ) → byte ∷ [] ≡ bytes_of 1 x → byte ≡ x / 256 ^ 0 % 256
-unfolding bytes_of
-cut_last x byte e = ap (λ (bytes : List ℕ). get_or bytes 0 0) e
-
-pub eight_bytes : (l : List ℕ) (p x a b c d e f g h : ℕ) → a ∷ [] ≡ bytes_of 1 (x / 2 ^ 56) → b ∷ [] ≡ bytes_of 1 (x / 2 ^ 48)
-    → c ∷ [] ≡ bytes_of 1 (x / 2 ^ 40) → d ∷ [] ≡ bytes_of 1 (x / 2 ^ 32) → e ∷ [] ≡ bytes_of 1 (x / 2 ^ 24) → f ∷ [] ≡ bytes_of 1 (x / 2 ^ 16)
-    → g ∷ [] ≡ bytes_of 1 (x / 2 ^ 8) → h ∷ [] ≡ bytes_of 1 x
-    → put_eight l p a b c d e f g h ≡ sets l p (bytes_of 8 x)
-unfolding bytes_of
-eight_bytes l p x a b c d e f g h ae be ce de ee fe ge he =
-    stored_eight l p a b c d e f g h
-    ∙ rw (cut 7 x a ae, cut 6 x b be, cut 5 x c ce, cut 4 x d de, cut 3 x e ee, cut 2 x f fe, cut 1 x g ge, cut_last x h he) refl
 
 module _ (l : List ℕ) (p : ℕ) (h : Head) where
   pub front_tick : h.size ≤ 10 → put_two l p 0 (h.size - 2) ≡ sets l p (head_front h)

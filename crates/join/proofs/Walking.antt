@@ -1,10 +1,12 @@
 -- Each turn of the walk takes the record that stands next in the merged list; what is left of it is stored behind what is left of those before it.
-use Rattle.join.proofs.Names.{Behind, Bool, Call, CallAt, CallRead, Head, HeadAt, Keeps, Kept, List, Next, Nexts, ReadsCall, RecordSize}
-use Rattle.join.proofs.Names.{Records, Step}
-use Rattle.join.proofs.Names.{[], ◌++◌, ◌+◌, ◌-◌, ◌<◌, ◌∙◌, ◌∷◌, ◌≡◌, ◌≤◌, ap, append_assoc, append-nil, arith, call_bytes, cond, eqb}
-use Rattle.join.proofs.Names.{eqb-false}
-use Rattle.join.proofs.Names.{eqb-true, false, head_for, is_dropped, joined, joined_bytes, last_time, le-leb, leb, left_bytes, left_clock, length}
-use Rattle.join.proofs.Names.{length-append, lt-leb, merged, more, no_record_read, none, refl, sets, split, step_bytes, step_for, steps_bytes}
+use Rattle.std.specs.Prelude.{Result, Ok, Err}
+use Rattle.constraint.specs.Recording.{RecordAt}
+use Rattle.join.proofs.Names.{both}
+use Rattle.join.proofs.Names.{Behind, Bool, Call, CallAt, CallRead, Head, HeadAt, KeepsWithin, List, Next, Nexts, ReadsCall, RecordSize}
+use Rattle.join.proofs.Names.{Part, Records, Refusal, Step, call_read, is_kept}
+use Rattle.join.proofs.Names.{[], ◌++◌, ◌+◌, ◌-◌, ◌<◌, ◌∙◌, ◌∷◌, ◌≡◌, ◌≤◌, ap, append_assoc, append-nil, arith, call_bytes, cond}
+use Rattle.join.proofs.Names.{false, head_for, is_dropped, joined, joined_bytes, last_time, le-leb, leb, left_bytes, left_clock, length}
+use Rattle.join.proofs.Names.{length-append, lt-leb, merged, more, none, refl, sets, split, step_bytes, step_for, steps_bytes}
 use Rattle.join.proofs.Names.{subst, sym, time_of, true, undropped, ℕ}
 use Rattle.join.proofs.{Bytes.bytes_append, Heads.call_next, Heads.keeps_left, Heads.keeps_short, Heads.stored_behind, Heads.time_is}
 use Rattle.join.proofs.{Heads.whole_size}
@@ -12,20 +14,39 @@ use Rattle.join.proofs.{Heads.whole_size}
 -- ---- the record at a place
 
 -- whether one was read
-abbrev pub is_read : CallRead → Bool
-is_read r = eqb r.number 0
+abbrev pub is_read : Result CallRead Refusal → Bool
+is_read (Ok r) = true
+is_read (Err refusal) = false
 
-module _ (bytes : List ℕ) (place : ℕ) (r : CallRead) (reads : ReadsCall bytes place r) where
-  found : is_read r ≡ true → CallAt bytes place r.call r.next
-  found e = reads.whole (eqb-true r.number 0 e)
+-- the place behind it
+abbrev next_of : Result CallRead Refusal → ℕ
+next_of (Ok r) = r.next
+next_of (Err refusal) = 0
+
+found_lem : (bytes : List ℕ) (place : ℕ) (r : Result CallRead Refusal) → ReadsCall bytes place r → is_read r ≡ true
+    → CallAt bytes place (call_read r) (next_of r)
+found_lem bytes place (Ok r) read e = read
+found_lem bytes place (Err refusal) refused e = both (sym e)
+
+unread_lem : (bytes : List ℕ) (place : ℕ) (r : Result CallRead Refusal) → ReadsCall bytes place r → is_read r ≡ false
+    → (¬ RecordAt bytes place) × (call_read r ≡ Call.Close)
+unread_lem bytes place (Ok r) read e = both e
+unread_lem bytes place (Err refusal) refused e = (refused.0, refl)
+
+module _ (bytes : List ℕ) (place : ℕ) (r : Result CallRead Refusal) (reads : ReadsCall bytes place r) where
+  found : is_read r ≡ true → CallAt bytes place (call_read r) (next_of r)
+  found = found_lem bytes place r reads
+
+  unread : is_read r ≡ false → (¬ RecordAt bytes place) × (call_read r ≡ Call.Close)
+  unread = unread_lem bytes place r reads
 
   -- where there is one, it is the first of the records from there on
   record First (steps : List Step) : Type 0 where
     pub rest : List Step
-    pub is : steps ≡ step_for r.call ∷ rest
-    pub records : Records bytes r.next rest
-    pub same : call_bytes r.call ≡ step_bytes (step_for r.call)
-    pub soon : time_of (step_for r.call) ≤ last_time
+    pub is : steps ≡ step_for (call_read r) ∷ rest
+    pub records : Records bytes (next_of r) rest
+    pub same : call_bytes (call_read r) ≡ step_bytes (step_for (call_read r))
+    pub soon : time_of (step_for (call_read r)) ≤ last_time
 
   head_first : (steps : List Step) → is_read r ≡ true → Records bytes place steps → First steps
   head_first steps e (none end) = absurd (omega (arith, (found e).there.0.0, end))
@@ -40,31 +61,29 @@ module _ (bytes : List ℕ) (place : ℕ) (r : CallRead) (reads : ReadsCall byte
 
   head_ends : (steps : List Step) → is_read r ≡ false → Records bytes place steps → steps ≡ []
   head_ends steps e (none end) = refl
-  head_ends steps e (more there whole same soon records) = absurd ((reads.none (omega (arith, eqb-false r.number 0 e))).0 whole)
+  head_ends steps e (more there whole same soon records) = absurd ((unread e).0 whole)
 
   -- its head says how many bytes it has, and that there is none where none was read
-  head_next : is_read r ≡ true → (r.next ≡ place + (head_for r.call).size) × RecordSize (head_for r.call) × (r.next ≤ length bytes)
-  head_next e = call_next bytes place r.call r.next (found e)
+  head_next : is_read r ≡ true
+      → (next_of r ≡ place + (head_for (call_read r)).size) × RecordSize (head_for (call_read r)) × (next_of r ≤ length bytes)
+  head_next e = call_next bytes place (call_read r) (next_of r) (found e)
 
-  unread : is_read r ≡ false → r ≡ no_record_read
-  unread e = (reads.none (omega (arith, eqb-false r.number 0 e))).1
+  no_size : is_read r ≡ false → (head_for (call_read r)).size ≡ 0
+  no_size e = ap (λ (c : Call). (head_for c).size) (unread e).1
 
-  no_size : is_read r ≡ false → (head_for r.call).size ≡ 0
-  no_size e = ap (λ (x : CallRead). (head_for x.call).size) (unread e)
+  no_time : is_read r ≡ false → (head_for (call_read r)).time ≡ 18446744073709551615
+  no_time e = ap (λ (c : Call). (head_for c).time) (unread e).1
 
-  no_time : is_read r ≡ false → (head_for r.call).time ≡ 18446744073709551615
-  no_time e = ap (λ (x : CallRead). (head_for x.call).time) (unread e)
-
-  head_read : 0 < (head_for r.call).size → is_read r ≡ true
+  head_read : 0 < (head_for (call_read r)).size → is_read r ≡ true
   head_read h = split (is_read r) (λ x. x ≡ true) (λ e. refl) (λ e. absurd (omega (arith, h, no_size e)))
 
-  head_none : (head_for r.call).size ≡ 0 → is_read r ≡ false
+  head_none : (head_for (call_read r)).size ≡ 0 → is_read r ≡ false
   head_none h = split (is_read r) (λ x. x ≡ false) (λ e. absurd (omega (arith, h, (head_next e).1.0))) (λ e. refl)
 
-  head_time : is_read r ≡ true → (head_for r.call).time ≡ time_of (step_for r.call)
-  head_time e = time_is r.call (omega (arith, (head_next e).1.0))
+  head_time : is_read r ≡ true → (head_for (call_read r)).time ≡ time_of (step_for (call_read r))
+  head_time e = time_is (call_read r) (omega (arith, (head_next e).1.0))
 
-  head_less : is_read r ≡ true → length bytes - (place + (head_for r.call).size) < length bytes - place
+  head_less : is_read r ≡ true → length bytes - (place + (head_for (call_read r)).size) < length bytes - place
   head_less e = let next = head_next e in omega (arith, next.0, next.1.0, next.2)
 
 -- ---- the record that comes next
@@ -92,37 +111,38 @@ merged_other : (second : List Step) → merged [] second ≡ second
 unfolding merged
 merged_other second = refl
 
-module _ (one two : List ℕ) (place other : ℕ) (a b : CallRead) (heads : ReadsCall one place a) (others : ReadsCall two other b) where
-  module _ (there : is_read a ≡ true) (comes : is_read b ≡ true → leb (time_of (step_for a.call)) (time_of (step_for b.call)) ≡ true) where
-    taken_first : (rest second : List Step) → Records two other second → merged (step_for a.call ∷ rest) second ≡ step_for a.call
+module _ (one two : List ℕ) (place other : ℕ) (a b : Result CallRead Refusal) (heads : ReadsCall one place a) (others : ReadsCall two other b) where
+  module _ (there : is_read a ≡ true)
+      (comes : is_read b ≡ true → leb (time_of (step_for (call_read a))) (time_of (step_for (call_read b))) ≡ true) where
+    taken_first : (rest second : List Step) → Records two other second → merged (step_for (call_read a) ∷ rest) second ≡ step_for (call_read a)
         ∷ merged rest second
     taken_first rest second records =
-        split (is_read b) (λ x. merged (step_for a.call ∷ rest) second ≡ step_for a.call ∷ merged rest second)
+        split (is_read b) (λ x. merged (step_for (call_read a) ∷ rest) second ≡ step_for (call_read a) ∷ merged rest second)
         (λ e. let f = head_first two other b others second e records in
-        subst (λ (l : List Step). merged (step_for a.call ∷ rest) l ≡ step_for a.call ∷ merged rest l) (sym f.is)
-        (merged_first (step_for a.call) rest (step_for b.call) f.rest (comes e)))
-        (λ e. subst (λ (l : List Step). merged (step_for a.call ∷ rest) l ≡ step_for a.call ∷ merged rest l)
+        subst (λ (l : List Step). merged (step_for (call_read a) ∷ rest) l ≡ step_for (call_read a) ∷ merged rest l) (sym f.is)
+        (merged_first (step_for (call_read a)) rest (step_for (call_read b)) f.rest (comes e)))
+        (λ e. subst (λ (l : List Step). merged (step_for (call_read a) ∷ rest) l ≡ step_for (call_read a) ∷ merged rest l)
         (sym (head_ends two other b others second e records))
-        (merged_only (step_for a.call) rest))
+        (merged_only (step_for (call_read a)) rest))
 
-  module _ (comes : is_read a ≡ true → (is_read b ≡ true) × (leb (time_of (step_for a.call)) (time_of (step_for b.call)) ≡ false)) where
-    taken_second : (first rest : List Step) → Records one place first → merged first (step_for b.call ∷ rest) ≡ step_for b.call
+  module _ (comes : is_read a ≡ true → (is_read b ≡ true) × (leb (time_of (step_for (call_read a))) (time_of (step_for (call_read b))) ≡ false)) where
+    taken_second : (first rest : List Step) → Records one place first → merged first (step_for (call_read b) ∷ rest) ≡ step_for (call_read b)
         ∷ merged first rest
     taken_second first rest records =
-        split (is_read a) (λ x. merged first (step_for b.call ∷ rest) ≡ step_for b.call ∷ merged first rest)
+        split (is_read a) (λ x. merged first (step_for (call_read b) ∷ rest) ≡ step_for (call_read b) ∷ merged first rest)
         (λ e. let f = head_first one place a heads first e records in
-        subst (λ (l : List Step). merged l (step_for b.call ∷ rest) ≡ step_for b.call ∷ merged l rest) (sym f.is)
-        (merged_second (step_for a.call) f.rest (step_for b.call) rest (comes e).1))
-        (λ e. subst (λ (l : List Step). merged l (step_for b.call ∷ rest) ≡ step_for b.call ∷ merged l rest)
+        subst (λ (l : List Step). merged l (step_for (call_read b) ∷ rest) ≡ step_for (call_read b) ∷ merged l rest) (sym f.is)
+        (merged_second (step_for (call_read a)) f.rest (step_for (call_read b)) rest (comes e).1))
+        (λ e. subst (λ (l : List Step). merged l (step_for (call_read b) ∷ rest) ≡ step_for (call_read b) ∷ merged l rest)
         (sym (head_ends one place a heads first e records))
-        (merged_other (step_for b.call ∷ rest) ∙ ap (λ (l : List Step). step_for b.call ∷ l) (sym (merged_other rest))))
+        (merged_other (step_for (call_read b) ∷ rest) ∙ ap (λ (l : List Step). step_for (call_read b) ∷ l) (sym (merged_other rest))))
 
   -- §13.1
-  pub next_first : (head_for a.call).time ≤ (head_for b.call).time
-      → Nexts one two place other (record { head = head_for a.call; first = place + (head_for a.call).size; second = other })
+  pub next_first : (head_for (call_read a)).time ≤ (head_for (call_read b)).time
+      → Nexts one two place other (record { head = head_for (call_read a); first = place + (head_for (call_read a)).size; second = other })
   next_first in_order =
       record {
-        call = a.call;
+        call = call_read a;
         head_is = refl;
         there = λ h first second records more_records.
             let e = head_read one place a heads h in let f = head_first one place a heads first e records in
@@ -140,13 +160,13 @@ module _ (one two : List ℕ) (place other : ℕ) (a b : CallRead) (heads : Read
         less = λ h. omega (arith, head_less one place a heads (head_read one place a heads h));
       }
     where
-      comes : is_read a ≡ true → is_read b ≡ true → leb (time_of (step_for a.call)) (time_of (step_for b.call)) ≡ true
+      comes : is_read a ≡ true → is_read b ≡ true → leb (time_of (step_for (call_read a))) (time_of (step_for (call_read b))) ≡ true
       comes e t =
-          le-leb (time_of (step_for a.call)) (time_of (step_for b.call))
+          le-leb (time_of (step_for (call_read a))) (time_of (step_for (call_read b)))
           (omega (arith, in_order, head_time one place a heads e, head_time two other b others t))
 
       -- no record is as late as none
-      no_other : (head_for a.call).size ≡ 0 → (second : List Step) → Records two other second → is_read b ≡ false
+      no_other : (head_for (call_read a)).size ≡ 0 → (second : List Step) → Records two other second → is_read b ≡ false
       no_other h second records =
           split (is_read b) (λ x. x ≡ false)
           (λ t. absurd (omega (
@@ -159,11 +179,11 @@ module _ (one two : List ℕ) (place other : ℕ) (a b : CallRead) (heads : Read
           (λ t. refl)
 
   -- §13.1
-  pub next_second : (head_for b.call).time < (head_for a.call).time
-      → Nexts one two place other (record { head = head_for b.call; first = place; second = other + (head_for b.call).size })
+  pub next_second : (head_for (call_read b)).time < (head_for (call_read a)).time
+      → Nexts one two place other (record { head = head_for (call_read b); first = place; second = other + (head_for (call_read b)).size })
   next_second earlier =
       record {
-        call = b.call;
+        call = call_read b;
         head_is = refl;
         there = λ h first second records more_records.
             let t = head_read two other b others h in let f = head_first two other b others second t more_records in
@@ -179,13 +199,13 @@ module _ (one two : List ℕ) (place other : ℕ) (a b : CallRead) (heads : Read
         less = λ h. omega (arith, head_less two other b others (head_read two other b others h));
       }
     where
-      comes : is_read a ≡ true → is_read b ≡ true → leb (time_of (step_for a.call)) (time_of (step_for b.call)) ≡ false
+      comes : is_read a ≡ true → is_read b ≡ true → leb (time_of (step_for (call_read a))) (time_of (step_for (call_read b))) ≡ false
       comes e t =
-          lt-leb (time_of (step_for a.call)) (time_of (step_for b.call))
+          lt-leb (time_of (step_for (call_read a))) (time_of (step_for (call_read b)))
           (omega (arith, earlier, head_time one place a heads e, head_time two other b others t))
 
       -- nothing is later than none
-      not_none : (head_for b.call).size ≡ 0 → (first : List Step) → Records one place first → ⊥
+      not_none : (head_for (call_read b)).size ≡ 0 → (first : List Step) → Records one place first → ⊥
       not_none h first records =
           let late = no_time two other b others (head_none two other b others h) in
           split (is_read a) (λ x. ⊥)
@@ -212,7 +232,7 @@ module _ (one two : List ℕ) (place other : ℕ) (a b : Head) where
 pub head_fits : (bytes : List ℕ) (place : ℕ) (h : Head) (last : ℕ) → HeadAt bytes place h → length bytes ≤ last → place ≤ last
     → place + h.size ≤ last
 head_fits bytes place h last (r, reads, e) few low =
-    let size : h.size ≡ (head_for r.call).size = ap (λ (x : Head). x.size) e in
+    let size : h.size ≡ (head_for (call_read r)).size = ap (λ (x : Head). x.size) e in
     split (is_read r) (λ x. place + h.size ≤ last)
     (λ t. let next = head_next bytes place r reads t in omega (arith, size, next.0, next.2, few))
     (λ f. omega (arith, size, no_size bytes place r reads f, low))
@@ -312,42 +332,44 @@ module _ (one two before : List ℕ) (limit : ℕ) where
       size_more : 1 + length (steps_bytes again) ≡ size + length (left_bytes clock call)
       size_more = omega (arith, ap length bytes_are, length-append (steps_bytes w.done) (left_bytes clock call), w.size_is)
 
-      module _ (k : Kept) (buffer' : List ℕ) (long : length buffer ≡ length before) (keeps : Keeps buffer size limit clock r.head k buffer') where
-        keeps_call : Keeps buffer size limit clock (head_for call) k buffer'
-        unfolding call
-        keeps_call = subst (λ (h : Head). Keeps buffer size limit clock h k buffer') nexts.head_is keeps
+      positive : 0 < (head_for call).size
+      unfolding call
+      positive = subst (λ (h : Head). 0 < h.size) nexts.head_is e
 
-        positive : 0 < (head_for call).size
-        unfolding call
-        positive = subst (λ (h : Head). 0 < h.size) nexts.head_is e
+      -- §13.2
+      pub walk_more : (k : Part) (buffer' : List ℕ) → length buffer ≡ length before → KeepsWithin buffer size limit clock r.head k buffer'
+          → Walking r.first r.second k.clock k.size buffer' first second
+      unfolding call
+      walk_more k buffer' long keeps =
+          let keeps_call : KeepsWithin buffer size limit clock (head_for call) k buffer' =
+          subst (λ (h : Head). KeepsWithin buffer size limit clock h k buffer') nexts.head_is keeps in
+          let (s, c, stored) = keeps_left buffer size limit clock call positive k buffer' keeps_call in
+          record {
+            rest = b.rest;
+            other_rest = b.other;
+            done = again;
+            records = b.records;
+            others = b.others;
+            is = all_is ∙ ap (λ (n : ℕ). again ++ undropped n (merged b.rest b.other)) (sym c);
+            size_is = s ∙ sym size_more;
+            stored = λ room.
+                stored_behind before buffer buffer' 1 (length (steps_bytes w.done)) (steps_bytes w.done) (left_bytes clock call) refl
+                (w.stored room)
+                (stored (omega (arith, room, long)) ∙ ap (λ (n : ℕ). sets buffer n (left_bytes clock call)) w.size_is)
+                ∙ ap (λ (l : List ℕ). sets before 1 l) (sym bytes_are);
+          }
 
-        -- §13.2
-        pub walk_more : k.fits ≡ true → Walking r.first r.second k.clock k.size buffer' first second
-        walk_more fits =
-            let (s, c, stored) = keeps_left buffer size limit clock call k buffer' keeps_call positive fits in
-            record {
-              rest = b.rest;
-              other_rest = b.other;
-              done = again;
-              records = b.records;
-              others = b.others;
-              is = all_is ∙ ap (λ (n : ℕ). again ++ undropped n (merged b.rest b.other)) (sym c);
-              size_is = s ∙ sym size_more;
-              stored = λ room.
-                  stored_behind before buffer buffer' 1 (length (steps_bytes w.done)) (steps_bytes w.done) (left_bytes clock call) refl
-                  (w.stored room)
-                  (stored (omega (arith, room, long)) ∙ ap (λ (n : ℕ). sets buffer n (left_bytes clock call)) w.size_is)
-                  ∙ ap (λ (l : List ℕ). sets before 1 l) (sym bytes_are);
-            }
-
-        pub walk_short : k.fits ≡ false → limit < length (joined_bytes one two first second)
-        walk_short fits =
-            let rest = undropped (left_clock clock call) (merged b.rest b.other) in
-            let parts : steps_bytes (joined first second) ≡ steps_bytes again ++ steps_bytes rest = ap steps_bytes all_is ∙ bytes_append again rest in
-            omega (
-              arith,
-              ap length parts,
-              length-append (steps_bytes again) (steps_bytes rest),
-              size_more,
-              keeps_short buffer size limit clock call k buffer' keeps_call positive fits,
-            )
+      pub walk_short : (is_kept clock r.head ≡ true) × (limit < size + r.head.size) → limit < length (joined_bytes one two first second)
+      unfolding call
+      walk_short past =
+          let past_call : (is_kept clock (head_for call) ≡ true) × (limit < size + (head_for call).size) =
+          subst (λ (h : Head). (is_kept clock h ≡ true) × (limit < size + h.size)) nexts.head_is past in
+          let rest = undropped (left_clock clock call) (merged b.rest b.other) in
+          let parts : steps_bytes (joined first second) ≡ steps_bytes again ++ steps_bytes rest = ap steps_bytes all_is ∙ bytes_append again rest in
+          omega (
+            arith,
+            ap length parts,
+            length-append (steps_bytes again) (steps_bytes rest),
+            size_more,
+            keeps_short buffer size limit clock call positive past_call,
+          )

@@ -2,19 +2,20 @@
 // clock are left out.
 #![tactic(auto)]
 
-ghost use Rattle.std.specs.Prelude.{◌≡◌, cond, ◌&&◌, ℕ, ◌+◌, ◌≤◌, max, eqb, ltb, length, set, List, [], ◌∷◌};
+ghost use Rattle.std.specs.Prelude.{◌≡◌, ◌&&◌, ℕ, ◌+◌, ◌≤◌, max, length, true, false, List};
 ghost use Rattle.std.proofs.lemmas.List.Edits.{sets};
 ghost use Rattle.constraint.specs.Steps.{at};
 ghost use Rattle.constraint.specs.Joined.{AnswersJoin};
 ghost use Rattle.constraint.specs.Bytes.{bytes_of};
+ghost use Rattle.constraint.specs.LongAnswers.{joined_of};
 ghost use Rattle.join.specs.Walk.{call_bytes, call_kind, head_for, head_front, head_bytes, is_kept, HeadAt, Keeps, Nexts, Walks, OutgrowsIn};
-ghost use Rattle.join.specs.Walk.{RecordSize, first_common, Passes};
+ghost use Rattle.join.specs.Walk.{RecordSize, first_common, is_marked, marked_with, Passes};
 
 use clock::Clock;
-use constraint::{Call, JoinAnswer, STREAM_COUNT};
+use constraint::{Call, JoinRefusal, Refusal, RefusedAt};
 
-// What the walk keeps of a record: how many bytes it has (0: there is none), its time, kind and colour. Where there is none, the time is later than
-// any.
+// What the walk keeps of a record: how many bytes it has, its time, kind and colour. Where there is none it has 0 bytes, and the time is later than
+// any: so one comparison of times says which of two comes next, where two Options would need four cases.
 #[derive(Clone, Copy)]
 pub struct Head {
     pub size: usize,
@@ -23,52 +24,47 @@ pub struct Head {
     pub colour: u8,
 }
 
+// A place in a recording, and the head of the record there.
+#[derive(Clone, Copy)]
+pub struct Cursor {
+    pub place: usize,
+    pub head: Head,
+}
+
 // The record that comes next, if there is one: its head, and the places in both recordings behind it.
-#[derive(Drop)]
+#[derive(Clone, Copy)]
 pub struct Next {
     pub head: Head,
     pub first: usize,
     pub second: usize,
 }
 
-// Whether a record fits, the size of the joined recording behind it, and its clock.
-#[derive(Drop)]
-pub struct Kept {
-    pub fits: bool,
+// The joined recording so far: its size and its clock.
+#[derive(Clone, Copy)]
+pub struct Part {
     pub size: usize,
     pub clock: u64,
 }
 
-// Whether a joined recording fits, and its size.
-#[derive(Drop)]
-pub struct Walked {
-    pub fits: bool,
-    pub size: usize,
-}
-
-// What a pass over a recording gives: a mark for each kind that it has, and the place of the first record of a kind to avoid (0: none); or
-// (number above 0) a refusal with its place.
+// What a pass over a recording gives: a mark for each kind that it has, and the place of the first record of a kind to avoid.
 #[derive(Drop)]
 pub struct Passed {
-    pub number: u8,
-    pub place: usize,
-    pub kinds: [u8; 64],
-    pub common: usize,
+    pub kinds: [bool; 64],
+    pub common: Option<usize>,
 }
 
-// The kind of a call; 64 is none.
-fn kind_of(call: Call) -> u8
+// The kind of a call's event.
+fn kind_of(call: Call) -> Option<u8>
     ensures { result ≡ call_kind call }
 {
     match call {
-        Call::Event { kind, .. } => kind,
-        Call::ColouredEvent { kind, .. } => kind,
-        Call::Tick { .. } => 64,
-        Call::Close => 64,
+        Call::Event { kind, .. } | Call::ColouredEvent { kind, .. } => Some(kind),
+        Call::Tick { .. } | Call::Close => None,
     }
 }
 
 // How many bytes a record has.
+#[tactic(auto, unfolding(constraint::specs::Bytes::bytes_of))]
 pub fn size_of(call: Call) -> usize
     ensures { result ≡ length (call_bytes call) }
 {
@@ -102,6 +98,28 @@ pub fn put_call(buffer: &mut [u8], place: usize, call: Call)
     }
 }
 
+impl Head {
+    // Where there is no record.
+    const NONE: Head = Head {
+        size: 0,
+        time: u64::MAX,
+        kind: 0,
+        colour: 0,
+    };
+
+    // The head of a tick.
+    fn tick(time: u64) -> Self
+        ensures { result ≡ head_for (Call.Tick time) }
+    {
+        Head {
+            size: 10,
+            time,
+            kind: 0,
+            colour: 0,
+        }
+    }
+}
+
 // The head of a call's record.
 fn head_of(call: Call) -> Head
     ensures { result ≡ head_for call }
@@ -119,18 +137,8 @@ fn head_of(call: Call) -> Head
             kind,
             colour,
         },
-        Call::Tick { time } => Head {
-            size: 10,
-            time,
-            kind: 0,
-            colour: 0,
-        },
-        Call::Close => Head {
-            size: 0,
-            time: 18446744073709551615,
-            kind: 0,
-            colour: 0,
-        },
+        Call::Tick { time } => Head::tick(time),
+        Call::Close => Head::NONE,
     }
 }
 
@@ -138,18 +146,13 @@ fn head_of(call: Call) -> Head
 fn head_at(bytes: &[u8], place: usize) -> Head
     ensures { HeadAt bytes.now place result }
 {
-    let tick = recording::tick_at(bytes, place);
-    if tick.there {
-        return Head {
-            size: 10,
-            time: tick.time,
-            kind: 0,
-            colour: 0,
-        };
+    if let Some(time) = recording::tick_at(bytes, place) {
+        return Head::tick(time);
     }
-    let record = recording::call_at(bytes, place);
-    let call = record.call;
-    head_of(call)
+    match recording::call_at(bytes, place) {
+        Ok(record) => head_of(record.call),
+        Err(_) => Head::NONE,
+    }
 }
 
 // §13.2
@@ -157,17 +160,7 @@ fn head_at(bytes: &[u8], place: usize) -> Head
 fn is_kept(clock: u64, head: Head) -> bool
     ensures { result ≡ is_kept clock head }
 {
-    if 10 < head.size {
-        return true;
-    }
-    clock < head.time
-}
-
-// The lowest byte of a number.
-fn low_byte(x: u64) -> u8
-    ensures { result ∷ [] ≡ bytes_of 1 x }
-{
-    (x & 255) as u8
+    10 < head.size || clock < head.time
 }
 
 // Stores the eight bytes of a number, for which there is room: a single store in machine code.
@@ -175,14 +168,7 @@ fn put_eight_there(buffer: &mut [u8], place: usize, x: u64)
     requires { place + 8 ≤ length buffer.old }
     ensures { buffer.new ≡ sets buffer.old place (bytes_of 8 x) }
 {
-    buffer[place] = low_byte(x >> 56);
-    buffer[place + 1] = low_byte(x >> 48);
-    buffer[place + 2] = low_byte(x >> 40);
-    buffer[place + 3] = low_byte(x >> 32);
-    buffer[place + 4] = low_byte(x >> 24);
-    buffer[place + 5] = low_byte(x >> 16);
-    buffer[place + 6] = low_byte(x >> 8);
-    buffer[place + 7] = low_byte(x);
+    buffer[place..place + 8].copy_from_slice(&x.to_be_bytes());
 }
 
 // Stores what stands before a record's time, for which there is room.
@@ -223,62 +209,65 @@ fn put_within(buffer: &mut [u8], place: usize, limit: usize, head: Head)
     put_record(buffer, place, head);
 }
 
-// Keeps or drops a record behind the first `size` bytes of a joined recording.
-fn keep(buffer: &mut [u8], size: usize, limit: usize, clock: u64, head: Head) -> Kept
-    requires { RecordSize head × (size ≤ limit) }
-    ensures { Keeps buffer.old size limit clock head result buffer.new }
+// Keeps or drops a record behind the joined recording so far. Returns what is joined then, or none where it goes past the limit.
+fn keep(buffer: &mut [u8], limit: usize, part: Part, head: Head) -> Option<Part>
+    requires { RecordSize head × (part.size ≤ limit) }
+    ensures { (length buffer.new ≡ length buffer.old) × Keeps buffer.old part.size limit part.clock head result buffer.new }
 {
-    if !is_kept(clock, head) {
-        return Kept {
-            fits: true,
-            size,
-            clock,
-        };
+    if !is_kept(part.clock, head) {
+        return Some(part);
     }
-    if limit - size < head.size {
-        return Kept {
-            fits: false,
-            size,
-            clock,
-        };
+    if limit - part.size < head.size {
+        return None;
     }
-    put_within(buffer, size, limit, head);
-    Kept {
-        fits: true,
-        size: size + head.size,
+    put_within(buffer, part.size, limit, head);
+    Some(Part {
+        size: part.size + head.size,
         clock: head.time,
+    })
+}
+
+impl Cursor {
+    // At a place.
+    fn at(bytes: &[u8], place: usize) -> Self
+        ensures { HeadAt bytes.now result.place result.head × (result.place ≡ place) }
+    {
+        Cursor {
+            place,
+            head: head_at(bytes, place),
+        }
+    }
+
+    // At the next place: the record is read only if the place is another.
+    fn moved(self, bytes: &[u8], next: usize) -> Self
+        ensures { (HeadAt bytes.now self.place self.head → HeadAt bytes.now result.place result.head) × (result.place ≡ next) }
+    {
+        if next == self.place {
+            return self;
+        }
+        Cursor::at(bytes, next)
     }
 }
 
 // §13.1
-// Which record comes next, where `a` is the head of the record at a place in the first recording and `b` that at a place in the second.
-fn following(a: Head, b: Head, place: usize, other: usize) -> Next
-    requires { (place + a.size ≤ 18446744073709551615) × (other + b.size ≤ 18446744073709551615) }
-    ensures { ((one two : List ℕ) → HeadAt one place a → HeadAt two other b → Nexts one two place other result)
-        × (result.first ≤ place + a.size) × (result.second ≤ other + b.size) }
+// Which record comes next, of those at a place in the first recording and at one in the second.
+fn following(a: Cursor, b: Cursor) -> Next
+    requires { (a.place + a.head.size ≤ 18446744073709551615) × (b.place + b.head.size ≤ 18446744073709551615) }
+    ensures { ((one two : List ℕ) → HeadAt one a.place a.head → HeadAt two b.place b.head → Nexts one two a.place b.place result)
+        × (result.first ≤ a.place + a.head.size) × (result.second ≤ b.place + b.head.size) }
 {
-    if b.time < a.time {
+    if b.head.time < a.head.time {
         return Next {
-            head: b,
-            first: place,
-            second: other + b.size,
+            head: b.head,
+            first: a.place,
+            second: b.place + b.head.size,
         };
     }
     Next {
-        head: a,
-        first: place + a.size,
-        second: other,
+        head: a.head,
+        first: a.place + a.head.size,
+        second: b.place,
     }
-}
-
-// The head at the next place, where `a` is that at a place: it is read only if the place is another.
-fn read_again(bytes: &[u8], place: usize, next: usize, a: Head) -> Head
-    ensures { HeadAt bytes.now place a → HeadAt bytes.now next result }
-{
-    if next == place {
-        return a;
-    }
-    head_at(bytes, next)
 }
 
 // §13.3
@@ -286,176 +275,122 @@ fn read_again(bytes: &[u8], place: usize, next: usize, a: Head) -> Head
 fn version(first: &[u8], second: &[u8]) -> u8
     ensures { result ≡ max (at first.now 0) (at second.now 0) }
 {
-    let a = recording::version(first);
-    let b = recording::version(second);
-    if a < b { b } else { a }
+    recording::version(first).max(recording::version(second))
 }
 
 // §13.2
-// The walk over both recordings: stores the joined one in the front of a buffer, unless that is shorter than the limit; and stops where the joined
-// one is longer than the limit.
-fn walk(first: &[u8], second: &[u8], buffer: &mut [u8], limit: usize) -> Walked
+// The walk over both recordings: stores the joined one in the front of a buffer, unless that is shorter than the limit. Returns its size, or none
+// where the joined one is longer than the limit.
+fn walk(first: &[u8], second: &[u8], buffer: &mut [u8], limit: usize) -> Option<usize>
     ensures { Walks first.now second.now buffer.old limit result buffer.new }
 {
     if limit == 0 {
-        return Walked {
-            fits: false,
-            size: 0,
-        };
+        return None;
     }
     big_endian::put_byte(buffer, 0, version(first, second));
-    let mut place: usize = 1;
-    let mut other: usize = 1;
-    let mut a = head_at(first, place);
-    let mut b = head_at(second, other);
-    let mut clock: u64 = 0;
-    let mut size: usize = 1;
+    let mut a = Cursor::at(first, 1);
+    let mut b = Cursor::at(second, 1);
+    let mut part = Part { size: 1, clock: 0 };
+    // It stays a `loop`: which recording the next record is from is known only when both heads are.
     loop {
-        let next = following(a, b, place, other);
-        let head = next.head;
-        if head.size == 0 {
-            return Walked { fits: true, size };
+        let next = following(a, b);
+        if next.head.size == 0 {
+            return Some(part.size);
         }
-        let kept = keep(buffer, size, limit, clock, head);
-        if !kept.fits {
-            return Walked {
-                fits: false,
-                size: 0,
-            };
-        }
-        size = kept.size;
-        clock = kept.clock;
-        a = read_again(first, place, next.first, a);
-        b = read_again(second, other, next.second, b);
-        place = next.first;
-        other = next.second;
+        part = keep(buffer, limit, part, next.head)?;
+        a = a.moved(first, next.first);
+        b = b.moved(second, next.second);
     }
 }
 
 // Whether a kind is marked.
-fn marked(marks: &[u8; 64], kind: u8) -> bool
-    ensures { result ≡ (ltb kind 64 && eqb (at marks.now kind) 1) }
+fn is_marked(marks: &[bool; 64], kind: Option<u8>) -> bool
+    ensures { result ≡ is_marked marks.now kind }
 {
-    let place = kind as usize;
-    if 64 <= place {
-        return false;
+    match kind {
+        Some(kind) if kind < 64 => marks[kind as usize],
+        _ => false,
     }
-    marks[place] == 1
 }
 
 // Sets the mark of a kind.
-fn mark(marks: &mut [u8; 64], kind: u8)
-    ensures { marks.new ≡ cond (ltb kind 64) (set marks.old kind 1) marks.old }
+fn mark(marks: &mut [bool; 64], kind: Option<u8>)
+    ensures { marks.new ≡ marked_with marks.old kind }
 {
-    let place = kind as usize;
-    if 64 <= place {
-        return;
+    match kind {
+        Some(kind) if kind < 64 => marks[kind as usize] = true,
+        _ => {}
     }
-    marks[place] = 1;
 }
 
-// The place of the first record to avoid (0: none), with one record more.
-fn first_common(common: usize, avoided: bool, place: usize) -> usize
+// The place of the first record to avoid, with one record more.
+fn first_common(common: Option<usize>, avoided: bool, place: usize) -> Option<usize>
     ensures { result ≡ first_common common avoided place }
 {
-    if 0 < common {
-        return common;
-    }
-    if avoided { place } else { 0 }
+    common.or(avoided.then_some(place))
 }
 
 // The pass over a recording: questions 13 and 14 and those of the steps; its kinds, and the first record of a kind to avoid.
-fn pass(bytes: &[u8], avoid: &[u8; 64]) -> Passed
+fn pass(bytes: &[u8], avoid: &[bool; 64]) -> Result<Passed, RefusedAt>
     ensures { Passes bytes.now avoid.now result }
 {
     if !recording::version_known(bytes) {
-        return Passed {
-            number: 13,
+        return Err(RefusedAt {
+            refusal: Refusal::RecordingVersion,
             place: 0,
-            kinds: [0u8; 64],
-            common: 0,
-        };
+        });
     }
     let mut clock = Clock::start();
-    let mut next = [0u64; STREAM_COUNT];
-    let mut kinds = [0u8; 64];
-    let mut common: usize = 0;
+    let mut kinds = [false; 64];
+    let mut common: Option<usize> = None;
     let mut place: usize = 1;
+    // A walk by place: a turn goes on by as many bytes as it reads, and a `for` can't. `stamps`, `stretch` and this keep other things of a record:
+    // one walk for all would take a closure, and its contract would say after each record what was kept.
     while place < bytes.len() {
-        let read = clock::read(bytes, place, clock, &mut next);
-        if 0 < read.number {
-            return Passed {
-                number: read.number,
-                place,
-                kinds,
-                common,
-            };
-        }
-        let call = read.call;
-        let kind = kind_of(call);
-        common = first_common(common, marked(avoid, kind), place);
+        let read = match clock.read(bytes, place) {
+            Ok(read) => read,
+            Err(refusal) => return Err(RefusedAt { refusal, place }),
+        };
+        let kind = kind_of(read.call);
+        common = first_common(common, is_marked(avoid, kind), place);
         mark(&mut kinds, kind);
-        let later = read.clock;
-        let ticked = clock::ticks(bytes, read.next, later);
-        let latest = ticked.clock;
-        clock = latest;
-        place = ticked.place;
+        place = clock.ticks(bytes, read.next);
     }
-    Passed {
-        number: 0,
-        place: 0,
-        kinds,
-        common,
-    }
+    Ok(Passed { kinds, common })
 }
 
 // Whether the joined recording is longer than a limit. It is never longer than both recordings together, so a limit of that size needs no walk.
 fn outgrows(first: &[u8], second: &[u8], limit: usize) -> bool
     ensures { OutgrowsIn first.now second.now limit result }
 {
-    if second.len() < limit {
-        if first.len() <= limit - second.len() {
-            return false;
-        }
+    if second.len() < limit && first.len() <= limit - second.len() {
+        return false;
     }
-    let mut nowhere = [0u8; 1];
-    let measured = walk(first, second, &mut nowhere, limit);
-    !measured.fits
+    walk(first, second, &mut [0u8; 1], limit).is_none()
 }
 
 // §8.16, §8.20, §13.5 to §13.7
-// Joins two recordings: writes the joined one to the front of a buffer and answers its length; or the refusal, with the buffer as it was.
-pub fn join(first: &[u8], second: &[u8], joined: &mut [u8]) -> JoinAnswer
-    ensures { AnswersJoin first.now second.now joined.old result joined.new }
+// Joins two recordings: writes the joined one to the front of a buffer and returns its length; or the refusal, with the buffer as it was.
+pub fn join(first: &[u8], second: &[u8], joined: &mut [u8]) -> Result<usize, JoinRefusal>
+    ensures { AnswersJoin first.now second.now joined.old (joined_of result) joined.new }
 {
-    let none = [0u8; 64];
-    let one = pass(first, &none);
-    if 0 < one.number {
-        return JoinAnswer::FirstRefused {
-            number: one.number,
-            place: one.place,
-        };
-    }
-    let kinds = one.kinds;
-    let two = pass(second, &kinds);
-    if 0 < two.number {
-        return JoinAnswer::SecondRefused {
-            number: two.number,
-            place: two.place,
-        };
-    }
-    if 0 < two.common {
-        return JoinAnswer::SecondRefused {
-            number: 20,
-            place: two.common,
-        };
+    let one = match pass(first, &[false; 64]) {
+        Ok(one) => one,
+        Err(refused) => return Err(JoinRefusal::First(refused)),
+    };
+    let two = match pass(second, &one.kinds) {
+        Ok(two) => two,
+        Err(refused) => return Err(JoinRefusal::Second(refused)),
+    };
+    if let Some(place) = two.common {
+        return Err(JoinRefusal::Second(RefusedAt {
+            refusal: Refusal::CommonKind,
+            place,
+        }));
     }
     let limit = joined.len();
     if outgrows(first, second, limit) {
-        return JoinAnswer::TooShort;
+        return Err(JoinRefusal::TooShort);
     }
-    let written = walk(first, second, joined, limit);
-    JoinAnswer::Joined {
-        length: written.size,
-    }
+    walk(first, second, joined, limit).ok_or(JoinRefusal::TooShort)
 }

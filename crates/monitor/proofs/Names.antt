@@ -23,8 +23,8 @@ pub use Rattle.constraint.specs.Run.{withdraws}
 pub use Rattle.constraint.specs.Steps.{Step, at, clock, close, event, tick}
 pub use Rattle.constraint.specs.{Accepted.Accepted, Meets.Meets, Promise.Promise, Promise.ReadsRow, Promise.no_row_lem}
 pub use Rattle.constraint.specs.{Promise.row}
-pub use Rattle.constraint.specs.{Questions.Question, Records.filler, Types.Known, Streams.stream, Waiting.waiting, declared.Answer.Answer}
-pub use Rattle.constraint.specs.{declared.Answer.TheVariants.Refused, declared.Answer.TheVariants.Taken, declared.Call.Call}
+pub use Rattle.constraint.specs.{Questions.Question, Records.filler, Types.Known, Streams.stream, Waiting.waiting, Answer.Answer}
+pub use Rattle.constraint.specs.{Answer.Refused, Answer.Taken, declared.Call.Call}
 pub use Rattle.constraint.specs.{Constraint.Constraint, Constraint.Delay, Constraint.Repeat}
 pub use Rattle.constraint.specs.{Constraint.Sporadic, declared.Verdict.Verdict}
 pub use Rattle.table_row.specs.{Records.row_in, Tables.rows_of, declared.Table.Table, declared.TableRow.TableRow}
@@ -34,7 +34,7 @@ pub use Rattle.monitor.specs.Beside.{place, same_event}
 pub use Rattle.monitor.specs.Contract.{Reading, Remains, Steps, VerdictOf, result_of, step, verdict_in}
 pub use Rattle.monitor.specs.Machine.{SameBare, crowds, next_for, next_step, no_row, step_input_of, refusal_for, refuses, stepped_by, takes}
 pub use Rattle.monitor.specs.Parts.{RowsAfter, place_of, rows_without, stepped_rows, verdict_by, with_rows}
-pub use Rattle.monitor.specs.{declared.Monitor.Monitor, declared.RowVerdict.RowVerdict, declared.Stepped.Stepped}
+pub use Rattle.monitor.specs.{declared.Monitor.Monitor, Stepped.RowVerdict, Stepped.Stepped}
 pub use Rattle.delay_order.proofs.Laws.Delay.{unlimited_delay_open}
 pub use Rattle.hidden_points.proofs.Laws.Sporadic.{silent_sporadic_shut}
 pub use Rattle.questions.proofs.Places.{place_in_small, place_small, stream_place}
@@ -43,7 +43,7 @@ pub use Rattle.ring.proofs.Shared.{cond_false, cond_true}
 pub use Rattle.row.proofs.Steps.{After, Fits, close_calm, fits_reads, fits_room, fits_start, fits_step, seen}
 pub use Rattle.row.proofs.{EveryType.every_type_exact, Exact.Exact, Exact.Sound, Independent.event_as_tick, Undo.row_without_lem}
 pub use Rattle.row.specs.{Machine.close_at, Machine.row_of, Machine.row_step, Machine.tick_at, Undo.moves_by, Undo.no_row_undo, Undo.row_without}
-pub use Rattle.row.specs.{Undo.saved_row, declared.RowUndo.RowUndo, declared.StepInput.StepInput, declared.Row.Row, declared.RowStep.RowStep}
+pub use Rattle.row.specs.{Undo.saved_row, declared.RowUndo.RowUndo, declared.StepInput.StepInput, declared.Row.Row, RowStep.RowStep}
 pub use Rattle.repeat_burst.proofs.Laws.Repeat.{silent_repeat_shut}
 unfoldable pub use Rattle.constraint.proofs.Counting.{next_free}
 unfoldable pub use Rattle.constraint.specs.Steps.{clock_from, closed, times}

@@ -5,8 +5,8 @@ use Rattle.constraint.specs.Steps.{Step, event, tick, close, at}
 use Rattle.constraint.specs.Accepted.{kinds}
 use Rattle.constraint.specs.Run.{asks, none_left, Run}
 use Rattle.constraint.specs.Promise.{play}
-use Rattle.constraint.specs.declared.Answer.{Answer}
-use Rattle.constraint.specs.declared.Answer.TheVariants.{Taken, Refused}
+use Rattle.constraint.specs.Answer.{Answer}
+use Rattle.constraint.specs.Answer.{Taken, Refused}
 use Rattle.constraint.specs.declared.Call.{Call}
 use Rattle.constraint.specs.Constraint.{Constraint}
 use Rattle.monitor.specs.Machine.{monitor_of}

@@ -1,20 +1,21 @@
 -- What the monitor's functions promise, in the buyer's words: over every accepted table and every list of calls and withdrawals.
-use Rattle.std.specs.Prelude.{ℕ, ◌≡◌, List, [], ◌∷◌, ◌++◌}
+use Rattle.std.specs.Prelude.{ℕ, ◌≡◌, List, [], ◌∷◌, ◌++◌, Result, Ok, Err}
 use Rattle.std.proofs.Math.Option.{Option, none, some}
 use Rattle.constraint.specs.Questions.{Judged}
 use Rattle.constraint.specs.Accepted.{rows_questions, Accepted}
 use Rattle.constraint.specs.Run.{Request, asks, withdraws, Left, none_left, request_questions, Run}
 use Rattle.constraint.specs.Promise.{Outcome, ReadsRow, play}
-use Rattle.constraint.specs.declared.Answer.{Answer}
-use Rattle.constraint.specs.declared.Answer.TheVariants.{Taken, Refused}
+use Rattle.constraint.specs.Answer.{Answer}
+use Rattle.constraint.specs.Answer.{Taken, Refused}
 use Rattle.constraint.specs.Constraint.{Constraint}
+use Rattle.constraint.specs.declared.Refusal.{Refusal}
 use Rattle.constraint.specs.declared.Verdict.{Verdict}
 use Rattle.table_row.specs.Tables.{rows_of}
 use Rattle.table_row.specs.declared.Table.{Table}
 use Rattle.monitor.specs.Machine.{monitor_of, step_of, withdraw_of, verdict_of}
 use Rattle.monitor.specs.declared.Monitor.{Monitor}
-use Rattle.monitor.specs.declared.RowVerdict.{RowVerdict}
-use Rattle.monitor.specs.declared.Stepped.{Stepped}
+use Rattle.monitor.specs.Stepped.{RowVerdict}
+use Rattle.monitor.specs.Stepped.{Stepped}
 
 -- what the machine gives for a request
 abbrev pub result_of : Monitor → Request → Stepped
@@ -41,6 +42,11 @@ pub record FreshlyIn (edition : ℕ) (table : Table) (answer : Answer) (m : Moni
   pub judged : Judged (rows_questions edition 0 (rows_of table) []) answer
   pub made : answer ≡ Taken → m ≡ after (rows_of table) []
   pub refused : (n : ℕ) → answer ≡ Refused n → m ≡ after [] []
+
+-- §9.7: the monitor over a table that a result says: on an error the one over no rows
+abbrev pub made_of : Result Monitor Refusal → Monitor
+made_of (Ok monitor) = monitor
+made_of (Err refusal) = after [] []
 
 -- §3.6, §9.7: in the first edition
 abbrev pub Freshly : Table → Answer → Monitor → Type 0

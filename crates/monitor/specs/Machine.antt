@@ -3,7 +3,7 @@ use Rattle.std.specs.Prelude.{ℕ, zero, suc, ◌-◌, ◌≡◌, Bool, false, c
 use Rattle.std.proofs.Math.Option.{Option, none, some}
 use Rattle.constraint.specs.Limits.{stream_count, row_limit}
 use Rattle.constraint.specs.Records.{filler}
-use Rattle.constraint.specs.declared.Answer.TheVariants.{Taken, Refused}
+use Rattle.constraint.specs.Answer.{Taken, Refused}
 use Rattle.constraint.specs.declared.Call.{Call}
 use Rattle.constraint.specs.Constraint.{Constraint}
 use Rattle.constraint.specs.declared.Verdict.{Verdict}
@@ -14,7 +14,7 @@ use Rattle.row.specs.declared.StepInput.{StepInput}
 use Rattle.row.specs.declared.Row.{Row}
 use Rattle.questions.specs.Questions.{no_undo, place_for, place_in, refusal_by, step_input_by, free_after, closed_after, undo_by}
 use Rattle.monitor.specs.declared.Monitor.{Monitor}
-use Rattle.monitor.specs.declared.Stepped.{Stepped}
+use Rattle.monitor.specs.Stepped.{Stepped}
 
 -- a place for a row that no row was put in
 abbrev pub no_row : Row

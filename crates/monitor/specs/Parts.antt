@@ -9,8 +9,8 @@ use Rattle.row.specs.declared.StepInput.{StepInput}
 use Rattle.row.specs.declared.Row.{Row}
 use Rattle.monitor.specs.Machine.{map_first, zip_first, any_first}
 use Rattle.monitor.specs.declared.Monitor.{Monitor}
-use Rattle.monitor.specs.declared.RowVerdict.{RowVerdict}
-use Rattle.monitor.specs.declared.rows.RowsStepped.{RowsStepped}
+use Rattle.monitor.specs.Stepped.{RowVerdict}
+use Rattle.monitor.specs.Stepped.{RowsStepped}
 
 -- ---- every row, one after the other
 

@@ -5,29 +5,13 @@ ghost use Rattle.constraint.specs.Records.{filler};
 ghost use Rattle.constraint.specs.Types.{Known};
 ghost use Rattle.table_row.specs.Tables.{rows_of};
 ghost use Rattle.monitor.specs.Machine.{monitor_of};
+ghost use Rattle.monitor.specs.Stepped.{rows_stepped_of};
 ghost use Rattle.monitor.specs.Parts.{RowsAfter, rows_without};
 
 use crate::Monitor;
+use questions::Undo;
 use row::{Row, RowUndo, StepInput};
 use table_row::{Table, TableRow};
-
-// A monitor whose rows have taken a step, and whether it crowds one of them.
-#[derive(Drop)]
-pub struct RowsStepped {
-    pub crowded: bool,
-    pub monitor: Monitor,
-}
-
-// The number of rows that a monitor holds, whatever its record says.
-pub fn held(len: usize) -> usize
-    ensures { result ≡ min len row_limit }
-{
-    if len < Monitor::ROW_LIMIT {
-        len
-    } else {
-        Monitor::ROW_LIMIT
-    }
-}
 
 // The monitor over the first rows of a table, before any step.
 pub(crate) fn over(table: Table, len: usize) -> Monitor
@@ -35,11 +19,8 @@ pub(crate) fn over(table: Table, len: usize) -> Monitor
     ensures { result ≡ monitor_of (take len (rows_of table)) }
 {
     let mut rows = [Row::begin(TableRow::filler()); 32];
-    let mut i = 0;
-    while i < len {
-        let row = table.rows[i];
-        rows[i] = Row::begin(row);
-        i += 1;
+    for i in 0..len {
+        rows[i] = Row::begin(table.rows[i]);
     }
     Monitor {
         rows,
@@ -48,54 +29,33 @@ pub(crate) fn over(table: Table, len: usize) -> Monitor
         count: 0,
         closed: 0,
         len,
-        before: [RowUndo::none(); 32],
-        undo: questions::no_undo(),
+        before: [RowUndo::default(); 32],
+        undo: Undo::default(),
     }
 }
 
-// The monitor with each row after what occurs, which is the step of that number; as it was where that crowds one of them.
-pub fn step(m: Monitor, o: StepInput, number: u64) -> RowsStepped
-    ensures { RowsAfter m o number result }
+// The monitor with each row after what occurs, which is the step of that number; none where that crowds one of them.
+pub fn step(m: Monitor, o: StepInput, number: u64) -> Option<Monitor>
+    ensures { RowsAfter m o number (rows_stepped_of m result) }
 {
-    let len = held(m.len);
     let mut after = m;
-    let mut i = 0;
-    while i < len {
+    for i in 0..m.len.min(Monitor::ROW_LIMIT) {
         let row = after.rows[i];
-        let stepped = row.step(o, number);
-        if stepped.crowded {
-            return RowsStepped {
-                crowded: true,
-                monitor: m,
-            };
-        }
-        let next = stepped.row;
-        let kept = after.before[i];
-        let saved = row.saved(kept, o, number);
-        after.rows[i] = next;
-        after.before[i] = saved;
-        i += 1;
+        after.rows[i] = row.step(o, number)?;
+        after.before[i] = row.saved(after.before[i], o, number);
     }
-    RowsStepped {
-        crowded: false,
-        monitor: after,
-    }
+    Some(after)
 }
 
 // The monitor with each row without the step of that number.
 pub fn undo_rows(m: Monitor, number: u64) -> Monitor
     ensures { result ≡ rows_without m m.len number }
 {
-    let len = held(m.len);
     let mut after = m;
-    let mut i = 0;
-    while i < len {
-        let row = after.rows[i];
+    for i in 0..m.len.min(Monitor::ROW_LIMIT) {
         let kept = after.before[i];
-        let before = row.without_step(kept, number);
-        after.rows[i] = before;
+        after.rows[i] = after.rows[i].without_step(kept, number);
         after.before[i] = kept.without_step(number);
-        i += 1;
     }
     after
 }

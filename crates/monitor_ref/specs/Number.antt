@@ -1,9 +1,9 @@
 -- What a call gives, from its number and the monitor behind the reference.
 use Rattle.std.specs.Prelude.{ℕ, zero, suc}
-use Rattle.constraint.specs.declared.Answer.{Answer}
-use Rattle.constraint.specs.declared.Answer.TheVariants.{Taken, Refused}
+use Rattle.constraint.specs.Answer.{Answer}
+use Rattle.constraint.specs.Answer.{Taken, Refused}
 use Rattle.monitor.specs.declared.Monitor.{Monitor}
-use Rattle.monitor.specs.declared.Stepped.{Stepped}
+use Rattle.monitor.specs.Stepped.{Stepped}
 
 -- 0: taken; any other number: refused with it
 abbrev pub answer_from : ℕ → Answer

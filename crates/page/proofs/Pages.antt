@@ -1,14 +1,16 @@
 -- The page line after line: row i's line stands behind i lines and a heading for each 16 of them, so its place and the page's length follow from the
 -- number of rows alone; and each line has 72 bytes, none of them a line end.
 use Rattle.constraint.proofs.Library.{List, [], ◌%◌, ◌*◌, ◌++◌, ◌+◌, ◌-◌, ◌/◌, ◌<◌, ◌∙◌, ◌∷◌, ◌≡◌, ◌≤◌, add-one, ap, append_assoc, append-nil, arith}
-use Rattle.constraint.proofs.Library.{by_cases, cond, dec_lt, eqb, eqb-false, eqb-true, get_or-replicate, length, length-append, min, refl, replicate}
-use Rattle.constraint.proofs.Library.{sets, subst, suc, suc-add, zero, zero-add, ℕ}
+use Rattle.constraint.proofs.Library.{by_cases, cond, dec_lt, eqb, eqb-false, eqb-true, get_or-replicate, get_or-take, length, length-append}
+use Rattle.constraint.proofs.Library.{length-take-le, min, refl, replicate}
+use Rattle.constraint.proofs.Library.{sets, subst, suc, suc-add, sym, take, zero, zero-add, ℕ}
 use Rattle.constraint.proofs.Lists.{split}
 use Rattle.constraint.specs.Page.{heading, hyphens, line_text, page_line, page_lines, page_text, page_width}
-use Rattle.constraint.specs.{Limits.row_limit, Report.line_end, Steps.at, declared.Verdict.Verdict}
+use Rattle.constraint.specs.{Limits.row_limit, Report.line_end, declared.Verdict.Verdict}
 use Rattle.page.proofs.Lines.{line_length, stored, text_length, text_printed}
 use Rattle.page.specs.ReadBack.{Lines, line_start, lines_of, no_line, one_more, page_length}
-use Rattle.page.specs.{Sheet.text_of, Sheet.verdicts_of, declared.Summary.Summary}
+use Rattle.page.specs.Sheet.{row_of, text_of, types_of, verdict_said, verdicts_of}
+use Rattle.page.specs.{declared.RowSummary.RowSummary, declared.Summary.Summary}
 use Rattle.text.proofs.Texts.{copied_all, copied_none}
 use Rattle.text.specs.Content.{Copied}
 
@@ -175,14 +177,41 @@ pub some_rows : (types : ℕ → ℕ) (verdicts : ℕ → Verdict) (n : ℕ) →
 some_rows types verdicts zero some = absurd (some refl)
 some_rows types verdicts (suc n) some = refl
 
-module _ (page : Summary) (before : List ℕ) (size : ℕ) (counted : size ≡ page_length (min page.rows row_limit)) where
+module _ (page : Summary) (before : List ℕ) (size : ℕ) (rows : List RowSummary) (whole : length page.rows ≡ row_limit)
+    (kept : rows ≡ take (min page.len row_limit) page.rows) (counted : size ≡ page_length (length rows)) where
+  rows_count : length rows ≡ min page.len row_limit
+  rows_count = ap length kept ∙ length-take-le (min page.len row_limit) page.rows (omega arith)
+
+  row_kept : (i : ℕ) → i < min page.len row_limit → row_of rows i ≡ row_of page.rows i
+  row_kept i h = rw kept (get_or-take (min page.len row_limit) page.rows i _ h)
+
+  text_kept : page_text (types_of rows) (verdicts_of page.closed rows) (length rows) ≡ text_of page
+  text_kept =
+      rw rows_count
+      (same_rows (types_of rows) (types_of page.rows) (verdicts_of page.closed rows) (verdicts_of page.closed page.rows) (min page.len row_limit)
+      (λ i h. ap (λ (r : RowSummary). r.tag) (row_kept i h)) (λ i h. ap (verdict_said page.closed) (row_kept i h)))
+
   text_size : length (text_of page) ≡ size
-  text_size = omega (arith, page_length_lem (at page.types) (verdicts_of page.closed page.steps) (min page.rows row_limit) (omega arith))
+  text_size =
+      omega (arith, rows_count, page_length_lem (types_of page.rows) (verdicts_of page.closed page.rows) (min page.len row_limit) (omega arith))
 
   -- the buffer is too short
   pub copied_nothing : length before < size → Copied (text_of page) before 0 before
   copied_nothing short = copied_none (text_of page) before (omega (arith, text_size))
 
+  copied_text : (after : List ℕ) → size ≤ length before → after ≡ sets before 0 (text_of page) → Copied (text_of page) before size after
+  copied_text after long put = rw (put, ← text_size) (copied_all (text_of page) before (omega (arith, text_size)))
+
   -- the page is stored
-  pub copied_page : (after : List ℕ) → size ≤ length before → after ≡ sets before 0 (text_of page) → Copied (text_of page) before size after
-  copied_page after long put = rw (put, ← text_size) (copied_all (text_of page) before (omega (arith, text_size)))
+  pub copied_heading : (after : List ℕ) → size ≤ length before → length rows ≡ 0 → after ≡ sets before 0 hyphens
+      → Copied (text_of page) before size after
+  copied_heading after long none put =
+      copied_text after long
+      (put ∙ ap (λ (text : List ℕ). sets before 0 text) (rw none at text_kept))
+
+  pub copied_page : (after : List ℕ) → size ≤ length before → ¬ (length rows ≡ 0)
+      → after ≡ sets before 0 (page_lines (types_of rows) (verdicts_of page.closed rows) (length rows)) → Copied (text_of page) before size after
+  copied_page after long some put =
+      copied_text after long
+      (put ∙ ap (λ (text : List ℕ). sets before 0 text)
+      (sym (some_rows (types_of rows) (verdicts_of page.closed rows) (length rows) some) ∙ text_kept))

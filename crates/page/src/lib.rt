@@ -1,14 +1,13 @@
 // The printed page: one line for each row, written line by line to the caller's buffer.
 #![tactic(auto)]
 
-ghost use Rattle.std.specs.Prelude.{◌≡◌, ◌≤◌, ◌<◌, min};
+ghost use Rattle.std.specs.Prelude.{◌≡◌, ◌≤◌, ◌<◌, min, length, take, unwrap_or};
 ghost use Rattle.std.proofs.lemmas.List.Edits.{sets};
 ghost use Rattle.constraint.specs.Limits.{row_limit};
-ghost use Rattle.constraint.specs.Steps.{at};
 ghost use Rattle.constraint.specs.Page.{left_in, right_in, name_of, verdict_word, step_text, page_line, page_lines};
 ghost use Rattle.page.specs.ReadBack.{page_length};
 ghost use Rattle.text.specs.Content.{Copied};
-ghost use Rattle.page.specs.Sheet.{verdict_for, verdicts_of, text_of, Headed};
+ghost use Rattle.page.specs.Sheet.{verdict_said, types_of, verdicts_of, text_of, Headed};
 
 use constraint::Verdict;
 
@@ -43,43 +42,32 @@ const NAMES: [[u8; 24]; 18] = [
     *b"Comparison              ",
 ];
 
+// What a page and a report say of a row.
+#[derive(Clone, Copy)]
+pub struct RowSummary {
+    // the number of its type
+    pub tag: u64,
+    // the step that broke it; 0: none did. No Option: it is the word of the lent memory, in which 0 is none (broken_at)
+    pub broken: u64,
+}
+
 // What a page and a report say of a monitor.
 #[derive(Drop)]
 pub struct Summary {
-    // for each row its type
-    pub types: [u64; 32],
-    // and the step that broke it; 0: none did
-    pub steps: [u64; 32],
+    // its rows, and what stands behind them
+    pub rows: [RowSummary; 32],
     // the number of rows
-    pub rows: usize,
+    pub len: usize,
     // the steps taken, the close included
     pub count: u64,
-    // 0: not closed
-    pub closed: u64,
+    pub closed: bool,
 }
 
 // The name of a type, left-aligned in 24; that of 0 stands for every number that is no type's, which no table has.
 fn name(tag: u64) -> [u8; 24]
     ensures { result ≡ left_in 24 (name_of tag) }
 {
-    let at = tag as usize;
-    if at < NAMES.len() {
-        return NAMES[at];
-    }
-    NAMES[0]
-}
-
-// The verdict of a row, by the mark of the close and the step that broke it.
-pub fn verdict(closed: u64, step: u64) -> Verdict
-    ensures { result ≡ verdict_for closed step }
-{
-    if 0 < step {
-        return Verdict::Broken(step);
-    }
-    if 0 < closed {
-        return Verdict::Kept;
-    }
-    Verdict::Open
+    *NAMES.get(tag as usize).unwrap_or(&NAMES[0])
 }
 
 // A verdict's word, left-aligned in 8.
@@ -98,12 +86,8 @@ fn step(verdict: Verdict) -> [u8; 20]
     ensures { result ≡ right_in 20 (step_text verdict) }
 {
     match verdict {
-        Verdict::Open => [32u8; 20],
-        Verdict::Kept => [32u8; 20],
-        Verdict::Broken(step) => {
-            let digits = text::digits_of(step);
-            digits.bytes
-        }
+        Verdict::Open | Verdict::Kept => [b' '; 20],
+        Verdict::Broken(step) => text::digits_of(step).bytes,
     }
 }
 
@@ -112,14 +96,12 @@ fn size(rows: usize) -> usize
     requires { rows ≤ row_limit }
     ensures { result ≡ page_length rows }
 {
-    if rows == 0 {
-        return LINE;
-    }
-    LINE * (rows + (rows + 15) / GROUP)
+    LINE * (rows + rows.div_ceil(GROUP).max(1))
 }
 
 // §7.16
 // Puts a row's line at a place of a buffer, column by column.
+// Stays by hand: `write!` promises its text on Ok alone, and this clause, which `Pages` of Page.antt needs, holds always.
 fn put_line(buffer: &mut [u8], place: usize, row: usize, tag: u64, verdict: Verdict)
     requires { (place ≤ 4096) × (row < row_limit) }
     ensures { buffer.new ≡ sets buffer.old place (page_line row tag verdict) }
@@ -147,51 +129,55 @@ fn put_heading(buffer: &mut [u8], place: usize, row: usize) -> usize
     place + LINE
 }
 
-// Puts the lines of the first rows, one after the other, to the front of a buffer.
-fn put_rows<'a>(
-    buffer: &mut [u8],
-    types: &'a [u64; 32],
-    steps: &'a [u64; 32],
-    rows: usize,
-    closed: u64,
-)
-    requires { rows ≤ row_limit }
+// Puts the lines of rows, one after the other, to the front of a buffer.
+fn put_rows(buffer: &mut [u8], rows: &[RowSummary], closed: bool)
+    requires { length rows.now ≤ row_limit }
     ensures { buffer.new ≡ sets buffer.old 0
-        (page_lines (at types.now) (verdicts_of closed steps.now) rows) }
+        (page_lines (types_of rows.now) (verdicts_of closed rows.now) (length rows.now)) }
 {
     let mut place = 0;
-    let mut row = 0;
-    while row < rows {
-        let behind = put_heading(buffer, place, row);
-        put_line(buffer, behind, row, types[row], verdict(closed, steps[row]));
+    for (i, row) in rows.iter().enumerate() {
+        let behind = put_heading(buffer, place, i);
+        put_line(buffer, behind, i, row.tag, row.verdict(closed));
         place = behind + LINE;
-        row += 1;
     }
 }
 
-// Of how many rows something is said: no more than 32.
-pub fn held(rows: usize) -> usize
-    ensures { result ≡ min rows row_limit }
-{
-    if rows < ROW_LIMIT { rows } else { ROW_LIMIT }
+impl RowSummary {
+    // The verdict of the row, closed or not.
+    pub fn verdict(self, closed: bool) -> Verdict
+        ensures { result ≡ verdict_said closed self }
+    {
+        if 0 < self.broken {
+            return Verdict::Broken(self.broken);
+        }
+        if closed { Verdict::Kept } else { Verdict::Open }
+    }
 }
 
 impl Summary {
-    // §7.15
-    // Writes the page to the front of a buffer and answers its length; where the buffer is too short, answers 0 and leaves it as it was.
-    pub fn write(self, buffer: &mut [u8]) -> usize
-        ensures { Copied (text_of self) buffer.old result buffer.new }
+    // The rows of which something is said: no more than 32.
+    pub fn rows(&self) -> &[RowSummary]
+        ensures { result.now ≡ take (min self.now.len row_limit) self.now.rows }
     {
-        let rows = held(self.rows);
-        let size = size(rows);
+        &self.rows[..self.len.min(ROW_LIMIT)]
+    }
+
+    // §7.15
+    // Writes the page to the front of a buffer and answers its length; where the buffer is too short, answers none and leaves it as it was.
+    pub fn write(&self, buffer: &mut [u8]) -> Option<usize>
+        ensures { Copied (text_of self.now) buffer.old (unwrap_or result 0) buffer.new }
+    {
+        let rows = self.rows();
+        let size = size(rows.len());
         if buffer.len() < size {
-            return 0;
+            return None;
         }
-        if rows == 0 {
+        if rows.is_empty() {
             big_endian::put(buffer, 0, &HYPHENS);
-            return size;
+            return Some(size);
         }
-        put_rows(buffer, &self.types, &self.steps, rows, self.closed);
-        size
+        put_rows(buffer, rows, self.closed);
+        Some(size)
     }
 }

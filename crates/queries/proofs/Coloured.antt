@@ -7,7 +7,7 @@ use Rattle.constraint.specs.Accepted.{EachField, KindClassFits, KindsSuit, Accep
 use Rattle.constraint.specs.Questions.{Judged}
 use Rattle.constraint.specs.Run.{step_for, questions, Request, Left}
 use Rattle.constraint.specs.Waiting.{waiting}
-use Rattle.constraint.specs.declared.Answer.TheVariants.{Refused}
+use Rattle.constraint.specs.Answer.{Refused}
 use Rattle.constraint.specs.declared.Call.{Call}
 use Rattle.constraint.specs.Constraint.{Age, Arbitrary, Burst, Comparison, Constraint, Delay, ExecutionTime, InputSynchronization, Order}
 use Rattle.constraint.specs.Constraint.{OutputSynchronization, Pattern, Reaction, Repeat, Repetition, Sporadic, StrongDelay, StrongSynchronization}

@@ -5,13 +5,14 @@ pub use Rattle.constraint.proofs.Library.{Bool, List, [], ◌%◌, ◌&&◌, ◌
 pub use Rattle.constraint.proofs.Library.{ap₂, arith, by_cases, cond, dec_lt, drop, eq-eqb, eqb, false, get_or, get_or-replicate, get_elem?, inl, inr}
 pub use Rattle.constraint.proofs.Library.{le-ltb, leb, length, lt-ltb, ltb, ltb-false, ltb-true, min, none, refl, replicate, some}
 pub use Rattle.constraint.proofs.Library.{subst, subst₂, suc, sym, true, zero, ℕ, ⊎_elim}
-pub use Rattle.constraint.proofs.{Judged.judged_once, Judged.never, Lists.both, Lists.or_false, Lists.split}
+pub use Rattle.constraint.proofs.{Judged.judged_once, Judged.never, Lists.both, Lists.or_false, Lists.split, Refusals.numbered}
+pub use Rattle.constraint.specs.{Answers.number_in, Answers.refusal_number, declared.Refusal.Refusal}
 pub use Rattle.constraint.proofs.{Streams.stream_below, Streams.streams, Verdicts.broken_shut, Verdicts.open_of_meets}
 pub use Rattle.constraint.specs.Limits.{first_coloured, last_colour, last_count, last_kind, last_time, no_limit, row_limit, waiting_limit}
 pub use Rattle.constraint.specs.Steps.{Step, clock, closed, own, tick}
 pub use Rattle.constraint.specs.{Continuation.Open, Questions.Question, Run.asks, Run.step_for}
-pub use Rattle.constraint.specs.{Run.withdraws, declared.Answer.Answer, declared.Answer.TheVariants.Refused}
-pub use Rattle.constraint.specs.{declared.Answer.TheVariants.Taken, declared.Call.Call, Constraint.Constraint}
+pub use Rattle.constraint.specs.{Run.withdraws, Answer.Answer, Answer.Refused}
+pub use Rattle.constraint.specs.{Answer.Taken, declared.Call.Call, Constraint.Constraint}
 pub use Rattle.in_place.proofs.{Blocks.row_lies, Parts.number_at}
 pub use Rattle.in_place.specs.Layout.{Lent, Shaped, Words, held_rows, kept_at, row_at, set_of}
 unfoldable pub use Rattle.in_place.specs.Layout.{is_in}

@@ -1,6 +1,6 @@
 -- The words of a lent monitor at their places are the numbers of the monitor that lies there.
-use Rattle.queries.proofs.Names.{Call, HoldsMonitor, Lent, List, Monitor, Shaped, Words, [], ◌-◌, ◌<◌, ◌≡◌, ◌≤◌, ap, arith, get_or, held_rows}
-use Rattle.queries.proofs.Names.{kept_at}
+use Rattle.queries.proofs.Names.{Bool, Call, HoldsMonitor, Lent, List, Monitor, Shaped, Words, [], ◌<◌, ◌∙◌, ◌≡◌, ◌≤◌, ap, arith, get_or}
+use Rattle.queries.proofs.Names.{held_rows, kept_at, lt-ltb, ltb, mark, refl, suc, zero}
 use Rattle.queries.proofs.Names.{length, number_at, number_words, refusal_for, refusal_in, row_lies, row_at, row_limit, row_as_words, subst}
 use Rattle.queries.proofs.Names.{waiting_limit, words_of_lent, ℕ}
 use Rattle.row_type.specs.Words.{parameters_at, registers_at}
@@ -15,6 +15,10 @@ pub record RowLies (words : Words) (m : Monitor) (i : ℕ) : Type 0 where
   pub mark_is : get_or (get_or (get_or words i []) 1 []) 18 0 ≡ (row_at m i).now.kept
   pub broken_is : get_or (get_or (get_or words i []) 1 []) 19 0 ≡ (row_at m i).now.broken
 
+mark_is_one : (closed : ℕ) → closed ≤ 1 → mark (ltb 0 closed) ≡ closed
+mark_is_one zero small = refl
+mark_is_one (suc closed) small = rw (lt-ltb 0 (suc closed) (omega arith)) (omega (arith, small))
+
 module _ (words : Words) (m : Monitor) (holds : HoldsMonitor words m) where
   -- what is said of the monitor whose words they are holds for the one stored in them
   pub said : (P : Monitor → Type 0) → ((h : Lent) → words ≡ words_of_lent h → Shaped h → P h.monitor) → P m
@@ -23,14 +27,10 @@ module _ (words : Words) (m : Monitor) (holds : HoldsMonitor words m) where
   pub held_lies : (n : ℕ) → ((h : Lent) → words ≡ words_of_lent h → Shaped h → n ≡ held_rows h.monitor) → n ≡ held_rows m
   held_lies n = said (λ x. n ≡ held_rows x)
 
-  pub closed_lies : (n : ℕ) → ((h : Lent) → words ≡ words_of_lent h → Shaped h → n ≡ 1 - (1 - h.monitor.closed)) → n ≡ m.closed
-  closed_lies n so =
-      omega (
-        arith,
-        said (λ x. n ≡ 1 - (1 - x.closed)) so,
-        subst (λ (x : Monitor). x.closed < 2) holds.monitor_is
-            (omega (arith, holds.indexes.sound.closed_mark)),
-      )
+  pub closed_lies : (b : Bool) → ((h : Lent) → words ≡ words_of_lent h → Shaped h → b ≡ ltb 0 h.monitor.closed) → mark b ≡ m.closed
+  closed_lies b so =
+      ap mark (said (λ x. b ≡ ltb 0 x.closed) so)
+      ∙ mark_is_one m.closed (subst (λ (x : Monitor). x.closed ≤ 1) holds.monitor_is holds.indexes.sound.closed_mark)
 
   pub clock_lies : get_or (get_or (get_or words 32 []) 0 []) 0 0 ≡ m.clock
   clock_lies = said (λ x. get_or (get_or (get_or words 32 []) 0 []) 0 0 ≡ x.clock) (λ h e s. number_at h s words e 0)

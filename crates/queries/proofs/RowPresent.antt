@@ -1,4 +1,5 @@
 -- A row that is there has the numbers that its words say, and the rows behind the last add nothing: so what is found row after row is what is asked.
+use Rattle.std.specs.Int.{from_bool}
 use Rattle.queries.proofs.Names.{Bool, Call, List, Monitor, Row, [], ◌%◌, ◌&&◌, ◌*◌, ◌+◌, ◌-◌, ◌/◌, ◌<◌, ◌^◌, ◌∙◌, ◌∷◌, ◌≡◌, ◌≤◌, add-one, ap}
 use Rattle.queries.proofs.Names.{ap₂, arith, bit, broken_mark, broken_marks, by_cases, cond, crowded_known, crowded_by, crowded_first, deadline_of}
 use Rattle.queries.proofs.Names.{dec_lt, drop, false, first_marked, get_or, held_rows, le-ltb, least_of, length, lt-ltb, ltb, mark, min, next_step}
@@ -48,6 +49,11 @@ pub mark_small : (b : Bool) → mark b ≤ 1
 mark_small true = omega arith
 mark_small false = omega arith
 
+-- the number of a test is its mark
+pub marked : (b : Bool) → from_bool b ≡ mark b
+marked true = refl
+marked false = refl
+
 module _ (m : Monitor) where
   pub marks_none : (n i : ℕ) → min m.len row_limit ≤ i → broken_marks m i n ≡ 0
   unfolding broken_marks
@@ -85,19 +91,10 @@ pub power_some : (n : ℕ) → 0 < 2 ^ n
 power_some zero = omega arith
 power_some (suc n) = omega (arith, power_some n)
 
-power_up : (d k : ℕ) → 2 ^ k ≤ 2 ^ (d + k)
-power_up zero k = let same : 0 + k ≡ k = omega arith in rw same (omega arith)
-power_up (suc d) k = let one : suc d + k ≡ suc (d + k) = omega arith in rw one (omega (arith, power_up d k))
-
 module _ (i mask b : ℕ) (some_left : 0 < i) (few : i ≤ 32) (below : mask < 2 ^ (32 - i)) (bit : b ≤ 1) where
   -- what has a bit for each row from row i on has room for one more
   pub bits_next : mask * 2 + b < 2 ^ (32 - (i - 1))
   bits_next = let more : 32 - (i - 1) ≡ suc (32 - i) = omega arith in rw more (omega arith)
-
-  pub bits_room : mask * 2 + b < 2 ^ 32
-  bits_room =
-      let all : (i - 1) + (32 - (i - 1)) ≡ 32 = omega arith in
-      omega (arith, bits_next, rw all at (power_up (i - 1) (32 - (i - 1))))
 
 -- ---- the first row that has a mark
 

@@ -2,7 +2,7 @@
 use Rattle.queries.proofs.Names.{QueryAnswer, AsksBrokenRows, AsksClock, AsksClosed, AsksCrowdedRow, AsksDeadline, AsksRowDeadline, AsksSteps}
 use Rattle.queries.proofs.Names.{AsksWaiting, Bool, BrokenRows, Call, Constraint, FitRows, Fits, Follows, LeastDeadline, List, Monitor, Open}
 use Rattle.queries.proofs.Names.{Row, RowDeadline, RowWaiting, Sound, Step, [], ◌&&◌, ◌<◌, ◌∙◌, ◌∷◌, ◌≡◌, ◌≤◌, after_follows, ap, arith}
-use Rattle.queries.proofs.Names.{broken_mark, broken_rows_of, by_cases, closed, cond, crowded_row_of, deadline_by, deadline_of, dec_lt}
+use Rattle.queries.proofs.Names.{broken_mark, broken_rows_of, by_cases, cond, crowded_row_of, deadline_by, deadline_of, dec_lt}
 use Rattle.queries.proofs.Names.{every_type_exact, false}
 use Rattle.queries.proofs.Names.{get_or, get_elem?, has_none, has_row, le-ltb, least_of, length, lt-ltb, ltb, mark, min, never, no_row_lem, no_limit}
 use Rattle.queries.proofs.Names.{no_row, none, refl, row, row_at, row_limit, some, split, subst, suc, sym, there, true, waiting_by, waiting_of}

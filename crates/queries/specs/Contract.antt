@@ -1,5 +1,5 @@
 -- What a host is promised of each number that it asks a monitor for (§15).
-use Rattle.std.specs.Prelude.{ℕ, zero, suc, ◌/◌, ◌%◌, ◌^◌, ◌<◌, ◌≡◌, true, false, List, [], ◌∷◌, ◌++◌, ◌⊎◌, length, ltb}
+use Rattle.std.specs.Prelude.{ℕ, zero, suc, ◌/◌, ◌%◌, ◌^◌, ◌<◌, ◌≡◌, true, false, List, [], ◌∷◌, ◌++◌, ◌⊎◌, length, ltb, Option, Some, None}
 use Rattle.std.proofs.Math.Option.{none, some}
 use Rattle.std.proofs.Math.ListN.{get_elem?}
 use Rattle.constraint.specs.Limits.{no_limit, row_limit, waiting_limit}
@@ -11,13 +11,16 @@ use Rattle.constraint.specs.Accepted.{Accepted}
 use Rattle.constraint.specs.Run.{step_for, questions, Request, Left}
 use Rattle.queries.specs.Deadlines.{RowDeadline, LeastDeadline}
 use Rattle.queries.specs.Oldest.{no_stream, oldest, oldest_stream}
-use Rattle.constraint.specs.declared.Answer.TheVariants.{Refused}
+use Rattle.constraint.specs.Answer.{Refused}
 use Rattle.constraint.specs.declared.Call.{Call}
 use Rattle.constraint.specs.Constraint.{Constraint}
 use Rattle.row.specs.Cause.{Cause}
 use Rattle.row.specs.Machine.{mark}
 use Rattle.monitor.specs.Contract.{after, Remains}
 use Rattle.monitor.specs.declared.Monitor.{Monitor}
+use Rattle.in_place.specs.Contract.{HoldsMonitor}
+use Rattle.in_place.specs.Layout.{Words}
+use Rattle.queries.specs.Numbers.{there}
 use Rattle.queries.specs.Numbers.{cause_of, moment_of, deadline_of, least_of, waiting_of, broken_rows_of, crowded_row_of}
 use Rattle.queries.specs.Numbers.{oldest_of, oldest_stream_of}
 
@@ -61,6 +64,11 @@ pub data CrowdedRow (rows : List Constraint) (steps : List Step) (call : Call) :
   crowded : (i : ℕ) (c : Constraint) → Judged (questions rows steps call) (Refused 12) → get_elem? rows i ≡ some c → Crowds steps call c
       → ((j : ℕ) (d : Constraint) → j < i → get_elem? rows j ≡ some d → ¬ Crowds steps call d) → CrowdedRow rows steps call i
   none_crowded : ¬ Judged (questions rows steps call) (Refused 12) → CrowdedRow rows steps call row_limit
+
+-- the place of a row that is there is its number
+abbrev pub PlaceOf : Words → ℕ → Option ℕ → Type 0
+PlaceOf words row (Some i) = (i ≡ row) × (i < row_limit) × ((m : Monitor) → HoldsMonitor words m → there row m.len ≡ true)
+PlaceOf words row None = (m : Monitor) → HoldsMonitor words m → there row m.len ≡ false
 
 -- ---- the contracts
 

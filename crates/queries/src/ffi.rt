@@ -1,5 +1,6 @@
 // What a host can ask of a lent monitor. These calls only read its words.
-ghost use Rattle.std.specs.Prelude.{◌<◌, ◌≤◌, ◌≡◌, ltb};
+ghost use Rattle.std.specs.Prelude.{◌<◌, ◌≤◌, ◌≡◌, ltb, unwrap_or};
+ghost use Rattle.constraint.specs.Limits.{no_limit};
 ghost use Rattle.constraint.specs.declared.Call.{Call};
 ghost use Rattle.row.specs.StepParts.{crowded_by};
 ghost use Rattle.row.specs.Machine.{mark};
@@ -7,6 +8,8 @@ ghost use Rattle.monitor.specs.declared.Monitor.{Monitor};
 ghost use Rattle.in_place.specs.Layout.{row_at};
 ghost use Rattle.in_place.specs.Contract.{HoldsMonitor, ReadOff};
 ghost use Rattle.queries.specs.Numbers.{deadline_by, first_marked, waiting_at, oldest_at, oldest_stream_at};
+ghost use Rattle.queries.specs.Oldest.{no_stream};
+ghost use Rattle.queries.specs.Contract.{PlaceOf};
 ghost use Rattle.queries.specs.Contract.{AsksClock, AsksSteps, AsksClosed, AsksBrokenRows, AsksWaiting};
 ghost use Rattle.queries.specs.Contract.{AsksRowDeadline, AsksDeadline, AsksCrowdedRow, AsksCause, AsksMoment, AsksOldest, AsksOldestStream};
 
@@ -18,7 +21,6 @@ use questions::event_of;
 use ring::time_at;
 use row::StepInput;
 use row::stored::step_overflows;
-use row_type::parts::smaller;
 use row_type::row_words::{BROKEN, DUE, HEAD, KEPT, LEN, TYPE_TAG};
 
 // §15.1
@@ -45,7 +47,14 @@ pub extern "C" fn delkuthi_steps(m: &Words) -> u64
 pub extern "C" fn delkuthi_closed(m: &Words) -> u8
     ensures { (result ≤ 1) × ReadOff m.now AsksClosed result }
 {
-    if 0 < closed(m) { 1 } else { 0 }
+    u8::from(closed(m))
+}
+
+// Returns the place of a row, if there is a row of that number.
+fn place_of(m: &Words, row: u64) -> Option<usize>
+    ensures { PlaceOf m.now row result }
+{
+    (row < held(m) as u64).then_some(row as usize)
 }
 
 // Returns the deadline of a row that exists.
@@ -53,7 +62,7 @@ fn deadline_at(m: &Words, i: usize) -> u64
     requires { i < 32 }
     ensures { (n : Monitor) → HoldsMonitor m.now n → result ≡ deadline_by n.closed (row_at n i).now.broken (row_at n i).now.due }
 {
-    deadline_by(closed(m), m[i][1][BROKEN], m[i][1][DUE])
+    deadline_by(u64::from(closed(m)), m[i][1][BROKEN], m[i][1][DUE])
 }
 
 // §15.8
@@ -62,10 +71,10 @@ fn deadline_at(m: &Words, i: usize) -> u64
 pub extern "C" fn delkuthi_row_deadline(m: &Words, row: u64) -> u64
     ensures { ReadOff m.now (λ monitor. AsksRowDeadline monitor row) result }
 {
-    if held(m) as u64 <= row {
-        return NO_LIMIT;
+    match place_of(m, row) {
+        Some(i) => deadline_at(m, i),
+        None => NO_LIMIT,
     }
-    deadline_at(m, row as usize)
 }
 
 // §15.9
@@ -74,12 +83,9 @@ pub extern "C" fn delkuthi_row_deadline(m: &Words, row: u64) -> u64
 pub extern "C" fn delkuthi_deadline(m: &Words) -> u64
     ensures { ReadOff m.now AsksDeadline result }
 {
-    let rows = held(m);
     let mut least = NO_LIMIT;
-    let mut i = 0;
-    while i < rows {
-        least = smaller(least, deadline_at(m, i));
-        i += 1;
+    for i in 0..held(m) {
+        least = least.min(deadline_at(m, i));
     }
     least
 }
@@ -89,7 +95,8 @@ fn waiting_at(m: &Words, i: usize) -> u64
     requires { i < 32 }
     ensures { (n : Monitor) → HoldsMonitor m.now n → result ≡ waiting_at n i }
 {
-    waiting_by(closed(m), m[i][1][BROKEN], m[i][1][TYPE_TAG], m[i][1][LEN])
+    let closed = u64::from(closed(m));
+    waiting_by(closed, m[i][1][BROKEN], m[i][1][TYPE_TAG], m[i][1][LEN])
 }
 
 // §15.5
@@ -98,21 +105,21 @@ fn waiting_at(m: &Words, i: usize) -> u64
 pub extern "C" fn delkuthi_row_waiting(m: &Words, row: u64) -> u64
     ensures { ReadOff m.now (λ monitor. AsksWaiting monitor row) result }
 {
-    if held(m) as u64 <= row {
-        return 0;
+    match place_of(m, row) {
+        Some(i) => waiting_at(m, i),
+        None => 0,
     }
-    waiting_at(m, row as usize)
 }
 
-// Returns the time of the oldest that waits in a row that exists.
-fn oldest_at(m: &Words, i: usize) -> u64
+// Returns the time of the oldest that waits in a row that exists, if something waits.
+fn oldest_at(m: &Words, i: usize) -> Option<u64>
     requires { i < 32 }
-    ensures { (n : Monitor) → HoldsMonitor m.now n → result ≡ oldest_at n i }
+    ensures { (n : Monitor) → HoldsMonitor m.now n → unwrap_or result no_limit ≡ oldest_at n i }
 {
     if waiting_at(m, i) == 0 {
-        return NO_LIMIT;
+        return None;
     }
-    time_at(&m[i][0], m[i][1][HEAD] as usize, 0)
+    Some(time_at(&m[i][0], m[i][1][HEAD] as usize, 0))
 }
 
 // §15.19
@@ -121,21 +128,21 @@ fn oldest_at(m: &Words, i: usize) -> u64
 pub extern "C" fn delkuthi_row_oldest(m: &Words, row: u64) -> u64
     ensures { ReadOff m.now (λ monitor. AsksOldest monitor row) result }
 {
-    if held(m) as u64 <= row {
-        return NO_LIMIT;
+    match place_of(m, row) {
+        Some(i) => oldest_at(m, i).unwrap_or(NO_LIMIT),
+        None => NO_LIMIT,
     }
-    oldest_at(m, row as usize)
 }
 
-// Returns the stream of the oldest that waits in a row that exists.
-fn oldest_stream_at(m: &Words, i: usize) -> u8
+// Returns the stream of the oldest that waits in a row that exists, if something waits.
+fn oldest_stream_at(m: &Words, i: usize) -> Option<u8>
     requires { i < 32 }
-    ensures { (n : Monitor) → HoldsMonitor m.now n → result ≡ oldest_stream_at n i }
+    ensures { (n : Monitor) → HoldsMonitor m.now n → unwrap_or result no_stream ≡ oldest_stream_at n i }
 {
     if waiting_at(m, i) == 0 {
-        return NO_STREAM;
+        return None;
     }
-    stream_from(oldest_kind(&m[i][1]))
+    Some(stream_from(oldest_kind(&m[i][1])))
 }
 
 // §15.19
@@ -144,10 +151,10 @@ fn oldest_stream_at(m: &Words, i: usize) -> u8
 pub extern "C" fn delkuthi_row_oldest_stream(m: &Words, row: u64) -> u8
     ensures { ReadOff m.now (λ monitor. AsksOldestStream monitor row) result }
 {
-    if held(m) as u64 <= row {
-        return NO_STREAM;
+    match place_of(m, row) {
+        Some(i) => oldest_stream_at(m, i).unwrap_or(NO_STREAM),
+        None => NO_STREAM,
     }
-    oldest_stream_at(m, row as usize)
 }
 
 // §15.14
@@ -157,11 +164,10 @@ pub extern "C" fn delkuthi_row_oldest_stream(m: &Words, row: u64) -> u8
 pub extern "C" fn delkuthi_row_cause(m: &Words, row: u64) -> u8
     ensures { (result ≤ 3) × ReadOff m.now (λ monitor. AsksCause monitor row) result }
 {
-    if held(m) as u64 <= row {
-        return 0;
+    match place_of(m, row) {
+        Some(i) => cause_by(m[i][1][BROKEN], m[i][1][HEAD]),
+        None => 0,
     }
-    let i = row as usize;
-    cause_by(m[i][1][BROKEN], m[i][1][HEAD])
 }
 
 // §15.15
@@ -171,11 +177,10 @@ pub extern "C" fn delkuthi_row_cause(m: &Words, row: u64) -> u8
 pub extern "C" fn delkuthi_row_moment(m: &Words, row: u64) -> u64
     ensures { ReadOff m.now (λ monitor. AsksMoment monitor row) result }
 {
-    if held(m) as u64 <= row {
-        return NO_LIMIT;
+    match place_of(m, row) {
+        Some(i) => moment_by(m[i][1][BROKEN], m[i][1][KEPT]),
+        None => NO_LIMIT,
     }
-    let i = row as usize;
-    moment_by(m[i][1][BROKEN], m[i][1][KEPT])
 }
 
 // Returns 1 if a row is broken, else 0.
@@ -183,7 +188,7 @@ fn broken_at(m: &Words, i: usize) -> u32
     requires { i < 32 }
     ensures { (result ≤ 1) × ((n : Monitor) → HoldsMonitor m.now n → result ≡ mark (ltb 0 (row_at n i).now.broken)) }
 {
-    if 0 < m[i][1][BROKEN] { 1 } else { 0 }
+    u32::from(0 < m[i][1][BROKEN])
 }
 
 // §15.4
@@ -192,29 +197,28 @@ fn broken_at(m: &Words, i: usize) -> u32
 pub extern "C" fn delkuthi_broken_rows(m: &Words) -> u32
     ensures { ReadOff m.now AsksBrokenRows result }
 {
-    let mut mask: u32 = 0;
-    let mut i = held(m);
-    while 0 < i {
-        i -= 1;
+    let mut mask = 0;
+    for i in (0..held(m)).rev() {
         mask = mask * 2 + broken_at(m, i);
     }
     mask
 }
 
-// Returns the first of `rows` rows that the event would overflow, or 32 if it would overflow none.
-fn first_crowded(m: &Words, rows: usize, o: StepInput) -> u8
+// What is the number of no row.
+const NO_ROW: u8 = 32;
+
+// Returns the first of `rows` rows that the event would overflow, if it would overflow one.
+fn first_crowded(m: &Words, rows: usize, o: StepInput) -> Option<u8>
     requires { rows ≤ 32 }
-    ensures { (result ≤ 32) × ((n : Monitor) → HoldsMonitor m.now n
-        → result ≡ first_marked rows (λ w. crowded_by w.parameters w.now o) 0 n.rows) }
+    ensures { (unwrap_or result 32 ≤ 32) × ((n : Monitor) → HoldsMonitor m.now n
+        → unwrap_or result 32 ≡ first_marked rows (λ w. crowded_by w.parameters w.now o) 0 n.rows) }
 {
-    let mut i = 0;
-    while i < rows {
+    for i in 0..rows {
         if step_overflows(&m[i], o) {
-            return i as u8;
+            return Some(i as u8);
         }
-        i += 1;
     }
-    32
+    None
 }
 
 // §15.11
@@ -224,8 +228,8 @@ fn first_crowded(m: &Words, rows: usize, o: StepInput) -> u8
 pub extern "C" fn delkuthi_crowded_row(m: &Words, kind: u8, time: u64) -> u8
     ensures { (result ≤ 32) × ReadOff m.now (λ monitor. AsksCrowdedRow monitor (Call.Event kind time)) result }
 {
-    if 0 < event_refusal(m, kind, time) {
-        return 32;
+    if event_refusal(m, kind, time).is_err() {
+        return NO_ROW;
     }
-    first_crowded(m, held(m), event_of(kind as u64, time))
+    first_crowded(m, held(m), event_of(u64::from(kind), time)).unwrap_or(NO_ROW)
 }

@@ -1,4 +1,5 @@
 // What a host can ask while a monitor runs, computed from the numbers that the monitor keeps.
+// The C interface has a number for no deadline, no moment, no cause and no stream, and the least deadline is the least of them: so they stay numbers.
 #![tactic(auto)]
 
 pub mod ffi;
@@ -19,10 +20,7 @@ use row_type::row_words;
 pub fn deadline_by(closed: u64, broken: u64, due: u64) -> u64
     ensures { result ≡ deadline_by closed broken due }
 {
-    if 0 < closed {
-        return NO_LIMIT;
-    }
-    if 0 < broken {
+    if 0 < closed || 0 < broken {
         return NO_LIMIT;
     }
     if due < Monitor::LAST_TIME {
@@ -37,16 +35,12 @@ pub fn deadline_by(closed: u64, broken: u64, due: u64) -> u64
 pub fn cause_by(broken: u64, cause: u64) -> u8
     ensures { (result ≤ 3) × (result ≡ cause_in broken cause) }
 {
-    if broken == 0 {
-        return 0;
+    match (broken, cause) {
+        (0, _) => 0,
+        (_, 1) => 1,
+        (_, 2) => 2,
+        _ => 3,
     }
-    if cause == 1 {
-        return 1;
-    }
-    if cause == 2 {
-        return 2;
-    }
-    3
 }
 
 // §15.15
@@ -54,33 +48,24 @@ pub fn cause_by(broken: u64, cause: u64) -> u8
 pub fn moment_by(broken: u64, moment: u64) -> u64
     ensures { result ≡ moment_in broken moment }
 {
-    if 0 < broken {
-        return moment;
-    }
-    NO_LIMIT
+    if 0 < broken { moment } else { NO_LIMIT }
 }
 
 // Returns whether the times that a row of this type keeps are those that wait in it.
 fn waits_in(tag: u64) -> bool
     ensures { result ≡ waits_in tag }
 {
-    tag == 1 || (tag == 2 || tag == 7)
+    matches!(tag, 1 | 2 | 7)
 }
 
 // Returns how many wait in a row, given the mark of the close, the step that broke the row, its type and how many times it keeps.
 pub fn waiting_by(closed: u64, broken: u64, tag: u64, kept: u64) -> u64
     ensures { result ≡ waiting_by closed broken tag kept }
 {
-    if 0 < closed {
+    if 0 < closed || 0 < broken {
         return 0;
     }
-    if 0 < broken {
-        return 0;
-    }
-    if waits_in(tag) {
-        return kept;
-    }
-    0
+    if waits_in(tag) { kept } else { 0 }
 }
 
 // §15.19
@@ -122,8 +107,5 @@ pub fn oldest_kind(w: &[u64; SIZE]) -> u64
 pub fn stream_from(number: u64) -> u8
     ensures { result ≡ min number no_stream }
 {
-    if number < NO_STREAM as u64 {
-        return number as u8;
-    }
-    NO_STREAM
+    number.min(u64::from(NO_STREAM)) as u8
 }

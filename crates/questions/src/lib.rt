@@ -1,30 +1,31 @@
-// The questions of a call, and what a call changes outside the rows. All functions take and return numbers.
+// The questions of a call, and what a call changes outside the rows.
 #![tactic(auto)]
 
 ghost use Rattle.std.specs.Prelude.{◌≡◌, ℕ};
+ghost use Rattle.constraint.specs.Answers.{number_in};
 ghost use Rattle.constraint.specs.Streams.{stream};
 ghost use Rattle.constraint.specs.declared.Call.{Call};
 ghost use Rattle.row.specs.Machine.{event_at};
 ghost use Rattle.questions.specs.Questions.{stream_for, place_for, time_refusal, own_refusal, refusal_by, step_input_by, free_after, closed_after};
-ghost use Rattle.questions.specs.Questions.{no_undo, undo_by, place_in};
+ghost use Rattle.questions.specs.Questions.{undo_by, place_in};
 
 use constraint::{
-    Call, FIRST_COLOURED, LAST_COLOUR, LAST_COUNT, LAST_KIND, LAST_TIME, STREAM_COUNT,
+    Call, FIRST_COLOURED, LAST_COLOUR, LAST_COUNT, LAST_KIND, LAST_TIME, Refusal, STREAM_COUNT,
 };
-use ring::minus;
 use row::StepInput;
-use row_type::parts::{kind_of, plus};
+use row_type::parts::kind_of;
 
-// No event: a kind that no row has, and no stream.
+// No event: a kind that no row has, and no stream. An Option would not be plainer: a row compares the kind with its five, and 65 is none of them.
 pub const NO_EVENT: u64 = 65;
 
 pub const NO_STREAM: u64 = STREAM_COUNT as u64;
 
 // What the last step changed beside the rows, as it was: the place of its stream and the first free time there, the clock, the count and the mark
-// of the close; and whether it may be withdrawn (0: no).
+// of the close; and whether it may be withdrawn (0: no). The default: there is nothing to withdraw.
 #[repr(C)]
-#[derive(Clone, Copy)]
+#[derive(Clone, Copy, Default)]
 pub struct Undo {
+    // may and closed are no bools: they are words of the memory that C lends, which may hold any number
     pub may: u64,
     pub place: usize,
     pub next: u64,
@@ -33,21 +34,7 @@ pub struct Undo {
     pub closed: u64,
 }
 
-// Nothing to withdraw.
-pub fn no_undo() -> Undo
-    ensures { result ≡ no_undo }
-{
-    Undo {
-        may: 0,
-        place: 0,
-        next: 0,
-        clock: 0,
-        count: 0,
-        closed: 0,
-    }
-}
-
-// What a call changes beside the rows, as it is before it.
+// What a call changes beside the rows, as it is before it. The numbers stay apart: each caller has them in a record of its own.
 pub fn undo_of(call: Call, closed: u64, clock: u64, next: u64, count: u64) -> Undo
     ensures { result ≡ undo_by call closed clock next count }
 {
@@ -73,7 +60,7 @@ fn stream_of(kind: u8, colour: u8) -> u64
     ensures { result ≡ stream kind colour }
 {
     let base = FIRST_COLOURED as u64;
-    base + 8 * minus(kind as u64, base) + colour as u64
+    base + 8 * (kind as u64).saturating_sub(base) + colour as u64
 }
 
 // The stream of a call's event; 0 where there is no event.
@@ -83,8 +70,7 @@ fn stream(call: Call) -> u64
     match call {
         Call::Event { kind, .. } => kind as u64,
         Call::ColouredEvent { kind, colour, .. } => stream_of(kind, colour),
-        Call::Tick { .. } => 0,
-        Call::Close => 0,
+        Call::Tick { .. } | Call::Close => 0,
     }
 }
 
@@ -99,67 +85,61 @@ pub fn place(call: Call) -> usize
     0
 }
 
-// Questions 10 and 11 for an event, over the clock and the first free time of its stream: the number of the first "no", or 0.
-pub fn time_refusal(time: u64, clock: u64, next: u64) -> u8
-    ensures { result ≡ time_refusal time clock next }
+// Questions 10 and 11 for an event, over the clock and the first free time of its stream: the first "no" refuses it.
+pub fn time_refusal(time: u64, clock: u64, next: u64) -> Result<(), Refusal>
+    ensures { number_in result ≡ time_refusal time clock next }
 {
     if LAST_TIME < time {
-        return 10;
+        return Err(Refusal::TimeRange);
     }
-    if time < clock {
-        return 11;
+    if time < clock || time < next {
+        return Err(Refusal::TimeOrder);
     }
-    if time < next {
-        return 11;
-    }
-    0
+    Ok(())
 }
 
 // Questions 9, 19, 10 and 11 for an event of a plain kind.
-fn event_refusal(kind: u8, time: u64, clock: u64, next: u64) -> u8
-    ensures { result ≡ own_refusal (Call.Event kind time) clock next }
+fn event_refusal(kind: u8, time: u64, clock: u64, next: u64) -> Result<(), Refusal>
+    ensures { number_in result ≡ own_refusal (Call.Event kind time) clock next }
 {
     if LAST_KIND < kind {
-        return 9;
+        return Err(Refusal::Kind);
     }
     if FIRST_COLOURED <= kind {
-        return 19;
+        return Err(Refusal::Form);
     }
     time_refusal(time, clock, next)
 }
 
-// The same for an event with a colour.
-fn coloured_refusal(kind: u8, colour: u8, time: u64, clock: u64, next: u64) -> u8
-    ensures { result ≡ own_refusal (Call.ColouredEvent kind colour time) clock next }
+// The same for an event with a colour. The two ask different questions of a kind, and share those of a time.
+fn coloured_refusal(kind: u8, colour: u8, time: u64, clock: u64, next: u64) -> Result<(), Refusal>
+    ensures { number_in result ≡ own_refusal (Call.ColouredEvent kind colour time) clock next }
 {
     if LAST_KIND < kind {
-        return 9;
+        return Err(Refusal::Kind);
     }
-    if kind < FIRST_COLOURED {
-        return 19;
-    }
-    if LAST_COLOUR < colour {
-        return 19;
+    if kind < FIRST_COLOURED || LAST_COLOUR < colour {
+        return Err(Refusal::Form);
     }
     time_refusal(time, clock, next)
 }
 
 // Questions 10 and 11 for a tick.
-fn tick_refusal(time: u64, clock: u64) -> u8
-    ensures { (next : ℕ) → result ≡ own_refusal (Call.Tick time) clock next }
+fn tick_refusal(time: u64, clock: u64) -> Result<(), Refusal>
+    ensures { (next : ℕ) → number_in result ≡ own_refusal (Call.Tick time) clock next }
 {
     if LAST_TIME < time {
-        return 10;
+        return Err(Refusal::TimeRange);
     }
     if time <= clock {
-        return 11;
+        return Err(Refusal::TimeOrder);
     }
-    0
+    Ok(())
 }
 
-// A call's questions but 8, 24 and 12, over the clock and the first free time of its stream: the number of the first "no", or 0.
-fn own_refusal(call: Call, clock: u64, next: u64) -> u8
-    ensures { result ≡ own_refusal call clock next }
+// A call's questions but 8, 24 and 12, over the clock and the first free time of its stream: the first "no" refuses it.
+fn own_refusal(call: Call, clock: u64, next: u64) -> Result<(), Refusal>
+    ensures { number_in result ≡ own_refusal call clock next }
 {
     match call {
         Call::Event { kind, time } => event_refusal(kind, time, clock, next),
@@ -167,20 +147,21 @@ fn own_refusal(call: Call, clock: u64, next: u64) -> u8
             coloured_refusal(kind, colour, time, clock, next)
         }
         Call::Tick { time } => tick_refusal(time, clock),
-        Call::Close => 0,
+        Call::Close => Ok(()),
     }
 }
 
 // §8.24
-// A call's questions but 12, over the mark of the close and the count of steps too: the number of the first "no", or 0.
-pub fn refusal(call: Call, closed: u64, count: u64, clock: u64, next: u64) -> u8
-    ensures { result ≡ refusal_by call closed count clock next }
+// The four numbers are no struct: a monitor, a clock and C's memory hold them in records of their own, and each would build it for a call.
+// A call's questions but 12, over the mark of the close and the count of steps too: the first "no" refuses it.
+pub fn refusal(call: Call, closed: u64, count: u64, clock: u64, next: u64) -> Result<(), Refusal>
+    ensures { number_in result ≡ refusal_by call closed count clock next }
 {
     if 0 < closed {
-        return 8;
+        return Err(Refusal::Closed);
     }
     if LAST_COUNT <= count {
-        return 24;
+        return Err(Refusal::CountFull);
     }
     own_refusal(call, clock, next)
 }
@@ -224,10 +205,8 @@ pub fn free(call: Call, next: u64) -> u64
     ensures { result ≡ free_after call next }
 {
     match call {
-        Call::Event { time, .. } => plus(time, 1),
-        Call::ColouredEvent { time, .. } => plus(time, 1),
-        Call::Tick { .. } => next,
-        Call::Close => next,
+        Call::Event { time, .. } | Call::ColouredEvent { time, .. } => time.saturating_add(1),
+        Call::Tick { .. } | Call::Close => next,
     }
 }
 
@@ -236,9 +215,7 @@ pub fn closed(call: Call, closed: u64) -> u64
     ensures { result ≡ closed_after call closed }
 {
     match call {
-        Call::Event { .. } => closed,
-        Call::ColouredEvent { .. } => closed,
-        Call::Tick { .. } => closed,
+        Call::Event { .. } | Call::ColouredEvent { .. } | Call::Tick { .. } => closed,
         Call::Close => 1,
     }
 }

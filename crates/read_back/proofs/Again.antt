@@ -9,11 +9,11 @@ use Rattle.constraint.specs.Limits.{row_limit}
 use Rattle.constraint.specs.Questions.{Judged}
 use Rattle.constraint.specs.Table.{ReadsTableUpTo, row_body, table_of}
 use Rattle.constraint.specs.Types.{TypeKnown, count_of, type_of}
-use Rattle.constraint.specs.declared.Answer.TheVariants.{Taken}
+use Rattle.constraint.specs.Answer.{Taken}
 use Rattle.table_row.proofs.{Accepting.ReadBack, Accepting.write_then_read, Standing.stands_once}
 use Rattle.table.proofs.ReadUnique.{reads_once}
 use Rattle.table.specs.Appending.{AddsTo, Grown, add_questions, row_right, row_wrong, table_wrong}
-use Rattle.table.specs.declared.append.AddAnswer.{AddAnswer}
+use Rattle.table.specs.AddAnswer.{AddAnswer}
 use Rattle.read_back.proofs.Holding.{newest_known}
 
 module _ (rows : List Constraint) (accepted : Accepted rows) (i : ℕ) (c : Constraint) (there : get_elem? rows i ≡ some c) where

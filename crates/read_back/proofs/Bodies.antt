@@ -1,18 +1,19 @@
 -- A row is its length field and its body, so what stands behind the field is the body; and each row of an accepted table is of a known type.
-use Rattle.constraint.proofs.Library.{List, ◌++◌, ◌+◌, ◌*◌, ◌-◌, ◌<◌, ◌∙◌, ◌≡◌, ◌≤◌, ap, arith, drop, get_elem?, length}
-use Rattle.constraint.proofs.Library.{ap₂, length-replicate, replicate, sets, some, subst, subst₂, sym, take, take-append_seam, ℕ}
+use Rattle.constraint.proofs.Library.{List, ◌++◌, ◌+◌, ◌*◌, ◌-◌, ◌∙◌, ◌≡◌, ◌≤◌, ap, arith, drop, get_elem?, length}
+use Rattle.constraint.proofs.Library.{ap₂, length-replicate, replicate, sets, some, subst₂, sym, take, take-append_seam, ℕ}
 use Rattle.constraint.proofs.{Accepted.row_accepted, Judged.judged_all}
 use Rattle.constraint.specs.Accepted.{AcceptedIn}
 use Rattle.constraint.specs.Bytes.{bytes_of}
 use Rattle.constraint.specs.Constraint.{Constraint}
 use Rattle.constraint.specs.Steps.{at}
-use Rattle.constraint.specs.Table.{ReadsTableUpTo, row_body, row_bytes}
+use Rattle.constraint.specs.Table.{row_body, row_bytes}
 use Rattle.constraint.specs.Types.{Known, TypeKnown, count_of, type_of}
 use Rattle.big_endian.proofs.Stores.{stores_front}
 use Rattle.table_row.proofs.Judging.{row_bytes_long}
 use Rattle.table_row.specs.Records.{row_in}
-use Rattle.table.specs.Scan.{Counted, FindsRow, Says}
-use Rattle.table.specs.declared.{ReadAnswer.ReadAnswer, scan.Numbered.Numbered}
+use Rattle.std.specs.Prelude.{Some, None}
+use Rattle.table_row.specs.declared.TableRow.{TableRow}
+use Rattle.table.specs.Scan.{Found}
 use Rattle.monitor.proofs.Demand.{has_none}
 use Rattle.read_back.specs.Contract.{GivesBody, TableRowBack, a_row, given, no_row_lem, of_table}
 
@@ -45,22 +46,14 @@ module _ (body before : List ℕ) where
 
 -- ---- of a table
 
-module _ (table : List ℕ) (i : ℕ) (before : List ℕ) (r : Numbered) (found : FindsRow 2 table i r)
-    (taken : r.scan.answer ≡ ReadAnswer.Accepted) where
-  counted : Counted (at table 0) (ReadsTableUpTo 2 table) r.scan.rows
-  counted = subst (λ (a : ReadAnswer). Says (at table 0) (ReadsTableUpTo 2 table) a r.scan.rows) taken found.scans
+module _ (table : List ℕ) (i : ℕ) (before : List ℕ) where
+  pub table_none : Found 2 table i None → TableRowBack table i before 15 before
+  table_none found = of_table found.rows found.reads (no_row_lem (has_none found.rows i found.is))
 
-  pub table_none : r.scan.rows ≤ i → TableRowBack table i before 15 before
-  table_none past =
-      of_table counted.rows counted.reads (no_row_lem (has_none counted.rows i (omega (arith, counted.counted, past))))
+  module _ (row : TableRow) (found : Found 2 table i (Some row)) where
+    pub table_known : Known (row_in row)
+    table_known = (at table 0, known_at (at table 0) found.rows found.accepted i (row_in row) found.is.1)
 
-  module _ (there : i < r.scan.rows) where
-    is_row : get_elem? counted.rows i ≡ some (row_in r.row)
-    is_row = (found.found counted.rows counted.reads).is (omega (arith, counted.counted, there))
-
-    pub table_known : Known (row_in r.row)
-    table_known = (at table 0, known_at (at table 0) counted.rows counted.accepted i (row_in r.row) is_row)
-
-    pub table_gives : {number : ℕ} {written : List ℕ} → GivesBody (row_body (row_in r.row)) before number written
+    pub table_gives : {number : ℕ} {written : List ℕ} → GivesBody (row_body (row_in row)) before number written
         → TableRowBack table i before number written
-    table_gives gives = of_table counted.rows counted.reads (a_row (row_in r.row) is_row gives)
+    table_gives gives = of_table found.rows found.reads (a_row (row_in row) found.is.1 gives)

@@ -22,7 +22,8 @@ use Rattle.repeat_burst.specs.Arbitrary as A
 use Rattle.row.proofs.EveryType.{every_type_exact}
 use Rattle.row.specs.Machine.{applied, broken_by_event, broken_row, changed_row, concerns, crowding, decide, items_of, machine_of, row_of, row_step}
 use Rattle.row.specs.Machine.{stays}
-use Rattle.row.specs.declared.{Row.Row, RowStep.RowStep, StepInput.StepInput}
+use Rattle.row.specs.RowStep.{RowStep}
+use Rattle.row.specs.declared.{Row.Row, StepInput.StepInput}
 use Rattle.monitor.proofs.Withdrawing.{struck}
 use Rattle.monitor.specs.Contract.{after, step}
 use Rattle.monitor.specs.Machine.{bare, crowds, map_first, monitor_of, next_step, no_row, refusal_for, refuses, step_input_of, step_of, taken_call}

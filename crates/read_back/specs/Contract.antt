@@ -1,7 +1,9 @@
 -- What a host is promised of a row that is read back (§9.13, §9.14).
-use Rattle.std.specs.Prelude.{ℕ, ◌+◌, ◌*◌, ◌≤◌, ◌<◌, ◌≡◌, List, [], ◌++◌, length, drop, get_or}
+use Rattle.std.specs.Prelude.{ℕ, ◌+◌, ◌*◌, ◌≤◌, ◌<◌, ◌≡◌, List, [], ◌++◌, length, drop, get_or, Result, Ok, Err}
 use Rattle.std.proofs.Math.Option.{none, some}
 use Rattle.std.proofs.Math.ListN.{get_elem?}
+use Rattle.constraint.specs.Answers.{refusal_number}
+use Rattle.constraint.specs.declared.Refusal.{Refusal}
 use Rattle.constraint.specs.Table.{ReadsTableUpTo, row_body, table_of, table_refused}
 use Rattle.constraint.specs.Types.{TypeKnown, count_of, type_of}
 use Rattle.constraint.specs.Accepted.{Accepted}
@@ -11,6 +13,11 @@ use Rattle.row_type.specs.Words.{parameters_at}
 use Rattle.monitor.specs.Contract.{after}
 use Rattle.monitor.specs.declared.Monitor.{Monitor}
 use Rattle.read_back.specs.Back.{row_back}
+
+-- §9.13: the number that a host reads
+abbrev pub number_given : Result ℕ Refusal → ℕ
+number_given (Ok number) = number
+number_given (Err refusal) = refusal_number refusal
 
 -- §8.16, §9.13: a body in a buffer that is long enough, at its start, with 256 times its length; else 16, and the buffer as it was
 pub data GivesBody (body before : List ℕ) : ℕ → List ℕ → Type 0 where

@@ -2,10 +2,11 @@
 ghost use Rattle.in_place.specs.Contract.{ReadOff};
 ghost use Rattle.read_back.specs.Contract.{TableRowBack, MonitorRowBack, GivesSome};
 
-use crate::give_body;
 use crate::words::give_row;
+use crate::{give_body, number};
+use constraint::{Refusal, RefusedAt};
 use in_place::{Words, held};
-use table::{ReadAnswer, scan};
+use table::scan;
 
 // §9.13, §11.5
 // Copies the body of a row of a table to a buffer. Returns 256 times the length of the body. On a refusal it returns 256 times the place of the
@@ -14,18 +15,10 @@ use table::{ReadAnswer, scan};
 pub extern "C" fn delkuthi_table_row(table: &[u8], row: u64, body: &mut [u8]) -> u64
     ensures { TableRowBack table.now row body.old result body.new }
 {
-    let found = scan::row_numbered(2, table, row);
-    let scanned = found.scan;
-    let rows = scanned.rows;
-    let answer = scanned.answer;
-    match answer {
-        ReadAnswer::Refused { number, place } => place as u64 * 256 + number as u64,
-        ReadAnswer::Accepted => {
-            if rows as u64 <= row {
-                return 15;
-            }
-            give_body(found.row, body)
-        }
+    match scan::row_numbered(2, table, row) {
+        Ok(Some(found)) => number(give_body(found, body)),
+        Ok(None) => number(Err(Refusal::NoRow)),
+        Err(RefusedAt { refusal, place }) => place as u64 * 256 + number(Err(refusal)),
     }
 }
 
@@ -38,7 +31,7 @@ pub extern "C" fn delkuthi_monitor_row(m: &Words, row: u64, body: &mut [u8]) -> 
         × ReadOff m.now (λ monitor answer. MonitorRowBack monitor row body.old answer body.new) result }
 {
     if held(m) as u64 <= row {
-        return 15;
+        return number(Err(Refusal::NoRow));
     }
-    give_row(&m[row as usize], body)
+    number(give_row(&m[row as usize], body))
 }

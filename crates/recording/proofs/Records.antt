@@ -1,34 +1,13 @@
 -- A record's call, read from its own stretch, is that of the record in the whole recording; and what that says of its questions.
-use Rattle.constraint.proofs.Library.{Bool, List, [], ◌++◌, ◌+◌, ◌-◌, ◌∙◌, ◌∷◌, ◌≡◌, ◌≤◌, ap, arith, cond, drop, drop-drop, eqb, false, length}
-use Rattle.constraint.proofs.Library.{length-drop, length-take-le, refl, subst, sym, take, take_all, true, ℕ}
+use Rattle.constraint.proofs.Library.{Bool, List, [], ◌++◌, ◌+◌, ◌-◌, ◌∙◌, ◌∷◌, ◌≡◌, arith, cond, drop, drop-drop, eqb, false, length}
+use Rattle.constraint.proofs.Library.{length-drop, subst, sym, take, take_all, true, ℕ}
 use Rattle.constraint.proofs.{History.closed_event, History.closed_tick, Judged.judged_no, Judged.judged_yes}
 use Rattle.constraint.specs.Recording.{RecordAt, call_at, call_of, colour_in, record_questions}
 use Rattle.constraint.specs.Steps.{Step, at, closed}
-use Rattle.constraint.specs.{Bytes.number, Bytes.number_at, Questions.Judged, Run.questions, Run.step_for, Streams.stream, Table.body_at}
+use Rattle.constraint.specs.{Bytes.number_at, Questions.Judged, Run.questions, Run.step_for, Streams.stream, Table.body_at}
 use Rattle.constraint.specs.{Table.length_at}
-use Rattle.constraint.specs.{declared.Answer.Answer, declared.Answer.TheVariants.Refused, declared.Call.Call, Constraint.Constraint}
-use Rattle.recording.specs.Record.{CallAt, ReadsCall, ReadsRecord, TickAt, no_record_read}
-
--- A record's own stretch
-
-module _ (version : ℕ) (stretch : List ℕ) where
-  pub record_none : ¬ RecordAt stretch 0 → ReadsRecord version stretch no_record_read
-  record_none not_there = record { whole = λ e. absurd (omega (arith, e)); none = λ more. not_there }
-
-  module _ (size : ℕ) (there : RecordAt stretch 0) (size_is : size ≡ 2 + length_at stretch 0) where
-    -- the bytes behind the length field are the record's body
-    body : size - 2 ≡ length_at stretch 0
-    body = omega (arith, size_is)
-
-    pub body_length_lem : (8 ≤ length (take (size - 2) (drop 2 stretch))) × (length (take (size - 2) (drop 2 stretch)) ≤ 10)
-    body_length_lem =
-        let long = length-take-le (length_at stretch 0) (drop 2 stretch) (omega (arith, length-drop 2 stretch, there.0.1)) in
-        rw (body, long) (there.1, there.2)
-
-    pub record_whole : (call : Call) → call ≡ call_of version (take (size - 2) (drop 2 stretch))
-        → ReadsRecord version stretch (record { number = 0; call = call; next = size })
-    record_whole call call_is =
-        record { whole = λ e. (there, sym (rw body at call_is), size_is); none = λ more. absurd (omega (arith, more)) }
+use Rattle.constraint.specs.{Answer.Answer, Answer.Refused, declared.Call.Call, Constraint.Constraint}
+use Rattle.recording.specs.Record.{CallAt}
 
 -- From a record's own stretch to the whole recording
 
@@ -40,57 +19,24 @@ module _ (bytes : List ℕ) (place : ℕ) where
   rest : stretch ≡ drop place bytes
   rest = take_all (length bytes - place) (drop place bytes) (omega (arith, length-drop place bytes))
 
-  pub reads_none : ¬ RecordAt bytes place → ReadsCall bytes place no_record_read
-  reads_none not_there = record { whole = λ e. absurd (omega (arith, e)); none = λ more. (not_there, refl) }
-
-  pub reads_refused : ¬ RecordAt stretch 0 → ReadsCall bytes place no_record_read
-  reads_refused none =
-      reads_none (λ there. (rw rest at none)
-      ((omega (arith, length-drop place bytes, there.0.0), omega (arith, length-drop place bytes, there.0.1)), there.1, there.2))
-
   -- §7.1
   pub reads_whole : (call : Call) (size : ℕ) → RecordAt stretch 0 → call_of (at bytes 0) (body_at stretch 0) ≡ call → size ≡ 2 + length_at stretch 0
-      → (place + size ≤ length bytes) × ReadsCall bytes place (record { number = 0; call = call; next = place + size })
+      → CallAt bytes place call (place + size)
   reads_whole call size =
       subst (λ (x : List ℕ). RecordAt x 0 → call_of (at bytes 0) (body_at x 0) ≡ call → size ≡ 2 + length_at x 0
-      → (place + size ≤ length bytes) × ReadsCall bytes place (record { number = 0; call = call; next = place + size })) (sym rest)
-      (λ there is size_is. (
-        omega (arith, length-drop place bytes, there.0.1, there.1, size_is),
-        record {
-          whole = λ e.
-              record {
-                there = (
-                  (omega (arith, length-drop place bytes, there.0.0), omega (arith, length-drop place bytes, there.0.1, there.1)),
-                  there.1,
-                  there.2,
-                );
-                call_read = rw (← drop-drop 2 place bytes) is;
-                next_read = omega (arith, size_is);
-              };
-          none = λ more. absurd (omega (arith, more));
-        },
-      ))
+      → CallAt bytes place call (place + size)) (sym rest)
+      (λ there is size_is.
+      record {
+        there = (
+          (omega (arith, length-drop place bytes, there.0.0), omega (arith, length-drop place bytes, there.0.1, there.1)),
+          there.1,
+          there.2,
+        );
+        call_read = rw (← drop-drop 2 place bytes) is;
+        next_read = omega (arith, size_is);
+      })
 
 -- From a record to the answer to its questions
-
--- A tick
-
-tick_of : (version : ℕ) (body : List ℕ) → length body ≡ 8 → call_of version body ≡ Call.Tick (number_at 8 body 0)
-tick_of version body eight = rw eight refl
-
--- §7.2
-pub tick_whole : (bytes : List ℕ) (place time : ℕ) → TickAt bytes place → time ≡ number_at 8 bytes (place + 2)
-    → CallAt bytes place (Call.Tick time) (place + 10)
-tick_whole bytes place time (room, eight) time_is =
-    let body = take 8 (drop (place + 2) bytes) in
-    let long : length body ≡ 8 = length-take-le 8 (drop (place + 2) bytes) (omega (arith, length-drop (place + 2) bytes, room)) in
-    let same : body_at bytes place ≡ body = ap (λ (n : ℕ). take n (drop (place + 2) bytes)) eight in
-    let timed : number_at 8 body 0 ≡ number_at 8 bytes (place + 2) = ap number (take_all 8 body (omega (arith, long))) in
-    record {
-      there = ((omega (arith, room), omega (arith, room, eight)), omega (arith, eight), omega (arith, eight));
-      call_read = ap (call_of (at bytes 0)) same ∙ tick_of (at bytes 0) body long ∙ ap (λ (t : ℕ). Call.Tick t) (timed ∙ sym time_is);
-      next_read = omega (arith, eight);
-    }
 
 -- §7.2, §8.14, §9.4: question 14 is answered "yes", so the answer is that to the step's questions
 pub record_judged : (rows : List Constraint) (steps : List Step) (bytes : List ℕ) (place : ℕ) (call : Call) (next : ℕ) (a : Answer)

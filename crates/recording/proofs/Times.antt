@@ -1,10 +1,6 @@
 -- Eight bytes, each counted by its place, add up to their number.
-use Rattle.constraint.proofs.Library.{List, ◌*◌, ◌+◌, ◌<◌, ◌∙◌, ◌≡◌, ◌≤◌, arith, drop-cons, length, mul-le-mul_right, suc, ℕ}
+use Rattle.constraint.proofs.Library.{List, ◌*◌, ◌+◌, ◌<◌, ◌∙◌, ◌≡◌, ◌≤◌, arith, drop-cons, length, suc, ℕ}
 use Rattle.constraint.specs.{Bytes.bytes_at, Bytes.number_at, Bytes.number_behind, Steps.at}
-
--- what a byte counts for at most
-pub digit_most : (byte unit : ℕ) → byte < 256 → byte * unit ≤ 255 * unit
-digit_most byte unit h = mul-le-mul_right unit (omega (arith, h))
 
 -- the first of the bytes left
 next : (bytes : List ℕ) (value place left after less : ℕ) → place < length bytes → left ≡ suc less → after ≡ suc place

@@ -1,13 +1,14 @@
 // Arbitrary: words 0 to 15 are the pairs and stay; words 16 to 23 are one more than the last eight times, each at its number's remainder by eight.
-ghost use Rattle.std.specs.Prelude.{◌≡◌, true, ◌&&◌, ◌+◌, ◌%◌, ◌≤◌};
-ghost use Rattle.ring.specs.Ring.{ring};
+// A word is 0 where there is none: it lies in memory that C lends, and `newest_at` of specs/ reads it so.
+ghost use Rattle.std.specs.Prelude.{◌≡◌, true, ◌+◌, ◌%◌, ◌≤◌};
+ghost use Rattle.ring.specs.Ring.{times_of};
 ghost use Rattle.ring.specs.declared.Edit.TheVariants.{Store};
 ghost use Rattle.row_type.specs.Parts.{continues_with, registers_of};
 ghost use Rattle.row_type.specs.Words.{counts_saved, Makes, Applies};
 ghost use Rattle.repeat_burst.specs.Arbitrary.{newest_at, late_enough, time_after, due_after, lower_in, upper_in, next_place, decide_in_words};
 
 use constraint::NO_LIMIT;
-use ring::SIZE;
+use ring::{SIZE, Times};
 use row_type::{parts, row_words};
 
 // Where the times begin.
@@ -16,48 +17,40 @@ const TIMES: usize = 16;
 const NEXT: usize = row_words::ONE;
 
 // One more than the i-th newest time, from 1 on; 0 where there are fewer.
-fn newest(times: &[u64; SIZE], head: usize, len: usize, next: u64, i: usize) -> u64
+fn newest(times: Times<'_>, next: u64, i: usize) -> u64
     requires { i ≤ 8 }
-    ensures { result ≡ newest_at 16 next (ring times.now head len) i }
+    ensures { result ≡ newest_at 16 next (times_of times.entry) i }
 {
     let place = TIMES + ((next % 8) as usize + 8 - i) % 8;
-    parts::word(times, head, len, place)
-}
-
-// Whether both are so.
-fn both(a: bool, b: bool) -> bool
-    ensures { result ≡ (a && b) }
-{
-    a && b
+    times.word(place)
 }
 
 // Whether t is not too early for the first n pairs.
-fn late_enough(times: &[u64; SIZE], head: usize, len: usize, n: usize, next: u64, t: u64) -> bool
+fn late_enough(times: Times<'_>, n: usize, next: u64, t: u64) -> bool
     requires { n ≤ 8 }
-    ensures { result ≡ late_enough n (lower_in (ring times.now head len)) 16 next (ring times.now head len) t }
+    ensures { result ≡ late_enough n (lower_in (times_of times.entry)) 16 next (times_of times.entry) t }
 {
-    let mut so = true;
-    let mut i = 0;
-    while i < n {
-        let lower = parts::word(times, head, len, 2 * i);
-        let last = newest(times, head, len, next, i + 1);
-        so = both(so, parts::far_enough(lower, last, t));
-        i += 1;
+    for i in 0..n {
+        let lower = times.word(2 * i);
+        let last = newest(times, next, i + 1);
+        if !parts::far_enough(lower, last, t) {
+            return false;
+        }
     }
-    so
+    true
 }
 
 // The i-th newest time, from 0 on, once one at t has come; the oldest where there are fewer.
-fn time_after(times: &[u64; SIZE], head: usize, len: usize, next: u64, t: u64, i: usize) -> u64
+fn time_after(times: Times<'_>, next: u64, t: u64, i: usize) -> u64
     requires { i ≤ 8 }
-    ensures { result ≡ time_after 16 next (ring times.now head len) t i }
+    ensures { result ≡ time_after 16 next (times_of times.entry) t i }
 {
     if i == 0 {
         return t;
     }
-    let there = newest(times, head, len, next, i);
+    let there = newest(times, next, i);
     if there == 0 {
-        let oldest = parts::word(times, head, len, TIMES);
+        let oldest = times.word(TIMES);
         if oldest == 0 {
             return t;
         }
@@ -67,17 +60,15 @@ fn time_after(times: &[u64; SIZE], head: usize, len: usize, next: u64, t: u64, i
 }
 
 // The due time that the first n pairs give then.
-fn due_after(times: &[u64; SIZE], head: usize, len: usize, n: usize, next: u64, t: u64) -> u64
+fn due_after(times: Times<'_>, n: usize, next: u64, t: u64) -> u64
     requires { n ≤ 8 }
-    ensures { result ≡ due_after n (upper_in (ring times.now head len)) 16 next (ring times.now head len) t }
+    ensures { result ≡ due_after n (upper_in (times_of times.entry)) 16 next (times_of times.entry) t }
 {
     let mut due = NO_LIMIT;
-    let mut i = 0;
-    while i < n {
-        let upper = parts::word(times, head, len, 2 * i + 1);
-        let from = time_after(times, head, len, next, t, i);
-        due = parts::smaller(due, parts::plus(from, upper));
-        i += 1;
+    for i in 0..n {
+        let upper = times.word(2 * i + 1);
+        let from = time_after(times, next, t, i);
+        due = due.min(from.saturating_add(upper));
     }
     due
 }
@@ -119,16 +110,15 @@ fn note(
 pub fn apply(row: &mut [[u64; SIZE]; 2], stream: u64, t: u64, number: u64)
     ensures { Applies counts_saved decide_in_words row.old stream t number row.new }
 {
-    let head = row[1][row_words::HEAD] as usize;
-    let len = row[1][row_words::LEN] as usize;
+    let times = row_words::times(row);
     let next = row[1][NEXT];
-    let n = parts::smaller(row[1][row_words::SPAN], 8) as usize;
-    if late_enough(&row[0], head, len, n, next, t) {
-        let due = due_after(&row[0], head, len, n, next, t);
+    let n = row[1][row_words::SPAN].min(8) as usize;
+    if late_enough(times, n, next, t) {
+        let due = due_after(times, n, next, t);
         let place = slot(next);
-        let behind = parts::word(&row[0], head, len, place + 1);
+        let behind = times.word(place + 1);
         let after = following(next);
-        note(row, place, parts::plus(t, 1), behind, after, due, number);
+        note(row, place, t.saturating_add(1), behind, after, due, number);
         return;
     }
     row_words::break_at(row, t, number);

@@ -1,5 +1,6 @@
 // Repeat and Burst: the times are those of the last span events, or of all while they are fewer; last is one more than
 // the last event's time. A Repeat has minimum 0, a Burst no upper.
+// A mark is 0 where there is none: it is a word of memory that C lends, and `Registers` of specs/ reads it so.
 ghost use Rattle.std.specs.Prelude.{ℕ, List, ◌≡◌, length};
 ghost use Rattle.ring.specs.Ring.{ring};
 ghost use Rattle.ring.specs.declared.Edit.TheVariants.{Push};
@@ -7,7 +8,7 @@ ghost use Rattle.row_type.specs.Parts.{waits};
 ghost use Rattle.row_type.specs.Words.{UndoRecord, asked_of, none_saved, last_saved, row_as_words, Makes, Applies};
 ghost use Rattle.row_type.specs.declared.Parameters.{Parameters};
 ghost use Rattle.row_type.specs.declared.State.{State};
-ghost use Rattle.repeat_burst.specs.Repeat.{overflows_repeat, span_reached, taken_repeat, leaving, decide_repeat};
+ghost use Rattle.repeat_burst.specs.Repeat.{overflows_repeat, span_reached, leaving, decide_repeat};
 
 use ring::SIZE;
 use row_type::{parts, row_words};
@@ -22,7 +23,7 @@ pub fn apply(row: &mut [[u64; SIZE]; 2], stream: u64, t: u64, number: u64)
     {
         row_words::save_undo_last(row);
         push_time(row, t, number);
-        row[1][row_words::LAST] = parts::plus(t, 1);
+        row[1][row_words::LAST] = t.saturating_add(1);
         row[1][row_words::KEPT] = 1;
         return;
     }
@@ -34,19 +35,15 @@ fn span_reached(row: &[[u64; SIZE]; 2], t: u64) -> bool
     ensures { (parameters : Parameters) (times : List ℕ) (state : State) (past : UndoRecord)
         → row.now ≡ row_as_words parameters times state past → result ≡ span_reached parameters (ring times state.head state.len) t }
 {
-    let head = row[1][row_words::HEAD] as usize;
-    let len = row[1][row_words::LEN] as usize;
-    if (len as u64) < row[1][row_words::SPAN] {
+    let times = row_words::times(row);
+    if (times.len as u64) < row[1][row_words::SPAN] {
         return true;
     }
-    parts::reaches(
-        parts::front(&row[0], head, len),
-        row[1][row_words::LOWER],
-        t,
-    )
+    parts::reaches(times.front(), row[1][row_words::LOWER], t)
 }
 
 // The time t joins the times; the oldest leaves if there are span of them.
+#[tactic(auto, using(ring::proofs::Laws::ring_length), unfolding(row_type::specs::Words::row_as_words, row_type::specs::Words::number_words))]
 fn push_time(row: &mut [[u64; SIZE]; 2], t: u64, number: u64)
     ensures { Makes none_saved row.old
         (λ parameters registers times. waits parameters.upper times (Push (leaving parameters (length times)) t) registers) number
@@ -60,21 +57,11 @@ fn push_time(row: &mut [[u64; SIZE]; 2], t: u64, number: u64)
 }
 
 // Whether an event lets one more be kept, where there is no room.
+#[tactic(auto, unfolding(crate::specs::Repeat::overflows_repeat))]
 pub fn overflows(w: &[u64; SIZE], stream: u64, t: u64) -> bool
     ensures { result ≡ asked_of overflows_repeat w.now stream t }
 {
-    if w[row_words::SPAN] <= w[row_words::LEN] {
-        return false;
-    }
-    if w[row_words::LEN] < SIZE as u64 {
-        return false;
-    }
-    parts::far_enough(w[row_words::MINIMUM], w[row_words::LAST], t)
-}
-
-// Returns how many places are taken if `len` times are kept: 0 if the span is not longer than the number of places.
-pub fn slots_used(span: u64, len: u64) -> u64
-    ensures { result ≡ taken_repeat span len }
-{
-    if (SIZE as u64) < span { len } else { 0 }
+    w[row_words::LEN] < w[row_words::SPAN]
+        && w[row_words::LEN] >= SIZE as u64
+        && parts::far_enough(w[row_words::MINIMUM], w[row_words::LAST], t)
 }

@@ -21,15 +21,6 @@ unfolding ring
 ring_mod l f g zero e = refl
 ring_mod l f g (suc n) e = λ i. get_or l (e i) 0 ∷ ring_mod l (suc f) (suc g) n (omega arith) i
 
--- the first of a ring, and the rest
-pub ring_cons : (l : List ℕ) (f n : ℕ) → 0 < n → ring l f n ≡ time_at l f 0 ∷ ring l (f + 1) (n - 1)
-unfolding ring
-ring_cons l f zero h = absurd (omega arith)
-ring_cons l f (suc n) h =
-    let at : (f % 64 + 0 % 64) % 64 ≡ f % 64 = omega arith in
-    let left : suc n - 1 ≡ n = omega arith in
-    rw (at, left, add-one)
-
 -- a place of the list holds the item
 ring_at : (l : List ℕ) (f n i : ℕ) → i < n → get_or (ring l f n) i 0 ≡ get_or l ((f + i) % 64) 0
 unfolding ring
@@ -41,6 +32,13 @@ pub ring_read : (l : List ℕ) (f n i : ℕ) → i < n → time_at l f i ≡ get
 ring_read l f n i h =
     let e : (f % 64 + i % 64) % 64 ≡ (f + i) % 64 = omega arith in
     rw (e, ring_at)
+
+-- past its end it has none
+pub ring_past : (l : List ℕ) (f n i : ℕ) → n ≤ i → get_or (ring l f n) i 0 ≡ 0
+unfolding ring
+ring_past l f zero i h = refl
+ring_past l f (suc n) zero h = absurd (omega arith)
+ring_past l f (suc n) (suc i) h = ring_past l (suc f) n i (omega arith)
 
 -- after 64 it repeats itself
 pub ring_round : (l : List ℕ) (f i : ℕ) → time_at l f i ≡ time_at l f (i % 64)

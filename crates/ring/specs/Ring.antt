@@ -2,6 +2,7 @@
 use Rattle.std.specs.Prelude.{ℕ, zero, suc, ◌+◌, ◌-◌, ◌%◌, cond, List, [], ◌∷◌, ◌++◌, get_or, set, drop, ltb, eqb}
 use Rattle.ring.specs.declared.Edit.{Edit}
 use Rattle.ring.specs.declared.Edit.TheVariants.{Drop, Push, PushTwo, Store}
+use Rattle.ring.specs.declared.Times.{Times}
 
 -- the words, the place of the oldest time, and how many times there are
 pub record Ring : Type 0 where
@@ -16,6 +17,10 @@ ring_of times head len = record { times = times; head = head; len = len }
 unfoldable pub ring : List ℕ → ℕ → ℕ → List ℕ
 ring times head zero = []
 ring times head (suc n) = get_or times (head % 64) 0 ∷ ring times (suc head) n
+
+-- the times that a row keeps
+abbrev pub times_of : Times → List ℕ
+times_of t = ring t.words.now t.head t.len
 
 -- the place that is i behind a place, round at the end, and the time there
 abbrev pub ring_place : ℕ → ℕ → ℕ

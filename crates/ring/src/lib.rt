@@ -2,13 +2,13 @@
 // wrap around at the end.
 #![tactic(auto)]
 
-ghost use Rattle.std.specs.Prelude.{◌≡◌, ◌+◌, ◌-◌};
-ghost use Rattle.ring.specs.Ring.{ring_place, head_after, time_at, second_at, ring_of, push_ring, put_ring, put_back};
+ghost use Rattle.std.specs.Prelude.{◌≡◌, ◌+◌, get_or};
+ghost use Rattle.ring.specs.Ring.{ring_place, head_after, time_at, second_at, ring_of, push_ring, put_ring, put_back, times_of};
 
 // How many times a ring holds at most.
 pub const SIZE: usize = 64;
 
-// What is done to the times of a ring.
+// What is done to the times of a ring. Only definitions use it (Ring.edited); code calls the function of the edit.
 #[derive(Drop)]
 pub enum Edit {
     // the oldest leave, as many as dropped says
@@ -34,18 +34,38 @@ pub enum Edit {
     },
 }
 
-// a - b, or 0 where b is more.
-pub fn minus(a: u64, b: u64) -> u64
-    ensures { result ≡ a - b }
-{
-    if a < b { 0 } else { a - b }
+// The times that a row keeps: `len` of the 64 words, from the place `head` on and round at the end.
+#[derive(Clone, Copy)]
+pub struct Times<'a> {
+    pub words: &'a [u64; SIZE],
+    pub head: usize,
+    pub len: usize,
 }
 
-// How many of len times are left without the oldest.
-pub fn left(len: usize, dropped: usize) -> usize
-    ensures { result ≡ len - dropped }
-{
-    minus(len as u64, dropped as u64) as usize
+impl<'a> Times<'a> {
+    // The word that is i behind the head, whether it is one of the times or not.
+    #[inline]
+    pub fn at(self, i: usize) -> u64
+        ensures { result ≡ time_at self.entry.words.now self.entry.head i }
+    {
+        time_at(self.words, self.head, i)
+    }
+
+    // The i-th time; 0 where there is none.
+    #[inline]
+    pub fn word(self, i: usize) -> u64
+        ensures { result ≡ get_or (times_of self.entry) i 0 }
+    {
+        if i < self.len { self.at(i) } else { 0 }
+    }
+
+    // The oldest time; 0 where there is none.
+    #[inline]
+    pub fn front(self) -> u64
+        ensures { result ≡ get_or (times_of self.entry) 0 0 }
+    {
+        self.word(0)
+    }
 }
 
 // The place that is i behind the head.
@@ -72,6 +92,8 @@ pub fn time_at(times: &[u64; SIZE], head: usize, i: usize) -> u64
     let at = place_of(head, i);
     times[at]
 }
+
+// The functions that write take words, head and length apart, and no struct: head and length lie among the row's numbers (number_words).
 
 // The ring with a word behind the rest, where it holds fewer than 64: its length.
 pub fn push(times: &mut [u64; SIZE], head: usize, len: usize, word: u64) -> usize

@@ -7,6 +7,7 @@ pub mod Steps
 pub mod Independent
 pub mod Undo
 mod Machines
+pub mod Nothing
 pub mod Overflow
 pub mod StepParts
 pub mod SlotsUsed

@@ -1,8 +1,8 @@
 -- Whatever the number of its type, a row's machine fits a row: each type's does, and so does that of no type.
-use Rattle.row.proofs.Names.{FitsRow, List, List·getD-eq-default, Machine, [], ◌<◌, ◌∷◌, ◌≡◌, ◌≢◌, arith, fits_none, get_or}
+use Rattle.row.proofs.Names.{FitsRow, List, List·getD-eq-default, Machine, [], ◌<◌, ◌∷◌, ◌≡◌, arith, fits_none, get_or}
 use Rattle.row.proofs.Names.{Bool, ◌%◌, ◌∙◌, ap, cond, eq-eqb, eqb, eqb-true, machine_of, machines, min, no_machine, refl, split, suc}
 use Rattle.row.proofs.Names.{sym, zero, ℕ}
-use Rattle.constraint.proofs.Library.{by_cases, dec_lt}
+use Rattle.constraint.proofs.Library.{◌≢◌, by_cases, dec_lt}
 use Rattle.row_type.specs.Words.{live_of}
 use Rattle.delay_order.proofs.Laws.Delay.{fits_delay}
 use Rattle.delay_order.proofs.Laws.StrongDelay.{fits_strong_delay}
@@ -36,7 +36,7 @@ each_fits (one_more one others) (suc n) = each_fits others n
 pub beyond : (n : ℕ) → 16 < n → machine_of n ≡ no_machine
 beyond n h = List·getD-eq-default machines no_machine {n = n} h
 
--- the numbers that the code does not name, which are those of no type
+-- 0, and the numbers beyond, are those of no type
 pub none_of : (n : ℕ) → (n ≢ 0 → 16 < n) → machine_of n ≡ no_machine
 none_of zero _ = refl
 none_of (suc n) above = beyond (suc n) (above (λ z. absurd (omega (arith, z))))

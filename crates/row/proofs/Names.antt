@@ -1,7 +1,7 @@
 -- The names of the definitions and laws below this crate that its proofs use, passed on from one place.
 pub use Rattle.constraint.proofs.History.{Accepts, Past, Valid, clock_close, clock_event, clock_tick, closed_close, closed_event, closed_tick}
 pub use Rattle.constraint.proofs.History.{own_close, own_other, own_tick, past_of, valid_more}
-pub use Rattle.constraint.proofs.Library.{Bool, List, List·getD-eq-default, [], ◌&&◌, ◌++◌, ◌+◌, ◌<◌, ◌||◌, ◌∙◌, ◌∷◌, ◌≡◌, ◌≢◌, ◌≤◌, ◌⊎◌, ap}
+pub use Rattle.constraint.proofs.Library.{Bool, List, List·getD-eq-default, [], ◌&&◌, ◌++◌, ◌+◌, ◌<◌, ◌||◌, ◌∙◌, ◌∷◌, ◌≡◌, ◌≤◌, ◌⊎◌, ap}
 pub use Rattle.constraint.proofs.Library.{append-nil, arith, cond, drop, eq-eqb, eqb, eqb-false, eqb-true, false, get_or, inl, inr, le-ltb, length}
 pub use Rattle.constraint.proofs.Library.{length-append, length-drop, length-set, lt-ltb, ltb, ltb-false, ltb-true, ne_eqb, not-false}
 pub use Rattle.constraint.proofs.Library.{length-replicate, length-take-le, not-true, refl, replicate, set, subst, suc, sym, take, true, zero, ℕ}
@@ -33,7 +33,7 @@ pub use Rattle.row.specs.Machine.{moment_by, row_from, stays, tick_at}
 pub use Rattle.row.specs.Stored.{Changes, RestZero, Unused, ended_row, ended_saves, event_keeps, event_row, event_saves, kept_at_place}
 pub use Rattle.row.specs.Stored.{saved_registers, nothing, undo_record_of, state_at}
 pub use Rattle.row.specs.Undo.{row_undo_of, no_row_undo, no_state, saved_at, saved_row}
-pub use Rattle.row.specs.{declared.RowUndo.RowUndo, declared.StepInput.StepInput, declared.Row.Row, declared.RowStep.RowStep}
+pub use Rattle.row.specs.{declared.RowUndo.RowUndo, declared.StepInput.StepInput, declared.Row.Row, RowStep.RowStep}
 unfoldable pub use Rattle.constraint.specs.{Accepted.KindsSuit, Steps.clock_from, Steps.closed}
 unfoldable pub use Rattle.row_type.specs.Words.{changed_words, number_words, row_as_words}
 unfoldable pub use Rattle.ring.specs.Ring.{push_ring, put_ring}

@@ -16,7 +16,7 @@ use Rattle.row_type.specs.Machine.{Machine, no_machine}
 use Rattle.row_type.specs.Words.{broken_for, broken_at}
 use Rattle.row.specs.declared.StepInput.{StepInput}
 use Rattle.row.specs.declared.Row.{Row}
-use Rattle.row.specs.declared.RowStep.{RowStep}
+use Rattle.row.specs.RowStep.{RowStep}
 use Rattle.delay_order.specs.Delay.{machine_delay}
 use Rattle.delay_order.specs.StrongDelay.{machine_strong_delay}
 use Rattle.repeat_burst.specs.Repeat.{machine_repeat}

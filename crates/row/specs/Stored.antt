@@ -1,5 +1,5 @@
 -- A row where it lies: the words that it is, with what is kept of it, and what a step, a withdrawal and a fresh start make of them.
-use Rattle.std.specs.Prelude.{ℕ, ◌≡◌, cond, List, get_or, eqb, ltb}
+use Rattle.std.specs.Prelude.{ℕ, ◌+◌, ◌≡◌, cond, List, [], ◌∷◌, get_or, eqb, ltb}
 use Rattle.ring.specs.Ring.{ring, time_at, second_at}
 use Rattle.row_type.specs.Parts.{no_registers}
 use Rattle.row_type.specs.declared.Registers.{Registers}
@@ -23,6 +23,30 @@ nothing = undo_record_of no_row_undo
 
 unfoldable pub words_of_row : Row → RowUndo → List (List ℕ)
 words_of_row r b = row_as_words r.parameters r.times r.now (undo_record_of b)
+
+-- what a row keeps as ten numbers, in the order in which they stand, and read off them, from a place on
+abbrev pub state_words : State → List ℕ
+state_words state =
+    state.registers.last ∷ state.registers.first ∷ state.registers.second ∷ state.registers.third ∷ state.registers.fourth
+    ∷ state.head ∷ state.len ∷ state.due ∷ state.kept ∷ state.broken ∷ []
+
+abbrev pub state_from : List ℕ → ℕ → State
+state_from w place =
+    record {
+      registers =
+          record {
+            last = get_or w place 0;
+            first = get_or w (place + 1) 0;
+            second = get_or w (place + 2) 0;
+            third = get_or w (place + 3) 0;
+            fourth = get_or w (place + 4) 0;
+          };
+      head = get_or w (place + 5) 0;
+      len = get_or w (place + 6) 0;
+      due = get_or w (place + 7) 0;
+      kept = get_or w (place + 8) 0;
+      broken = get_or w (place + 9) 0;
+    }
 
 -- what a row keeps, read off its numbers
 abbrev pub state_at : List ℕ → State

@@ -4,13 +4,14 @@
 ghost use Rattle.std.specs.Prelude.{◌≡◌, replicate};
 ghost use Rattle.constraint.specs.Types.{Known};
 ghost use Rattle.table_row.specs.Records.{row_in};
-ghost use Rattle.row.specs.Undo.{moves_by, saved_by, row_without, kept_without, row_undo_of, no_row_undo};
+ghost use Rattle.row.specs.Undo.{moves_by, saved_by, row_without, kept_without};
 ghost use Rattle.row.specs.Machine.{concerns, fresh_state, row_from, row_of, row_step};
+ghost use Rattle.row.specs.RowStep.{row_step_of};
 
 use constraint::NO_LIMIT;
 use ring::SIZE;
+use row_type::from_constraint;
 pub use row_type::{Parameters, Registers, State};
-use row_type::{from_constraint, parts};
 use table_row::TableRow;
 
 pub mod stored;
@@ -19,12 +20,14 @@ pub mod stored;
 #[derive(Clone, Copy)]
 pub struct Row {
     pub parameters: Parameters,
+    // a ring in fixed memory, as a monitor uses no heap; its head and its length stand in `now`
     pub times: [u64; SIZE],
     pub now: State,
 }
 
 // What a row sees of a step: the kind of the event (65: no event) and its stream, the clock that the step leaves, and whether it closes the
 // recording.
+// A record, as the definitions event_at, tick_at, close_at and step_input_by of specs/ say it.
 #[derive(Clone, Copy)]
 pub struct StepInput {
     pub kind: u64,
@@ -33,17 +36,10 @@ pub struct StepInput {
     pub closes: bool,
 }
 
-// A row after a step, and whether the step crowds it: then the step is refused, and the row is as it was.
-#[derive(Drop)]
-pub struct RowStep {
-    pub crowded: bool,
-    pub row: Row,
-}
-
 // What a row was before the step that last changed it: what it kept, the word of its ring at a place, or two from it on where 64 is added to it, and
-// the number of that step; 0 where there is none.
+// the number of that step; 0 where there is none. The default: nothing is kept.
 #[repr(C)]
-#[derive(Clone, Copy)]
+#[derive(Clone, Copy, Default)]
 pub struct RowUndo {
     pub state: State,
     pub place: usize,
@@ -57,10 +53,12 @@ pub struct RowUndo {
 pub fn concerns(parameters: Parameters, kind: u64) -> bool
     ensures { result ≡ concerns parameters kind }
 {
+    // `contains` would build an array of the five kinds for each row of a step
     kind == parameters.first
-        || (kind == parameters.second
-            || (kind == parameters.third
-                || (kind == parameters.fourth || kind == parameters.fifth)))
+        || kind == parameters.second
+        || kind == parameters.third
+        || kind == parameters.fourth
+        || kind == parameters.fifth
 }
 
 // Whether what occurs may change a row: one that is not broken and is overdue, or that the close finds, or that the event concerns.
@@ -85,12 +83,10 @@ impl Row {
         ensures { result ≡ row_from parameters (replicate 64 0) (fresh_state parameters) }
     {
         let now = State {
-            registers: parts::no_registers(),
-            head: 0,
             len: from_constraint::start_word_count(parameters),
             due: NO_LIMIT,
             kept: 1,
-            broken: 0,
+            ..State::default()
         };
         Row {
             parameters,
@@ -110,22 +106,16 @@ impl Row {
     }
 
     // §6.5
-    // The row after what occurs, which is the step of that number.
-    pub fn step(self, o: StepInput, number: u64) -> RowStep
-        ensures { result ≡ row_step self o number }
+    // The row after what occurs, which is the step of that number; none where that crowds it.
+    pub fn step(self, o: StepInput, number: u64) -> Option<Row>
+        ensures { row_step_of self result ≡ row_step self o number }
     {
-        let mut words = stored::encode_row(self, RowUndo::none());
+        let mut words = stored::encode_row(self, RowUndo::default());
         if stored::would_overflow(&words, o) {
-            return RowStep {
-                crowded: true,
-                row: self,
-            };
+            return None;
         }
         stored::step(&mut words, o, number);
-        RowStep {
-            crowded: false,
-            row: stored::decode_row(&words),
-        }
+        Some(stored::decode_row(&words))
     }
 
     // What is kept of the row beside it after what occurs, which is the step of that number; as it was where the row stays as it is.
@@ -135,7 +125,11 @@ impl Row {
         if !moves(self.parameters, self.now, o) {
             return before;
         }
-        let mut words = stored::encode_row(self, RowUndo::of(self.now));
+        let own = RowUndo {
+            state: self.now,
+            ..RowUndo::default()
+        };
+        let mut words = stored::encode_row(self, own);
         stored::step(&mut words, o, number);
         stored::undo_at(&words)
     }
@@ -151,39 +145,12 @@ impl Row {
 }
 
 impl RowUndo {
-    // A state is kept, and nothing else.
-    fn of(state: State) -> Self
-        ensures { result ≡ row_undo_of state }
-    {
-        RowUndo {
-            state,
-            place: 0,
-            first: 0,
-            second: 0,
-            step: 0,
-        }
-    }
-
-    // Nothing is kept.
-    pub fn none() -> Self
-        ensures { result ≡ no_row_undo }
-    {
-        RowUndo::of(State {
-            registers: parts::no_registers(),
-            head: 0,
-            len: 0,
-            due: 0,
-            kept: 0,
-            broken: 0,
-        })
-    }
-
     // What is kept without the step of that number.
     pub fn without_step(self, number: u64) -> Self
         ensures { result ≡ kept_without number self }
     {
         if self.step == number {
-            return RowUndo::none();
+            return RowUndo::default();
         }
         self
     }

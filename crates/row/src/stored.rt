@@ -1,8 +1,9 @@
 // A row in memory: its two arrays of words before any step, and how an event, the clock, the close and a withdrawal change them.
-ghost use Rattle.std.specs.Prelude.{ℕ, ◌≡◌, replicate};
+ghost use Rattle.std.specs.Prelude.{ℕ, ◌≡◌, ◌+◌, ◌≤◌, replicate};
 ghost use Rattle.constraint.specs.Types.{Known};
 ghost use Rattle.table_row.specs.Records.{row_read};
-ghost use Rattle.row_type.specs.Words.{UndoRecord, asked_of, number_words, NumbersBecome};
+ghost use Rattle.std.proofs.lemmas.List.Edits.{sets};
+ghost use Rattle.row_type.specs.Words.{asked_of, number_words, NumbersBecome};
 ghost use Rattle.row_type.specs.declared.Parameters.{Parameters};
 ghost use Rattle.row_type.specs.declared.State.{State};
 ghost use Rattle.row.specs.Undo.{no_state, no_row_undo};
@@ -13,7 +14,7 @@ ghost use Rattle.row.specs.declared.Row.{Row};
 ghost use Rattle.row.specs.Stored.{undo_record_of, words_of_row, event_row, event_keeps, ended_row, ended_saves, step_keeps, Changes};
 ghost use Rattle.row.specs.Machine.{broken_row, cause_by, moment_by};
 ghost use Rattle.row.specs.Undo.{saved_at};
-ghost use Rattle.row.specs.Stored.{Becomes, Withdraws, state_at, nothing};
+ghost use Rattle.row.specs.Stored.{Becomes, Withdraws, state_from, state_words, nothing};
 
 use crate::{Row, RowUndo, StepInput, concerns};
 use constraint::WAITING_LIMIT;
@@ -24,32 +25,45 @@ use hidden_points::sporadic;
 use patterns::pattern;
 use repeat_burst::{arbitrary, repeat};
 use ring::{SIZE, put_back};
-use row_type::row_words::{parameters_at, registers_at};
+use row_type::row_words::parameters_at;
 use row_type::{Parameters, Registers, State, from_constraint, row_words};
 use synchronizations::{strong_synchronization, synchronization};
 
 // A row with fewer waiting has room for two more words.
 const NEARLY_FULL: usize = WAITING_LIMIT - 1;
 
-// What the row keeps.
-fn state_at(w: &[u64; SIZE]) -> State
-    ensures { result ≡ state_at w.now }
+// How far behind what a row keeps stands the same before its last step.
+const PAST: usize = row_words::UNDO_LAST - row_words::LAST;
+
+// What the row keeps, or, that far behind, what it kept.
+fn state_from(w: &[u64; SIZE], behind: usize) -> State
+    requires { behind ≤ 10 }
+    ensures { result ≡ state_from w.now (10 + behind) }
 {
+    let registers = Registers {
+        last: w[row_words::LAST + behind],
+        first: w[row_words::ONE + behind],
+        second: w[row_words::TWO + behind],
+        third: w[row_words::THREE + behind],
+        fourth: w[row_words::FOUR + behind],
+    };
     State {
-        registers: registers_at(w),
-        head: w[row_words::HEAD] as usize,
-        len: w[row_words::LEN] as usize,
-        due: w[row_words::DUE],
-        kept: w[row_words::KEPT],
-        broken: w[row_words::BROKEN],
+        registers,
+        head: w[row_words::HEAD + behind] as usize,
+        len: w[row_words::LEN + behind] as usize,
+        due: w[row_words::DUE + behind],
+        kept: w[row_words::KEPT + behind],
+        broken: w[row_words::BROKEN + behind],
     }
 }
 
 // What an event of one of its streams makes of the row, by its type; a row of no type breaks, and a broken one stays as it is. The remainder bounds
-// the number, and an arm for each below the bound lets the dispatch do without a test.
+// the number, and an arm for each below the bound lets the dispatch do without a test. Stream, time and number stay apart: what they call takes
+// one or two of them each, and a struct would be taken apart at every call.
 fn apply_by_type(row: &mut [[u64; SIZE]; 2], stream: u64, t: u64, number: u64)
     ensures { Changes row.old stream t number row.new }
 {
+    // A number and no enum, as C's memory holds it; a table of functions would cost the calls their inlining.
     let live = row[1][row_words::LIVE] % 32;
     match live {
         31 => {}
@@ -68,13 +82,14 @@ fn apply_by_type(row: &mut [[u64; SIZE]; 2], stream: u64, t: u64, number: u64)
         14 => input_synchronization::apply(row, stream, t, number),
         15 => pattern::apply(row, stream, t, number),
         16 => arbitrary::apply(row, stream, t, number),
+        // two arms, as a proof is told the value of an arm of up to eight numbers only
         17 | 19 | 21 | 23 | 25 | 27 | 29 => row_words::break_at(row, t, number),
         0 | 18 | 20 | 22 | 24 | 26 | 28 | 30 => row_words::break_at(row, t, number),
         _ => row_words::break_at(row, t, number),
     }
 }
 
-// Why a row is broken: it was overdue, or the close broke it. An event does by `row_words::break_at`.
+// Why a row is broken: it was overdue, or the close broke it. An event does by `row_words::break_at`. The memory that C reads holds these numbers.
 pub const OVERDUE: u64 = 1;
 
 pub const AT_CLOSE: u64 = 3;
@@ -96,10 +111,7 @@ fn cause_of(due: u64, time: u64, closes: bool) -> u64
 fn moment_of(due: u64, time: u64) -> u64
     ensures { result ≡ moment_by due time }
 {
-    if due < time {
-        return due;
-    }
-    time
+    due.min(time)
 }
 
 // The row breaks at the step of that number, to a time, which is no event of the row.
@@ -176,21 +188,29 @@ fn put_parameters(w: &mut [u64; SIZE], parameters: Parameters)
     w[row_words::LIVE] = row_words::live_of(parameters.tag, 0);
 }
 
+// A state is put into the words of what the row keeps, or, that far behind, of what it kept.
+fn store(w: &mut [u64; SIZE], behind: usize, state: State)
+    requires { behind ≤ 10 }
+    ensures { w.new ≡ sets w.old (10 + behind) (state_words state) }
+{
+    let registers = state.registers;
+    w[row_words::LAST + behind] = registers.last;
+    w[row_words::ONE + behind] = registers.first;
+    w[row_words::TWO + behind] = registers.second;
+    w[row_words::THREE + behind] = registers.third;
+    w[row_words::FOUR + behind] = registers.fourth;
+    w[row_words::HEAD + behind] = state.head as u64;
+    w[row_words::LEN + behind] = state.len as u64;
+    w[row_words::DUE + behind] = state.due;
+    w[row_words::KEPT + behind] = state.kept;
+    w[row_words::BROKEN + behind] = state.broken;
+}
+
 // What a row keeps is put into its numbers.
 fn put_state(w: &mut [u64; SIZE], state: State)
     ensures { NumbersBecome (λ old past. state) (λ old past. past) w.old w.new }
 {
-    let registers = state.registers;
-    w[row_words::LAST] = registers.last;
-    w[row_words::ONE] = registers.first;
-    w[row_words::TWO] = registers.second;
-    w[row_words::THREE] = registers.third;
-    w[row_words::FOUR] = registers.fourth;
-    w[row_words::HEAD] = state.head as u64;
-    w[row_words::LEN] = state.len as u64;
-    w[row_words::DUE] = state.due;
-    w[row_words::KEPT] = state.kept;
-    w[row_words::BROKEN] = state.broken;
+    store(w, 0, state);
     w[row_words::LIVE] = row_words::live_of(w[row_words::TYPE_TAG], state.broken);
 }
 
@@ -198,24 +218,14 @@ fn put_state(w: &mut [u64; SIZE], state: State)
 fn put_undo(w: &mut [u64; SIZE], before: RowUndo)
     ensures { NumbersBecome (λ state past. state) (λ state past. undo_record_of before) w.old w.new }
 {
-    let state = before.state;
-    let registers = state.registers;
-    w[row_words::UNDO_LAST] = registers.last;
-    w[row_words::UNDO_ONE] = registers.first;
-    w[row_words::UNDO_TWO] = registers.second;
-    w[row_words::UNDO_THREE] = registers.third;
-    w[row_words::UNDO_FOUR] = registers.fourth;
-    w[row_words::UNDO_HEAD] = state.head as u64;
-    w[row_words::UNDO_LEN] = state.len as u64;
-    w[row_words::UNDO_DUE] = state.due;
-    w[row_words::UNDO_KEPT] = state.kept;
-    w[row_words::UNDO_BROKEN] = state.broken;
+    store(w, PAST, before.state);
     w[row_words::UNDO_PLACE] = before.place as u64;
     w[row_words::UNDO_WORD_0] = before.first;
     w[row_words::UNDO_WORD_1] = before.second;
     w[row_words::UNDO_STEP] = before.step;
 }
 
+// `From` would not be plainer here: the words are those of two values, and are read back as two.
 // The words that a row is, with what is kept of it.
 pub fn encode_row(row: Row, before: RowUndo) -> [[u64; SIZE]; 2]
     ensures { result ≡ words_of_row row before }
@@ -236,29 +246,7 @@ pub fn decode_row(row: &[[u64; SIZE]; 2]) -> Row
     Row {
         parameters: parameters_at(&row[1]),
         times: row[0],
-        now: state_at(&row[1]),
-    }
-}
-
-// What it kept before its last step.
-fn undo_state(w: &[u64; SIZE]) -> State
-    ensures { (parameters : Parameters) (state : State) (past : UndoRecord) → w.now ≡ number_words parameters state past
-        → result ≡ past.state }
-{
-    let registers = Registers {
-        last: w[row_words::UNDO_LAST],
-        first: w[row_words::UNDO_ONE],
-        second: w[row_words::UNDO_TWO],
-        third: w[row_words::UNDO_THREE],
-        fourth: w[row_words::UNDO_FOUR],
-    };
-    State {
-        registers,
-        head: w[row_words::UNDO_HEAD] as usize,
-        len: w[row_words::UNDO_LEN] as usize,
-        due: w[row_words::UNDO_DUE],
-        kept: w[row_words::UNDO_KEPT],
-        broken: w[row_words::UNDO_BROKEN],
+        now: state_from(&row[1], 0),
     }
 }
 
@@ -267,7 +255,7 @@ pub fn undo_at(row: &[[u64; SIZE]; 2]) -> RowUndo
     ensures { (w : Row) (b : RowUndo) → row.now ≡ words_of_row w b → result ≡ b }
 {
     RowUndo {
-        state: undo_state(&row[1]),
+        state: state_from(&row[1], PAST),
         place: row[1][row_words::UNDO_PLACE] as usize,
         first: row[1][row_words::UNDO_WORD_0],
         second: row[1][row_words::UNDO_WORD_1],
@@ -279,9 +267,9 @@ pub fn undo_at(row: &[[u64; SIZE]; 2]) -> RowUndo
 fn restore(w: &mut [u64; SIZE])
     ensures { NumbersBecome (λ state past. past.state) (λ state past. nothing) w.old w.new }
 {
-    let state = undo_state(w);
+    let state = state_from(w, PAST);
     put_state(w, state);
-    put_undo(w, RowUndo::none());
+    put_undo(w, RowUndo::default());
 }
 
 // The row without the step of that number, by what is kept of it.
@@ -302,23 +290,13 @@ pub fn undo_step(row: &mut [[u64; SIZE]; 2], number: u64)
 fn overflows(w: &[u64; SIZE], stream: u64, t: u64) -> bool
     ensures { result ≡ asked_of overflows w.now stream t }
 {
-    let tag = w[row_words::TYPE_TAG];
-    match tag {
+    // A number and no enum, as C's memory holds it.
+    match w[row_words::TYPE_TAG] {
         1 => delay::overflows(w, stream, t),
         2 => strong_delay::overflows(w, stream, t),
         3 | 5 => repeat::overflows(w, stream, t),
-        4 => false,
-        6 => false,
         7 => strong_synchronization::overflows(w, stream, t),
-        8 => false,
-        9 => false,
         10 => repetition::overflows(w, stream, t),
-        11 => false,
-        12 => false,
-        13 => false,
-        14 => false,
-        15 => false,
-        16 => false,
         _ => false,
     }
 }
@@ -381,6 +359,6 @@ pub fn begin(row: &mut [[u64; SIZE]; 2], tag: u8, values: &[u64; 18])
     ensures { row.new ≡ words_of_row (row_of (row_read tag values.now)) no_row_undo }
 {
     let parameters = from_constraint::parameters_of(tag, values);
-    *row = encode_row(Row::blank(parameters), RowUndo::none());
+    *row = encode_row(Row::blank(parameters), RowUndo::default());
     from_constraint::put_constants(&mut row[0], tag, values);
 }

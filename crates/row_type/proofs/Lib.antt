@@ -10,5 +10,6 @@ pub mod TwoKinds
 pub mod Sums
 pub mod Oldest
 mod Renewed
+mod SavedWords
 pub mod Spans
 pub mod Tests

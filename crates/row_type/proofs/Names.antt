@@ -3,11 +3,11 @@ pub use Rattle.constraint.proofs.Continuations.{SameTimes, continues_clock, cont
 pub use Rattle.constraint.proofs.Continuations.{times_no_events}
 pub use Rattle.constraint.proofs.History.{Accepts, Past, clock_event, clock_tick, times_append, times_other, times_own, times_tick}
 pub use Rattle.constraint.proofs.Library.{Bool, List, [], ◌%◌, ◌&&◌, ◌*◌, ◌++◌, ◌+◌, ◌-◌, ◌<◌, ◌||◌, ◌↔◌, ◌∙◌, ◌∷◌, ◌≡◌, ◌≤◌, ◌⊎◌, ap, append-nil}
-pub use Rattle.constraint.proofs.Library.{arith, by_cases, cond, dec_lt, drop, eq-eqb, eqb, eqb-false, eqb-true, false, get_or, inl, inr, le-leb}
+pub use Rattle.constraint.proofs.Library.{arith, by_cases, cond, dec_lt, drop, eq-eqb, eqb, eqb-false, eqb-true, false, get_or, inl, inr}
 pub use Rattle.constraint.proofs.Library.{le-ltb}
-pub use Rattle.constraint.proofs.Library.{leb, leb-false, leb-true, length, length-append, length-drop, length-set, lt-leb, lt-ltb, ltb, ltb-false}
-pub use Rattle.constraint.proofs.Library.{ltb-true, ne_eqb, rules, refl, replicate, set, subst, subst₂, suc, sym, take, take-take, transport, true}
-pub use Rattle.constraint.proofs.Library.{true≢false, zero, ℕ, ℕ_discrete}
+pub use Rattle.constraint.proofs.Library.{leb, leb-false, leb-true, length, length-append, length-drop, length-set, lt-ltb, ltb, ltb-false}
+pub use Rattle.constraint.proofs.Library.{ltb-true, ne_eqb, refl, replicate, set, subst, subst₂, suc, sym, take, take-take, transport, true}
+pub use Rattle.constraint.proofs.Library.{true≢false, zero, ℕ}
 pub use Rattle.constraint.proofs.Lists.{Each, Rising, at_left, at_next, each_cons, each_none, rising_by, rising_snoc, split}
 pub use Rattle.constraint.proofs.{Lengths.at_most, Streams.streams, Streams.streams_in}
 pub use Rattle.constraint.specs.Accepted.{InRange, KindsSuit, LowerFirst, kinds, kinds_in}
@@ -23,8 +23,8 @@ pub use Rattle.row_type.specs.Parameters.{no_fields, no_kind, parameters_of, sta
 pub use Rattle.row_type.specs.Parameters.{start_word_count, word_counts}
 pub use Rattle.row_type.specs.Words.{counts_saved, first_three_saved, last_saved, none_saved, undo_of}
 pub use Rattle.row_type.specs.{declared.Change.Change, declared.Registers.Registers, declared.Parameters.Parameters}
-pub use Rattle.ring.proofs.{Laws.place_is, Laws.ring_cons, Laws.ring_from, Laws.ring_length, Laws.ring_spent, Shared.leb_same}
-pub use Rattle.ring.specs.Ring.{changed, drop_ring, edited, put_ring, ring_of, ring_place, time_at}
+pub use Rattle.ring.proofs.{Laws.place_is, Laws.ring_from, Laws.ring_length, Laws.ring_spent}
+pub use Rattle.ring.specs.Ring.{changed, drop_ring, edited, put_ring, ring_of, ring_place}
 pub use Rattle.ring.specs.declared.Edit.TheVariants.{Drop, Push, PushTwo, Store}
 unfoldable pub use Rattle.constraint.specs.{Accepted.KindsFit, Meets.SpansApart, Steps.times}
 unfoldable pub use Rattle.row_type.specs.Words.{changed_words, number_words, row_as_words}

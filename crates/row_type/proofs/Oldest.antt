@@ -1,16 +1,13 @@
 -- The oldest of the times that a row keeps, and the due time that it gives: by cases on the list.
 use Rattle.row_type.proofs.Names.{Each, List, Rising, [], ◌++◌, ◌+◌, ◌<◌, ◌∷◌, ◌≡◌, ◌≤◌, arith, at, drop, due_oldest, due_or, each_cons}
 use Rattle.row_type.proofs.Names.{each_none, eq-eqb, eqb, false, front, last_time, length, ne_eqb, none_left}
-use Rattle.row_type.proofs.Names.{plus, refl, ring, ring_cons, ring_length, suc, sym, time_at, zero, ℕ}
+use Rattle.row_type.proofs.Names.{plus, refl, ring, ring_length, suc, sym, zero, ℕ}
 
 -- ---- the oldest time
 
 pub front_at : (times : List ℕ) → front times ≡ at times 0
 front_at [] = refl
 front_at (t ∷ times) = refl
-
-pub front_ring : (l : List ℕ) (f n : ℕ) → 0 < n → front (ring l f n) ≡ time_at l f 0
-front_ring l f n h = rw (ring_cons l f n h)
 
 -- none is left where the length says so
 pub none_left_length : (times : List ℕ) (n : ℕ) → length times ≡ n → eqb n 0 ≡ none_left times

@@ -1,50 +1,15 @@
 -- A record of a known type has the fields of the constraint that it stands for, so its numbers, made field by field from the last one, and the words
 -- of its ring, taken from its places, are the constraint's.
-use Rattle.constraint.proofs.Library.{List, [], ◌++◌, ◌+◌, ◌<◌, ◌∙◌, ◌∷◌, ◌≡◌, ◌≢◌, ◌≤◌, add-one, ap, ap₂, arith, cond, drop-cons}
-use Rattle.constraint.proofs.Library.{eqb, eqb-true, false, length, ltb, ne_eqb, refl, replicate, set, sets, sym, true, ℕ, ⊎_elim}
-use Rattle.constraint.proofs.Lists.{or_false, or-true, split}
-use Rattle.constraint.specs.Limits.{repetition_span_limit, span_limit}
+use Rattle.constraint.proofs.Library.{List, [], ◌++◌, ◌+◌, ◌<◌, ◌∙◌, ◌∷◌, ◌≡◌, ◌≤◌, ap, ap₂, arith}
+use Rattle.constraint.proofs.Library.{length, refl, replicate, sets, sym, true, ℕ}
 use Rattle.constraint.specs.Steps.{at}
-use Rattle.constraint.specs.Types.{ByteRole, Field, TimeRole, TypeKnown, byte, count, lengths, plain, right, span, takes_count, time}
-use Rattle.constraint.specs.Types.{tolerance, upper, upper_or_none}
-use Rattle.table_row.specs.Records.{byte_role, field_at, fields_as, fields_from, is_kind, roles_of, row_read, time_role}
+use Rattle.constraint.specs.Types.{Field, TypeKnown, lengths, takes_count}
+use Rattle.table_row.specs.Records.{field_at, fields_as, fields_from, roles_of, row_read}
 use Rattle.table_row.proofs.ByType.{CountIs, EachThen, each_then}
 use Rattle.table_row.proofs.FieldByField.{fields_next}
 use Rattle.table_row.proofs.Standing.{reads, type_listed}
-use Rattle.row_type.specs.Parameters.{first_constant, no_fields, parameters_of, start_ring, used_from, with_field, with_fields, with_kind}
-use Rattle.row_type.specs.Parameters.{with_limits}
+use Rattle.row_type.specs.Parameters.{first_constant, no_fields, parameters_of, start_ring, used_from, with_field, with_fields}
 use Rattle.row_type.specs.declared.Parameters.{Parameters}
-
--- ---- one field
-
-pub kind_field : (r x : ℕ) (parameters : Parameters) → is_kind r ≡ true
-    → with_fields (byte (byte_role r) x ∷ []) parameters ≡ with_kind x parameters
-kind_field r x parameters is = ⊎_elim (λ e. rw (eqb-true r 107 e)) (λ e. rw (eqb-true r 99 e)) (or-true (eqb r 107) (eqb r 99) is)
-
-pub span_field : (r x : ℕ) (parameters : Parameters) → is_kind r ≡ false
-    → with_fields (byte (byte_role r) x ∷ []) parameters
-    ≡ with_limits x parameters.lower parameters.upper parameters.jitter parameters.minimum parameters
-span_field r x parameters is =
-    let other = or_false (eqb r 107) (eqb r 99) is in
-    rw (other.0, other.1)
-    (split (eqb r 110) (λ n. Same (cond n count (span (cond (eqb r 115) span_limit repetition_span_limit)))) (λ e. refl) (λ e. refl))
-  where
-    Same : ByteRole → Type 0
-    Same role = with_fields (byte role x ∷ []) parameters
-        ≡ with_limits x parameters.lower parameters.upper parameters.jitter parameters.minimum parameters
-
-pub upper_field : (r x : ℕ) (parameters : Parameters) → r ≢ 76 → r ≢ 74 → r ≢ 77 → r ≢ 87 → r ≢ 79 → r ≢ 88
-    → with_fields (time (time_role r) x ∷ []) parameters
-    ≡ with_limits parameters.span parameters.lower x parameters.jitter parameters.minimum parameters
-upper_field r x parameters a b c d e f =
-    rw (ne_eqb r 76 a, ne_eqb r 79 e, ne_eqb r 88 f, ne_eqb r 74 b, ne_eqb r 77 c, ne_eqb r 87 d)
-    (split (eqb r 85) (λ u. Same (cond u upper (cond (eqb r 78) upper_or_none (cond (eqb r 89) right (plain tolerance))))) (λ e. refl)
-    (λ e. split (eqb r 78) (λ u. Same (cond u upper_or_none (cond (eqb r 89) right (plain tolerance)))) (λ e. refl)
-    (λ e. split (eqb r 89) (λ u. Same (cond u right (plain tolerance))) (λ e. refl) (λ e. refl))))
-  where
-    Same : TimeRole → Type 0
-    Same role = with_fields (time role x ∷ []) parameters
-        ≡ with_limits parameters.span parameters.lower x parameters.jitter parameters.minimum parameters
 
 -- ---- fields in their order
 
@@ -106,9 +71,3 @@ pub row_words : (edition t : ℕ) (v : List ℕ) → TypeKnown edition t (at v 0
     → sets (replicate 64 0) 0 (used_from (roles_of t (at v 0)) v (first_constant t)) ≡ start_ring (row_read t v)
 row_words edition t v known =
     words_read (at v 0) v t (type_listed edition t known.type_known) (λ e. (refl, (known.n_known e).0, (known.n_known e).1))
-
--- one place more
-pub words_more : (times roles values : List ℕ) (next i : ℕ) → i < length roles
-    → sets times next (used_from roles values i)
-    ≡ sets (set times next (cond (ltb (at roles i) 65) 0 (at values i))) (next + 1) (used_from roles values (i + 1))
-words_more times roles values next i h = rw (add-one i, add-one next, drop-cons roles i 0 h)

@@ -1,5 +1,11 @@
 -- Tests that tell whether something holds.
-use Rattle.row_type.proofs.Names.{Bool, ◌&&◌, ◌||◌, ◌≡◌, ◌≤◌, arith, false, leb, leb-false, leb-true, refl, split, true, ℕ}
+use mir.Val.{bool_byte}
+use Rattle.row_type.proofs.Names.{Bool, ◌&&◌, ◌||◌, ◌≡◌, ◌≤◌, arith, cond, false, leb, leb-false, leb-true, refl, split, true, ℕ}
+
+-- the number that the library makes of a test
+pub bool_number : (b : Bool) → bool_byte b ≡ cond b 1 0
+bool_number true = refl
+bool_number false = refl
 
 pub data Tells (P : Type 0) : Bool → Type 0 where
   holds : P → Tells P true

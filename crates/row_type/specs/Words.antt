@@ -63,6 +63,10 @@ parameters_at w =
 abbrev pub registers_at : List ℕ → Registers
 registers_at w = record { last = get_or w 10 0; first = get_or w 11 0; second = get_or w 12 0; third = get_or w 13 0; fourth = get_or w 14 0 }
 
+-- the times that a row keeps
+abbrev pub times_in : List (List ℕ) → List ℕ
+times_in row = ring (get_or row 0 []) (get_or (get_or row 1 []) 15 0) (get_or (get_or row 1 []) 16 0)
+
 -- a question about a row's numbers, its marks and how many times it keeps, asked of its words
 abbrev pub asked_of : (Parameters → Registers → ℕ → ℕ → ℕ → Bool) → List ℕ → ℕ → ℕ → Bool
 asked_of test w s t = test (parameters_at w) (registers_at w) (get_or w 16 0) s t

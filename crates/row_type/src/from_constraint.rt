@@ -12,13 +12,14 @@ use table_row::fields::{
 };
 use table_row::types::roles_of;
 
-// A kind that no event has.
+// A kind that no event has. It is a number, and no Option, as a rule's kinds are words of the lent memory (no_kind).
 pub const NO_KIND: u8 = 64;
 
 // How many words a row has from the start, by the type byte.
 const WORD_COUNTS: [u8; 18] = [0, 0, 0, 0, 0, 0, 0, 0, 0, 16, 0, 0, 16, 40, 40, 8, 24, 0];
 
-// The place from which on the values of a row are such words, by the type byte; 18 for none.
+// The place from which on the values of a row are such words, by the type byte; 18, the end, for none. An Option is no plainer, as nothing is from
+// the end on.
 const FIRST_CONSTANTS: [u8; 18] = [
     18, 18, 18, 18, 18, 18, 18, 18, 18, 18, 18, 18, 18, 18, 18, 5, 2, 18,
 ];
@@ -27,13 +28,14 @@ const FIRST_CONSTANTS: [u8; 18] = [
 fn no_fields(tag: u8) -> Parameters
     ensures { result ≡ no_fields tag }
 {
+    let none = u64::from(NO_KIND);
     Parameters {
-        tag: tag as u64,
-        first: NO_KIND as u64,
-        second: NO_KIND as u64,
-        third: NO_KIND as u64,
-        fourth: NO_KIND as u64,
-        fifth: NO_KIND as u64,
+        tag: u64::from(tag),
+        first: none,
+        second: none,
+        third: none,
+        fourth: none,
+        fifth: none,
         span: 0,
         lower: 0,
         upper: 0,
@@ -46,50 +48,50 @@ fn no_fields(tag: u8) -> Parameters
 fn with_byte(parameters: Parameters, role: u8, value: u64) -> Parameters
     ensures { result ≡ with_fields (byte (byte_role role) value ∷ []) parameters }
 {
-    let mut next = parameters;
     if is_kind(role) {
-        next.first = value;
-        next.second = parameters.first;
-        next.third = parameters.second;
-        next.fourth = parameters.third;
-        next.fifth = parameters.fourth;
-        return next;
+        return Parameters {
+            first: value,
+            second: parameters.first,
+            third: parameters.second,
+            fourth: parameters.third,
+            fifth: parameters.fourth,
+            ..parameters
+        };
     }
-    next.span = value;
-    next
+    Parameters {
+        span: value,
+        ..parameters
+    }
 }
 
 // The numbers with a time: a tolerance and a right are an upper, a left a lower, a length a lower without an upper limit. An offset is no number.
 fn with_time(parameters: Parameters, role: u8, value: u64) -> Parameters
     ensures { result ≡ with_fields (time (time_role role) value ∷ []) parameters }
 {
-    let mut next = parameters;
-    if role == LOWER {
-        next.lower = value;
-        return next;
+    match role {
+        LOWER | LEFT => Parameters {
+            lower: value,
+            ..parameters
+        },
+        JITTER => Parameters {
+            jitter: value,
+            ..parameters
+        },
+        MINIMUM => Parameters {
+            minimum: value,
+            ..parameters
+        },
+        LENGTH => Parameters {
+            lower: value,
+            upper: NO_LIMIT,
+            ..parameters
+        },
+        OFFSET => parameters,
+        _ => Parameters {
+            upper: value,
+            ..parameters
+        },
     }
-    if role == JITTER {
-        next.jitter = value;
-        return next;
-    }
-    if role == MINIMUM {
-        next.minimum = value;
-        return next;
-    }
-    if role == LENGTH {
-        next.lower = value;
-        next.upper = NO_LIMIT;
-        return next;
-    }
-    if role == OFFSET {
-        return next;
-    }
-    if role == LEFT {
-        next.lower = value;
-        return next;
-    }
-    next.upper = value;
-    next
 }
 
 // The numbers with the field of a place, if the place is used.
@@ -105,14 +107,12 @@ fn with_field(parameters: Parameters, role: u8, value: u64) -> Parameters
     with_byte(parameters, role, value)
 }
 
-// The numbers with some fields, from the last to the first.
+// The numbers with some fields, from the last to the first. Roles and values come apart, as `fields_as` of the contract takes them.
 fn with_fields(parameters: Parameters, roles: [u8; 18], values: &[u64; 18]) -> Parameters
     ensures { result ≡ with_fields (fields_as roles values.now) parameters }
 {
     let mut next = parameters;
-    let mut i = MOST_FIELDS;
-    while 0 < i {
-        i -= 1;
+    for i in (0..MOST_FIELDS).rev() {
         next = with_field(next, roles[i], values[i]);
     }
     next
@@ -123,53 +123,40 @@ pub fn parameters_of(tag: u8, values: &[u64; 18]) -> Parameters
     requires { Known (row_read tag values.now) }
     ensures { result ≡ parameters_of (row_read tag values.now) }
 {
-    let n = values[0];
-    let roles = roles_of(tag, n);
-    with_fields(no_fields(tag), roles, values)
+    with_fields(no_fields(tag), roles_of(tag, values[0]), values)
 }
 
 // How many words a row has from the start.
 pub fn start_word_count(parameters: Parameters) -> usize
     ensures { result ≡ start_word_count parameters }
 {
-    let place = parameters.tag as usize;
-    if WORD_COUNTS.len() <= place {
-        return 0;
-    }
-    WORD_COUNTS[place] as usize
+    WORD_COUNTS
+        .get(parameters.tag as usize)
+        .map_or(0, |&count| usize::from(count))
 }
 
 // The place from which on the values of a row are words of its ring.
 fn first_constant(tag: u8) -> usize
     ensures { result ≡ first_constant tag }
 {
-    let place = tag as usize;
-    if FIRST_CONSTANTS.len() <= place {
-        return 0;
-    }
-    FIRST_CONSTANTS[place] as usize
+    FIRST_CONSTANTS
+        .get(usize::from(tag))
+        .map_or(0, |&place| usize::from(place))
 }
 
 // The value of a place of a role, and 0 where the place is not used.
 fn used(role: u8, value: u64) -> u64
     ensures { result ≡ cond (ltb role 65) 0 value }
 {
-    if role < FIRST_TIME {
-        return 0;
-    }
-    value
+    if role < FIRST_TIME { 0 } else { value }
 }
 
 // Stores the values of the used places from the first one on in a ring, and 0 for each other.
 fn put_values(times: &mut [u64; 64], roles: [u8; 18], values: &[u64; 18], first: usize)
     ensures { times.new ≡ sets times.old 0 (used_from roles values.now first) }
 {
-    let mut next = 0;
-    let mut i = first;
-    while i < MOST_FIELDS {
-        times[next] = used(roles[i], values[i]);
-        next += 1;
-        i += 1;
+    for i in first..MOST_FIELDS {
+        times[i - first] = used(roles[i], values[i]);
     }
 }
 
@@ -180,8 +167,6 @@ pub fn put_constants(times: &mut [u64; 64], tag: u8, values: &[u64; 18])
 {
     let first = first_constant(tag);
     if first < MOST_FIELDS {
-        let n = values[0];
-        let roles = roles_of(tag, n);
-        put_values(times, roles, values, first);
+        put_values(times, roles_of(tag, values[0]), values, first);
     }
 }

@@ -34,8 +34,9 @@ pub struct Parameters {
 }
 
 // Five numbers that a row keeps beside its times. A type uses some of these, and its module says for what; the others stay 0.
+// They are words of the lent memory, so that 0 stands for none (registers_at).
 #[repr(C)]
-#[derive(Clone, Copy)]
+#[derive(Clone, Copy, Default)]
 pub struct Registers {
     // one more than a time, or 0 for none: that of the last event, of the last target, or of a target beyond the number of sources
     pub last: u64,
@@ -48,7 +49,7 @@ pub struct Registers {
 
 // What a row keeps beside its rule and its times.
 #[repr(C)]
-#[derive(Clone, Copy)]
+#[derive(Clone, Copy, Default)]
 pub struct State {
     pub registers: Registers,
     // where its times begin, and how many there are
@@ -56,14 +57,14 @@ pub struct State {
     pub len: usize,
     // the last clock at which the row is still open if no event of the row comes
     pub due: u64,
-    // 1: it is kept if the recording is closed now
+    // 1: it is kept if the recording is closed now; a word of the lent memory, and so is broken (number_words)
     pub kept: u64,
     // the step that broke it; 0: not broken
     pub broken: u64,
 }
 
 // What an event makes of a row: it breaks it; or its times are edited, its marks and its due time are new, and it is kept or
-// not if the recording is closed then.
+// not if the recording is closed then. Only definitions use it: breaks stays a flag, as the theorems on changed_words hold it.
 #[derive(Drop)]
 pub struct Change {
     pub breaks: bool,

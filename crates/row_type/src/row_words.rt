@@ -1,17 +1,19 @@
 // A row where it lies, in two arrays of 64 words: the ring of its times, and its numbers. What every row type does to them.
-ghost use Rattle.std.specs.Prelude.{◌≡◌, cond, [], eqb};
+// The numbers stay words of an array, and are no struct with fields, as the C interface lends them so (row_as_words, number_words).
+ghost use Rattle.std.specs.Prelude.{◌≡◌, ◌≤◌, ◌+◌, ◌-◌, cond, [], drop, eqb, get_or, take};
+ghost use Rattle.std.proofs.lemmas.List.Edits.{sets};
 ghost use Rattle.row_type.specs.declared.Parameters.{Parameters};
 ghost use Rattle.row_type.specs.declared.Registers.{Registers};
 ghost use Rattle.row_type.specs.Words.{parameters_at, registers_at, broken_at, settled, last_saved, first_three_saved, counts_saved};
 ghost use Rattle.row_type.specs.Words.{NumbersBecome, numbers_saved, SavesUndoRegisters, SavesUndo, SavesUndoAll, BreaksRow, Edits};
-ghost use Rattle.row_type.specs.Words.{MakesWaiting, live_of, with_ring};
-ghost use Rattle.ring.specs.Ring.{ring_of};
+ghost use Rattle.row_type.specs.Words.{MakesWaiting, live_of, times_in, with_ring};
+ghost use Rattle.ring.specs.Ring.{ring_of, times_of};
 ghost use Rattle.ring.specs.declared.Edit.TheVariants.{Drop, Push, PushTwo, Store};
 
-use crate::parts::{due_after, plus, smaller};
+use crate::parts::due_after;
 use crate::{Parameters, Registers};
 use constraint::NO_LIMIT;
-use ring::{SIZE, head_after, left, place_of, push, put_pair, second_at, time_at};
+use ring::{SIZE, Times, head_after, place_of, push, put_pair, second_at, time_at};
 
 // The constraint's numbers.
 pub const TYPE_TAG: usize = 0;
@@ -122,19 +124,41 @@ pub fn registers_at(w: &[u64; SIZE]) -> Registers
     }
 }
 
+// The times that a row keeps.
+#[inline]
+pub fn times(row: &[[u64; SIZE]; 2]) -> Times<'_>
+    ensures times { times_of result ≡ times_in row.now }
+    ensures words { result.words.now ≡ get_or row.now 0 [] }
+    ensures head { result.head ≡ get_or (get_or row.now 1 []) 15 0 }
+    ensures len { result.len ≡ get_or (get_or row.now 1 []) 16 0 }
+{
+    Times {
+        words: &row[0],
+        head: row[1][HEAD] as usize,
+        len: row[1][LEN] as usize,
+    }
+}
+
+// Each number of the past stands as many words behind the number itself.
+const PAST: usize = UNDO_LAST - LAST;
+
+// The numbers from one place up to another become the row's past.
+#[inline]
+fn save_words(w: &mut [u64; SIZE], from: usize, to: usize)
+    requires { (from ≤ to) × (to ≤ from + 10) × (to ≤ 54) }
+    ensures { w.new ≡ sets w.old (from + 10) (take (to - from) (drop from w.old)) }
+{
+    for i in from..to {
+        w[i + PAST] = w[i];
+    }
+}
+
 // The ring's ends, the due time and the verdict at the close are kept as the row's past, before the step of that number, which overwrites words at a
 // place.
 fn save_undo_numbers(w: &mut [u64; SIZE], place: usize, number: u64)
     ensures { NumbersBecome (λ state past. state) (numbers_saved place number) w.old w.new }
 {
-    let head = w[HEAD];
-    let len = w[LEN];
-    let due = w[DUE];
-    let kept = w[KEPT];
-    w[UNDO_HEAD] = head;
-    w[UNDO_LEN] = len;
-    w[UNDO_DUE] = due;
-    w[UNDO_KEPT] = kept;
+    save_words(w, HEAD, BROKEN);
     w[UNDO_PLACE] = place as u64;
     w[UNDO_STEP] = number;
 }
@@ -143,47 +167,32 @@ fn save_undo_numbers(w: &mut [u64; SIZE], place: usize, number: u64)
 pub fn save_undo_last(row: &mut [[u64; SIZE]; 2])
     ensures { SavesUndoRegisters last_saved row.old row.new }
 {
-    let last = row[1][LAST];
-    row[1][UNDO_LAST] = last;
+    save_words(&mut row[1], LAST, ONE);
 }
 
 // The first three marks are.
 pub fn save_undo_first_three(row: &mut [[u64; SIZE]; 2])
     ensures { SavesUndoRegisters first_three_saved row.old row.new }
 {
-    let last = row[1][LAST];
-    let one = row[1][ONE];
-    let two = row[1][TWO];
-    row[1][UNDO_LAST] = last;
-    row[1][UNDO_ONE] = one;
-    row[1][UNDO_TWO] = two;
+    save_words(&mut row[1], LAST, THREE);
 }
 
 // The four counts are.
 pub fn save_undo_counts(row: &mut [[u64; SIZE]; 2])
     ensures { SavesUndoRegisters counts_saved row.old row.new }
 {
-    let one = row[1][ONE];
-    let two = row[1][TWO];
-    let three = row[1][THREE];
-    let four = row[1][FOUR];
-    row[1][UNDO_ONE] = one;
-    row[1][UNDO_TWO] = two;
-    row[1][UNDO_THREE] = three;
-    row[1][UNDO_FOUR] = four;
+    save_words(&mut row[1], ONE, HEAD);
 }
 
 // Returns what an event of a row dispatches on: its type, or 30 for a larger number, and 31 once it is broken.
+// This is no enum, as it is a word of the lent memory (live_of in number_words).
 pub fn live_of(tag: u64, broken: u64) -> u64
     ensures { result ≡ live_of tag broken }
 {
-    if broken == 0 {
-        return smaller(tag, 30);
-    }
-    31
+    if broken == 0 { tag.min(30) } else { 31 }
 }
 
-// Why a row is broken, where an event breaks it.
+// Why a row is broken, where an event breaks it. It is a number, as it is a word of the lent memory (broken_at).
 pub const BY_EVENT: u64 = 2;
 
 // A row's state is that of one that an event at t breaks, by the step of that number. Cause and moment take two words that a broken row does not use.
@@ -216,11 +225,8 @@ fn save_undo(row: &mut [[u64; SIZE]; 2], place: usize, number: u64)
 pub fn save_undo_all(row: &mut [[u64; SIZE]; 2], number: u64)
     ensures { SavesUndoAll row.old number row.new }
 {
-    let last = row[1][LAST];
-    let broken = row[1][BROKEN];
-    save_undo_counts(row);
-    row[1][UNDO_LAST] = last;
-    row[1][UNDO_BROKEN] = broken;
+    save_words(&mut row[1], LAST, HEAD);
+    save_words(&mut row[1], BROKEN, UNDO_LAST);
     save_undo(row, 0, number);
 }
 
@@ -244,7 +250,7 @@ fn push_one(row: &mut [[u64; SIZE]; 2], dropped: usize, word: u64, number: u64)
     ensures { Edits row.old (Push dropped word) number row.new }
 {
     let head = head_after(row[1][HEAD] as usize, dropped);
-    let len = left(row[1][LEN] as usize, dropped);
+    let len = (row[1][LEN] as usize).saturating_sub(dropped);
     save_undo(row, place_of(head, len), number);
     let more = push(&mut row[0], head, len, word);
     row[1][LEN] = more as u64;
@@ -253,12 +259,12 @@ fn push_one(row: &mut [[u64; SIZE]; 2], dropped: usize, word: u64, number: u64)
     }
 }
 
-// So they do, and two words go behind the rest.
+// So they do, and two words go behind the rest. It stands beside push_one, as a loop over one word or two is no plainer.
 pub fn push_two(row: &mut [[u64; SIZE]; 2], dropped: usize, first: u64, second: u64, number: u64)
     ensures { Edits row.old (PushTwo dropped first second) number row.new }
 {
     let head = head_after(row[1][HEAD] as usize, dropped);
-    let len = left(row[1][LEN] as usize, dropped);
+    let len = (row[1][LEN] as usize).saturating_sub(dropped);
     save_undo(row, SIZE + place_of(head, len), number);
     let more = push(&mut row[0], head, len, first);
     let both = push(&mut row[0], head, more, second);
@@ -320,7 +326,7 @@ pub fn fewer_wait(row: &mut [[u64; SIZE]; 2], dropped: usize, number: u64)
         return;
     }
     row[1][LEN] = (len - dropped) as u64;
-    row[1][DUE] = plus(row[0][next], row[1][UPPER]);
+    row[1][DUE] = row[0][next].saturating_add(row[1][UPPER]);
     row[1][KEPT] = 0;
 }
 
@@ -328,10 +334,8 @@ pub fn fewer_wait(row: &mut [[u64; SIZE]; 2], dropped: usize, number: u64)
 pub fn one_more_waits(row: &mut [[u64; SIZE]; 2], dropped: usize, t: u64, number: u64)
     ensures { MakesWaiting row.old (Push dropped t) number row.new }
 {
-    let head = row[1][HEAD] as usize;
-    let len = row[1][LEN] as usize;
     let upper = row[1][UPPER];
-    let due = due_after(upper, &row[0], head, len, dropped, plus(t, upper));
+    let due = due_after(upper, times(row), dropped, t.saturating_add(upper));
     push_one(row, dropped, t, number);
     row[1][DUE] = due;
     row[1][KEPT] = 0;
@@ -346,7 +350,7 @@ pub fn newest_for_oldest(row: &mut [[u64; SIZE]; 2], t: u64, number: u64)
     let upper = row[1][UPPER];
     if 0 < len && len <= SIZE {
         let at = place_of(head, len);
-        let due = due_after(upper, &row[0], head, len, 1, plus(t, upper));
+        let due = due_after(upper, times(row), 1, t.saturating_add(upper));
         save_undo(row, at, number);
         row[0][at] = t;
         row[1][DUE] = due;
@@ -363,11 +367,4 @@ pub fn settle(w: &mut [u64; SIZE], due: u64, kept: u64)
 {
     w[DUE] = due;
     w[KEPT] = kept;
-}
-
-// Returns 1 for true and 0 for false.
-pub fn one_if(so: bool) -> u64
-    ensures { result ≡ cond so 1 0 }
-{
-    if so { 1 } else { 0 }
 }

@@ -7,7 +7,7 @@ pub use Rattle.constraint.specs.Run.{Keeps, Left, Request, Run, asks, done, left
 pub use Rattle.constraint.specs.Steps.{Step, at, close}
 pub use Rattle.constraint.specs.{Accepted.Accepted, Page.Pages, Promise.ReadsRow, Questions.Judged}
 pub use Rattle.constraint.specs.Table.{ReadsTableUpTo, table_of, table_refused}
-pub use Rattle.constraint.specs.{declared.Answer.Answer, declared.Answer.TheVariants.Refused, declared.Answer.TheVariants.Taken}
+pub use Rattle.constraint.specs.{Answer.Answer, Answer.Refused, Answer.Taken}
 pub use Rattle.constraint.specs.{declared.Call.Call, Constraint.Constraint, declared.Verdict.Verdict}
 pub use Rattle.delkuthi.proofs.Hosts.{follows, follows_fresh, untouched_all}
 pub use Rattle.delkuthi.proofs.Reports.{begun_with as fresh_holds, reported_as_recorded}
@@ -24,14 +24,14 @@ pub use Rattle.monitor.proofs.Independent.{answers_alike, other_rows_alike, rows
 pub use Rattle.monitor.proofs.Theorem.{monitor_is_exact, struck_out}
 pub use Rattle.monitor.specs.Beside.{EachBeside, NoneFull, TakesAll, all_taken}
 pub use Rattle.monitor.specs.Contract.{step, step_in}
-pub use Rattle.monitor.specs.{Machine.SameBare, Machine.no_row, declared.Monitor.Monitor, declared.Stepped.Stepped}
+pub use Rattle.monitor.specs.{Machine.SameBare, Machine.no_row, declared.Monitor.Monitor, Stepped.Stepped}
 pub use Rattle.row.specs.{declared.Row.Row}
 pub use Rattle.sessions.specs.LentExact.{LentExact, LentExactUpTo, ReadsRecorded, cut, whole}
 pub use Rattle.sessions.specs.Monitors.{Monitors, SameButUndo, SameNumbers, SameRow}
 pub use Rattle.sessions.specs.{Apart.ReadsAlike, Readers.ReadsAs}
 pub use Rattle.queries.specs.Contract.{QueryAnswer}
 pub use Rattle.table.proofs.{AcceptedRows.read_accepted, ReadUnique.reads_once}
-pub use Rattle.table.specs.declared.ReadAnswer.{ReadAnswer}
+pub use Rattle.table.specs.ReadAnswer.{ReadAnswer}
 unfoldable pub use Rattle.constraint.specs.{Promise.play}
 unfoldable pub use Rattle.row_type.specs.Words.{number_words, row_as_words}
 unfoldable pub use Rattle.monitor.specs.{Contract.after, Machine.bare, Machine.verdict_of}

@@ -14,7 +14,7 @@ use Rattle.delkuthi.specs.Taking.{StepsBefore}
 use Rattle.delkuthi.specs.Reporting.{ReportsOnUpTo}
 use Rattle.delkuthi.specs.TakingRecords.{NumbersTaken, taken_number, TakeLeaves}
 use Rattle.delkuthi.specs.WithdrawingStep.{WithdrawsStep, step_questions}
-use Rattle.table.specs.declared.ReadAnswer.{ReadAnswer}
+use Rattle.table.specs.ReadAnswer.{ReadAnswer}
 use Rattle.sessions.specs.Monitors.{Monitors}
 
 -- ---- the calls

@@ -1,5 +1,6 @@
 -- The last true time of a choice can be at each place from the earliest to the stamp, and a choice goes on with any later place of the next stamp; so
 -- each two neighbours can take the ends of their ranges, and the tests on these ends tell what each choice and what some choice does.
+use Rattle.std.specs.Prelude.{Option, Some, None}
 use Rattle.stamps.proofs.Names.{Accepts, Apart, LateRow, Bool, Call, Each, List, Registers, MeetsRepeat, NotLater, Places, PointsOf}
 use Rattle.stamps.proofs.Names.{ReadsStamps}
 use Rattle.stamps.proofs.Names.{Parameters, SpansApart, Sporadic, StampedVerdict, Stamps, Step, Tells, TrueTimes, [], ◌&&◌, ◌++◌, ◌+◌, ◌-◌}
@@ -7,7 +8,7 @@ use Rattle.stamps.proofs.Names.{◌<◌, ◌∙◌}
 use Rattle.stamps.proofs.Names.{◌∷◌, ◌≡◌, ◌≤◌, ap, apart_first, arith, at, at_left, at_next, both_occur, by_cases, call_after, close_verdict}
 use Rattle.stamps.proofs.Names.{cond, dec_lt, each_meets, eqb, eqb-false, eqb-true, event, fails, false, first_places, first_coloured}
 use Rattle.stamps.proofs.Names.{first_stamp, get_or-take, highest, holds, inl, inr, last_time, later_place, later_places, later_stamp, length}
-use Rattle.stamps.proofs.Names.{length-append, length-take, registers_of, max, min, next_high, next_low, no_limit, no_registers, no_stamps}
+use Rattle.stamps.proofs.Names.{length-append, length-take, registers_of, max, min, next_high, next_low, no_limit, no_registers}
 use Rattle.stamps.proofs.Names.{none_meets, plus}
 use Rattle.stamps.proofs.Names.{points_first, points_more, refl, parameters_of, split, stamp_after, stamps_verdict, step_for, stream, stride}
 use Rattle.stamps.proofs.Names.{subst, sym}
@@ -71,7 +72,7 @@ module _ (a : LateRow) where
   SomeAs events n low high true = Places (row_parameters a) events n low high
   SomeAs events n low high false = (points : List ℕ) → ¬ PointsOf (row_parameters a) events points
 
-  record Later (events : List ℕ) (s : Stamps) : Type 0 where
+  pub record Later (events : List ℕ) (s : Stamps) : Type 0 where
     n : ℕ
     last : n + 1 ≡ length events
     small : s.stamp ≤ last_time
@@ -80,12 +81,10 @@ module _ (a : LateRow) where
     each : EachAs events s.each
     some : SomeAs events n s.low s.high s.some
 
-  pub record Keeps (events : List ℕ) (s : Stamps) : Type 0 where
-    none : s.any ≡ false → length events ≡ 0
-    more : s.any ≡ true → Later events s
-
-  pub keeps_none : Keeps [] no_stamps
-  keeps_none = record { none = λ e. refl; more = λ e. absurd (let z : ◌≡◌ {A = ℕ} 0 1 = cc in omega arith) }
+  -- none so far, or these
+  abbrev pub Keeps : List ℕ → Option Stamps → Type 0
+  Keeps events None = length events ≡ 0
+  Keeps events (Some s) = Later events s
 
   -- ---- the first stamp
 
@@ -251,31 +250,22 @@ module _ (a : LateRow) where
 
   -- ---- one stamp more, and a call more
 
-  keeps_stamp : a.lower ≤ last_time → (events : List ℕ) (s : Stamps) → Keeps events s → (t : ℕ) → t ≤ last_time → Each (λ x. x < t) events
-      → Keeps (events ++ (t ∷ [])) (stamp_after a s t)
-  unfolding stamp_after later_stamp
-  keeps_stamp small_lower events s keeps t small above =
-      split s.any (λ x. Keeps (events ++ (t ∷ [])) (cond x (later_stamp a s t) (first_stamp a t)))
-      (λ e. let known = keeps.more e in
-      record {
-        none = λ f. absurd (let z : ◌≡◌ {A = ℕ} 0 1 = cc in omega arith);
-        more = λ f. later_later small_lower events s known t small
-            (subst (λ (x : ℕ). x < t) known.stamp_is (above known.n (omega (arith, known.last))));
-      })
-      (λ e. record {
-        none = λ f. absurd (let z : ◌≡◌ {A = ℕ} 0 1 = cc in omega arith);
-        more = λ f. first_later events t small (keeps.none e);
-      })
+  keeps_stamp : a.lower ≤ last_time → (events : List ℕ) (s : Option Stamps) → Keeps events s → (t : ℕ) → t ≤ last_time
+      → Each (λ x. x < t) events → Keeps (events ++ (t ∷ [])) (Some (stamp_after a s t))
+  keeps_stamp small_lower events (Some s) known t small above =
+      later_later small_lower events s known t small
+      (subst (λ (x : ℕ). x < t) known.stamp_is (above known.n (omega (arith, known.last))))
+  keeps_stamp small_lower events None empty t small above = first_later events t small empty
 
   -- §12.3
-  pub keeps_call : a.event < first_coloured → a.lower ≤ last_time → (steps : List Step) (s : Stamps) → Keeps (times a.event steps) s
+  pub keeps_call : a.event < first_coloured → a.lower ≤ last_time → (steps : List Step) (s : Option Stamps) → Keeps (times a.event steps) s
       → (call : Call) → Accepts steps (step_for call)
       → Keeps (times a.event (steps ++ (step_for call ∷ []))) (call_after a s call)
   keeps_call plain small_lower steps s keeps (Call.Event k t) accepts =
-      split (eqb k a.event) (λ x. Keeps (times a.event (steps ++ (event k t ∷ []))) (cond x (stamp_after a s t) s))
+      split (eqb k a.event) (λ x. Keeps (times a.event (steps ++ (event k t ∷ []))) (cond x (Some (stamp_after a s t)) s))
       (λ e. let same : k ≡ a.event = eqb-true k a.event e in
-      subst (λ (j : ℕ). Keeps (times a.event (steps ++ (event j t ∷ []))) (stamp_after a s t)) (sym same)
-      (subst (λ (l : List ℕ). Keeps l (stamp_after a s t)) (sym (times_own a.event t steps))
+      subst (λ (j : ℕ). Keeps (times a.event (steps ++ (event j t ∷ []))) (Some (stamp_after a s t))) (sym same)
+      (subst (λ (l : List ℕ). Keeps l (Some (stamp_after a s t))) (sym (times_own a.event t steps))
       (keeps_stamp small_lower (times a.event steps) s keeps t accepts.time_small
       (subst (λ (j : ℕ). Each (λ x. x < t) (times j steps)) same accepts.in_order.1))))
       (λ e. subst (λ (l : List ℕ). Keeps l s) (sym (times_other a.event k t steps (eqb-false k a.event e))) keeps)
@@ -345,11 +335,9 @@ module _ (a : LateRow) where
       reads_by false false fail none = none_meets none
 
     -- §12.3
-    pub reads_now : (s : Stamps) → Keeps events s → ReadsStamps a.late a.lower a.upper events now (stamps_verdict a s now)
-    unfolding stamps_verdict close_verdict
-    reads_now s keeps =
-        split s.any (λ x. ReadsStamps a.late a.lower a.upper events now (cond x (close_verdict a s now) StampedVerdict.Kept))
-        (λ e. let known = keeps.more e in
+    pub reads_now : (s : Option Stamps) → Keeps events s → ReadsStamps a.late a.lower a.upper events now (stamps_verdict a s now)
+    unfolding close_verdict
+    reads_now (Some s) known =
         reads_by s known _ _ (each_now s known s.each known.each (tells_leb now (plus s.earliest a.upper)))
-        (some_now s known s.some known.some (tells_leb now (plus s.high a.upper))))
-        (λ e. no_stamps_lem (keeps.none e))
+        (some_now s known s.some known.some (tells_leb now (plus s.high a.upper)))
+    reads_now None empty = no_stamps_lem empty

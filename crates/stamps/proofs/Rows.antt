@@ -1,5 +1,8 @@
 -- A row is a Repeat of span 1 just where its type's number and its second value say so.
-use Rattle.stamps.proofs.Names.{Constraint, Finds, List, Refused, Repeat, RepeatRow, FoundRow, RowIs, ◌<◌, ◌∙◌, ◌≡◌, ◌≤◌, ap, arith, at}
+use Rattle.std.specs.Prelude.{Some, None, Ok, Err}
+use Rattle.constraint.specs.declared.Refusal.TheVariants.{NoRow, NotRepeat}
+use Rattle.table_row.specs.declared.TableRow.{TableRow}
+use Rattle.stamps.proofs.Names.{Constraint, Finds, List, Refused, Repeat, RepeatRow, row_in, refl, ◌<◌, ◌∙◌, ◌≡◌, ◌≤◌, ap, arith, at}
 use Rattle.stamps.proofs.Names.{by_cases, dec_lt, get_elem?, judged_no, judged_yes, length, lengths, never, no_type, parameters_of, row_read, says}
 use Rattle.stamps.proofs.Names.{some, sym, type_of, ℕ}
 
@@ -27,45 +30,28 @@ repeat_of t v k low high same =
 
 -- ---- what is found
 
-abbrev pub unasked : ℕ → FoundRow
-unasked n = record { number = n; event = 0; lower = 0; upper = 0 }
+pub finds_none : (late : ℕ) → Finds None late (Err NoRow)
+finds_none late rows i past e = judged_no 15 _ _ (λ h. omega (arith, h, past))
 
-pub finds_none : (count i : ℕ) (c : Constraint) → count ≤ i → Finds count i c (unasked 15)
-finds_none count i c past =
-    record {
-      refused = λ more rows row late. judged_no 15 _ _ (λ h. omega (arith, h, row.counted, past));
-      found = λ zero. absurd (omega (arith, zero));
-    }
-
-module _ (count i t : ℕ) (v : List ℕ) (there : i < count) where
-  abbrev row_read_lem : Constraint
-  row_read_lem = row_read t v
-
-  is_there : (rows : List Constraint) → RowIs count i row_read_lem rows → i < length rows
-  is_there rows row = omega (arith, row.counted, there)
-
-  pub finds_other : (t ≡ 3 → at v 1 ≡ 1 → ◌≡◌ {A = ℕ} 0 1) → Finds count i row_read_lem (unasked 25)
-  finds_other other =
-      record {
-        refused = λ more rows row late.
-            judged_yes 15 _ _ (Refused 25) (is_there rows row)
-            (judged_no 25 _ _ (λ asked.
-            let k = asked.0 in let low = asked.1.0 in let high = asked.1.1.0 in
-            let same = of_row rows k low high (row.is (is_there rows row)) asked.1.1.1 in
-            let numbers = repeat_of t v k low high same in
-            never (other numbers.0 numbers.1)));
-        found = λ zero. absurd (omega (arith, zero));
-      }
+module _ (row : TableRow) (late : ℕ) where
+  pub finds_other : (row.tag ≡ 3 → at row.values 1 ≡ 1 → ◌≡◌ {A = ℕ} 0 1) → Finds (Some row) late (Err NotRepeat)
+  finds_other other rows i is e =
+      judged_yes 15 _ _ (Refused 25) is.0
+      (judged_no 25 _ _ (λ asked.
+      let k = asked.0 in let low = asked.1.0 in let high = asked.1.1.0 in
+      let numbers = repeat_of row.tag row.values k low high (of_row rows i k low high is.1 asked.1.1.1) in
+      never (other numbers.0 numbers.1)))
     where
-      of_row : (rows : List Constraint) (k low high : ℕ) → get_elem? rows i ≡ some row_read_lem → RepeatRow rows i k low high
-          → row_read_lem ≡ Repeat k 1 low high
-      of_row rows k low high one two = cc
+      of_row : (rows : List Constraint) (i k low high : ℕ) → get_elem? rows i ≡ some (row_in row) → RepeatRow rows i k low high
+          → row_in row ≡ Repeat k 1 low high
+      of_row rows i k low high one two = cc
 
-  pub finds_it : t ≡ 3 → at v 1 ≡ 1 → Finds count i row_read_lem (record { number = 0; event = at v 0; lower = at v 2; upper = at v 3 })
-  finds_it three one =
-      record {
-        refused = λ more. absurd (omega (arith, more));
-        found = λ zero rows row.
-            row.is (is_there rows row)
-            ∙ ap (λ (d : Constraint). some d) (repeat_is t v three ∙ ap (λ (span : ℕ). Repeat (at v 0) span (at v 2) (at v 3)) one);
-      }
+  pub finds_it : row.tag ≡ 3 → at row.values 1 ≡ 1
+      → Finds (Some row) late (Ok (record { event = at row.values 0; lower = at row.values 2; upper = at row.values 3; late = late }))
+  finds_it three one = (
+    refl,
+    λ rows i is.
+        is.1
+        ∙ ap (λ (d : Constraint). some d)
+        (repeat_is row.tag row.values three ∙ ap (λ (span : ℕ). Repeat (at row.values 0) span (at row.values 2) (at row.values 3)) one),
+  )

@@ -7,16 +7,17 @@ use Rattle.constraint.proofs.Library.{sym}
 use Rattle.constraint.proofs.Library.{take, take-take, true, zero, ℕ, ⊎_elim}
 use Rattle.constraint.proofs.{Judged.never, LastQuestion.judged_last, Lists.split, Runs.accepts_taken, Verdicts.broken_shut, Verdicts.open_prefix}
 use Rattle.constraint.specs.Continuation.{Open, Reads, reads_broken, reads_kept, reads_open}
-use Rattle.constraint.specs.Steps.{Step, at, close, closed, event, tick}
+use Rattle.constraint.specs.Steps.{Step, close, closed, event, tick}
 use Rattle.constraint.specs.{Limits.stream_count, Limits.waiting_limit, Questions.Judged, Records.Decides, Run.Room, Run.questions, Run.step_for}
-use Rattle.constraint.specs.{Stretches.Breaks, Stretches.TakesEach, Stretches.takes_none, Waiting.waiting, declared.Answer.TheVariants.Taken}
+use Rattle.constraint.specs.{Stretches.Breaks, Stretches.TakesEach, Stretches.takes_none, Waiting.waiting, Answer.Taken}
 use Rattle.constraint.specs.{declared.Call.Call, Constraint.Constraint, declared.Verdict.Verdict}
 use Rattle.row.proofs.Steps.{After, Fits, Going, fits_reads, fits_room, fits_start, fits_step, seen}
 use Rattle.row.proofs.{EveryType.every_type_exact, Exact.Sound}
 use Rattle.row.specs.Machine.{event_at, row_of, row_step, row_verdict, tick_at}
-use Rattle.row.specs.{declared.StepInput.StepInput, declared.Row.Row, declared.RowStep.RowStep}
+use Rattle.row.specs.{declared.StepInput.StepInput, declared.Row.Row, RowStep.RowStep}
 use Rattle.stretch.proofs.Taking.{CallAt, next, next_is, next_judged, part_next, takes_at, takes_next, takes_valid}
-use Rattle.stretch.specs.Machine.{Kept, Needs, seen_as, step_as}
+use Rattle.stretch.specs.Machine.{Kept, Needs, no_kept, seen_as, seen_at, step_as, step_at}
+use Rattle.stretch.specs.declared.KeptRecord.{KeptRecord}
 
 -- ---- a record as two numbers
 
@@ -79,7 +80,7 @@ module _ (c : Constraint) (sound : Sound c) where
       (λ (g : Going c (every_type_exact c sound) part r.times r.now). absurd (omega (arith, g.unbroken, broken)))
       (λ b. broken_shut c r.now.broken valid b.first) fits.state
 
-  module _ (steps : List Step) (taken : TakesEach [] steps) (streams times : List ℕ) (kept : Kept steps streams times) (few : length steps ≤ 256)
+  module _ (steps : List Step) (taken : TakesEach [] steps) (records : List KeptRecord) (kept : Kept steps records) (few : length steps ≤ 256)
       (start : ℕ) where
     abbrev pub rest : List Step
     rest = drop start steps
@@ -87,8 +88,8 @@ module _ (c : Constraint) (sound : Sound c) where
     abbrev pub part : ℕ → List Step
     part size = take size rest
 
-    step_at : (i : ℕ) → i < length steps → get_or steps i close ≡ step_as (at streams i) (at times i)
-    step_at i h = kept i h (omega arith)
+    step_there : (i : ℕ) → i < length steps → get_or steps i close ≡ step_at records i
+    step_there i h = kept i h (omega arith)
 
     part_size : (size : ℕ) → start + size ≤ length steps → length (part size) ≡ size
     part_size size h = length-take-le size rest (omega (arith, h, length-drop start steps))
@@ -99,8 +100,8 @@ module _ (c : Constraint) (sound : Sound c) where
     not_closed (suc size) h =
         let there : start + size < length steps = omega (arith, h) in
         ap closed (part_next steps taken start size there)
-        ∙ ap (λ (s : Step). closed (part size ++ (s ∷ []))) (sym (next_is steps taken start size there) ∙ step_at (start + size) there)
-        ∙ closed_as (part size) (at streams (start + size)) (at times (start + size))
+        ∙ ap (λ (s : Step). closed (part size ++ (s ∷ []))) (sym (next_is steps taken start size there) ∙ step_there (start + size) there)
+        ∙ closed_as (part size) (get_or records (start + size) no_kept).stream (get_or records (start + size) no_kept).time
         ∙ not_closed size (omega (arith, h))
 
     -- the part is in order
@@ -141,15 +142,15 @@ module _ (c : Constraint) (sound : Sound c) where
 
       module _ (there : start + size < length steps) where
         abbrev o : StepInput
-        o = seen_as (at streams (start + size)) (at times (start + size))
+        o = seen_at records (start + size)
 
         abbrev step : Step
         step = step_for (next steps taken start size there)
 
         seen_is : seen (part size) step ≡ o
         seen_is =
-            ap (seen (part size)) (sym (next_is steps taken start size there) ∙ step_at (start + size) there)
-            ∙ seen_as_lem (part size) (at streams (start + size)) (at times (start + size))
+            ap (seen (part size)) (sym (next_is steps taken start size there) ∙ step_there (start + size) there)
+            ∙ seen_as_lem (part size) (get_or records (start + size) no_kept).stream (get_or records (start + size) no_kept).time
 
         accepts : Accepts (part size) step
         unfolding Room
@@ -188,8 +189,8 @@ module _ (c : Constraint) (sound : Sound c) where
                 (subst (λ (s : Step). Room alone (part size ++ (s ∷ []))) (sym at_size.is ∙ same)
                 (subst (λ (l : List Step). Room alone (l ++ (step_for at_size.s ∷ []))) (take-take size m rest (omega (arith, longer)))
                 (judged_room alone (take size (part m)) at_size.s
-                (λ e. not_close (at streams (start + size)) (at times (start + size))
-                (sym (step_at (start + size) there) ∙ next_is steps taken start size there ∙ sym same ∙ at_size.is ∙ e))
+                (λ e. not_close (get_or records (start + size) no_kept).stream (get_or records (start + size) no_kept).time
+                (sym (step_there (start + size) there) ∙ next_is steps taken start size there ∙ sym same ∙ at_size.is ∙ e))
                 at_size.judged)))
 
         module _ (calm : moved.crowded ≡ false) where

@@ -10,7 +10,7 @@ use Rattle.constraint.specs.Recording.{ReadsInOrder, ReadsRecords, call_at, no_m
 use Rattle.constraint.specs.Run.{Room, event_questions, questions, step_for}
 use Rattle.constraint.specs.Steps.{Step, clock, clock_from, close, closed, event, tick, times}
 use Rattle.constraint.specs.{Continuation.EventInOrder, Limits.last_count, Questions.Judged, Stretches.TakesEach, Stretches.takes_more}
-use Rattle.constraint.specs.{Stretches.takes_none, declared.Answer.TheVariants.Taken, declared.Call.Call, Constraint.Constraint}
+use Rattle.constraint.specs.{Stretches.takes_none, Answer.Taken, declared.Call.Call, Constraint.Constraint}
 
 -- ---- records that are taken
 

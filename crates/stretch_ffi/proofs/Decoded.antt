@@ -1,7 +1,7 @@
 -- The answer for a stretch says by the header's macros the stretch or the refusal: each part has its own bits.
 use Rattle.constraint.proofs.Library.{List, ◌<◌, ◌≡◌, arith, refl, ℕ}
 use Rattle.constraint.specs.Stretches.{AnswersStretchUpTo}
-use Rattle.constraint.specs.declared.StretchAnswer.{StretchAnswer}
+use Rattle.constraint.specs.Stretches.{StretchAnswer}
 use Rattle.delkuthi.proofs.Decoded.{word_refused}
 use Rattle.delkuthi.specs.Decoded.{told_of}
 use Rattle.stretch_ffi.proofs.StretchNumbers.{stretch_short}

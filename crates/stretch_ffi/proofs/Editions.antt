@@ -1,7 +1,7 @@
 -- §16.6: of a table of the first edition the call for both editions promises just what the one for the first does, since they read it alike.
 use Rattle.constraint.proofs.{Editions.reads_same, Library.List, Library.◌↔◌, Library.◌≡◌, Library.◌≤◌, Library.arith, Library.ℕ}
 use Rattle.constraint.specs.Stretches.{AnswersStretchUpTo, answers, no_recording, no_table}
-use Rattle.constraint.specs.{Steps.at, declared.StretchAnswer.StretchAnswer}
+use Rattle.constraint.specs.{Steps.at, Stretches.StretchAnswer}
 use Rattle.stretch_ffi.specs.Stretches.{NumbersStretch, NumbersStretchUpTo}
 
 module _ (one other : ℕ) (table : List ℕ) (known : at table 0 ≤ one) (known' : at table 0 ≤ other) where

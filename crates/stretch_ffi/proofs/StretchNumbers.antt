@@ -1,7 +1,7 @@
 -- Each question about a stretch has a number from 1 to 127, and so has each refusal.
 use Rattle.constraint.proofs.Library.{List, refl, ℕ}
 use Rattle.constraint.specs.Stretches.{AnswersStretchUpTo, answers, no_recording, no_stretch, no_table, stretch_questions}
-use Rattle.constraint.specs.declared.StretchAnswer.{StretchAnswer}
+use Rattle.constraint.specs.Stretches.{StretchAnswer}
 use Rattle.delkuthi.proofs.RecordNumbers.{Short, number_short, refusal_short, short?, table_short}
 
 pub stretch_short : {newest : ℕ} (table recording : List ℕ) (i n place : ℕ)

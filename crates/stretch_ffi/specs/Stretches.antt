@@ -1,8 +1,8 @@
 -- The number that answers for the shortest stretch to a host, and its promise.
 use Rattle.std.specs.Prelude.{ℕ, ◌+◌, ◌*◌, ◌/◌, ◌%◌, ◌^◌, ◌<◌, ◌≡◌, List}
 use Rattle.constraint.specs.Stretches.{AnswersStretchUpTo}
-use Rattle.constraint.specs.declared.Answer.{Answer}
-use Rattle.constraint.specs.declared.StretchAnswer.{StretchAnswer}
+use Rattle.constraint.specs.Answer.{Answer}
+use Rattle.constraint.specs.Stretches.{StretchAnswer}
 use Rattle.delkuthi.specs.Decoded.{number_in, told_of, Decodes}
 use Rattle.delkuthi.specs.Stamps.{place_number}
 

@@ -4,19 +4,19 @@
 
 ghost use Rattle.stretch_ffi.specs.Stretches.{NumbersStretchUpTo, NumbersStretch};
 
-use constraint::StretchAnswer;
-use delkuthi::stamped::place_number;
+use delkuthi::answers::refusal_number;
 
 // Returns the answer for a table of an edition up to `newest`.
 fn stretch_number(newest: u8, table: &[u8], recording: &[u8], row: u64) -> u64
     ensures { NumbersStretchUpTo newest table.now recording.now row result }
 {
-    let answer = stretch::shortest(newest, table, recording, row);
-    match answer {
-        StretchAnswer::Found { first, size, tried } => {
-            first as u64 * 256 + size as u64 * 65536 + tried as u64 * 4294967296
+    match stretch::shortest(newest, table, recording, row) {
+        Ok(found) => {
+            u64::from(found.first) * 256
+                + u64::from(found.size) * 65536
+                + u64::from(found.tried) * 4294967296
         }
-        StretchAnswer::Refused { number, place } => place_number(place) + number as u64,
+        Err(refused) => refusal_number(refused),
     }
 }
 

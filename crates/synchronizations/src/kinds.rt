@@ -1,5 +1,5 @@
 // The registers of a row of two to four kinds: first to fourth are one number for each kind.
-ghost use Rattle.std.specs.Prelude.{◌≡◌};
+ghost use Rattle.std.specs.Prelude.{◌≡◌, ◌<◌};
 ghost use Rattle.row_type.specs.Words.{parameters_at, registers_at};
 ghost use Rattle.synchronizations.specs.Kinds.{each_above, register_place};
 
@@ -8,8 +8,10 @@ use row_type::from_constraint::NO_KIND;
 use row_type::row_words;
 
 // The place of a kind's number: that of the first place that has the kind.
+#[tactic(auto, unfolding(crate::specs::Kinds::register_place))]
 pub fn place(w: &[u64; SIZE], kind: u64) -> usize
-    ensures { result ≡ register_place (parameters_at w.now) kind }
+    ensures place { result ≡ register_place (parameters_at w.now) kind }
+    ensures within { result < 64 }
 {
     if kind == w[row_words::FIRST] {
         return row_words::ONE;

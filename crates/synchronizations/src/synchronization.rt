@@ -1,12 +1,13 @@
 // Synchronization: no times are kept; first to fourth are one more than the last time of that kind, last is one more than the time of the oldest
-// event that lies in no full window yet. Each is 0 where there is none.
+// event that lies in no full window yet.
+// A mark is 0 where there is none: it is a word of memory that C lends, and `Registers` of specs/ reads it so.
 ghost use Rattle.row_type.specs.Words.{Applies};
 ghost use Rattle.synchronizations.specs.Synchronization.{all_saved, decide_synchronization};
 
 use crate::kinds;
 use constraint::NO_LIMIT;
-use ring::{SIZE, minus};
-use row_type::{parts, row_words};
+use ring::SIZE;
+use row_type::row_words;
 
 // §5.11
 // What an event makes of the row, where it lies.
@@ -16,11 +17,11 @@ pub fn apply(row: &mut [[u64; SIZE]; 2], stream: u64, t: u64, number: u64)
     row_words::save_undo_counts(row);
     row_words::save_undo_last(row);
     row_words::stay(row, number);
-    let noted = parts::plus(t, 1);
+    let noted = t.saturating_add(1);
     let at = kinds::place(&row[1], stream);
     row[1][at] = noted;
     let tolerance = row[1][row_words::UPPER];
-    let since = minus(t, tolerance);
+    let since = t.saturating_sub(tolerance);
     if kinds::each_above(&row[1], since) {
         row[1][row_words::LAST] = 0;
         row_words::settle(&mut row[1], NO_LIMIT, 1);
@@ -29,8 +30,8 @@ pub fn apply(row: &mut [[u64; SIZE]; 2], stream: u64, t: u64, number: u64)
     let owed = row[1][row_words::LAST];
     if owed == 0 {
         row[1][row_words::LAST] = noted;
-        row_words::settle(&mut row[1], parts::plus(t, tolerance), 0);
+        row_words::settle(&mut row[1], t.saturating_add(tolerance), 0);
         return;
     }
-    row_words::settle(&mut row[1], parts::plus(owed - 1, tolerance), 0);
+    row_words::settle(&mut row[1], (owed - 1).saturating_add(tolerance), 0);
 }

@@ -12,7 +12,7 @@ use Rattle.constraint.proofs.Library.{append-nil, by_cases, cond, dec_lt, min, s
 use Rattle.table.proofs.AcceptedRows.{read_accepted}
 use Rattle.table.proofs.RoundTrip.{read_then_write, write_then_read}
 use Rattle.table.specs.Appending.{AddsRow, AddsTo, Grown, add_questions, body_questions, edition_with, row_right, row_wrong, with_row}
-use Rattle.table.specs.declared.append.AddAnswer.{AddAnswer}
+use Rattle.table.specs.AddAnswer.{AddAnswer}
 
 -- ---- bytes
 

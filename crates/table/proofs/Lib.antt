@@ -9,7 +9,6 @@ pub mod AcceptedRows
 pub mod Progress
 pub mod Stores
 pub mod Written
-pub mod Answers
 pub mod RoundTripCode
 pub mod Scanning
 pub mod Appending

@@ -1,7 +1,7 @@
 -- The names of the definitions and laws below this crate that its proofs use, passed on from one place.
 pub use Rattle.constraint.proofs.Accepted.{row_accepted, rows_refused, rows_room, rows_taken, rows_then}
 pub use Rattle.constraint.proofs.Judged.{failed, judged_all, judged_first, judged_later, judged_no, judged_none, judged_once, judged_once_on}
-pub use Rattle.constraint.proofs.Judged.{judged_parts, judged_yes, never, same_test, test_le, yes_of}
+pub use Rattle.constraint.proofs.Judged.{judged_parts, judged_yes, never, passed, same_test, test_le, yes_of}
 pub use Rattle.constraint.proofs.Library.{Bool, not}
 pub use Rattle.constraint.proofs.Library.{List, [], ◌*◌, ◌++◌, ◌+◌, ◌-◌, ◌<◌, ◌∙◌, ◌∷◌, ◌≡◌, ◌≤◌, add-one}
 pub use Rattle.constraint.proofs.Library.{add-sub_cancel_left, add-zero, ap, append_assoc, ap₂, arith, drop, drop-append_seam}
@@ -15,7 +15,7 @@ pub use Rattle.table_row.proofs.Accepting.{ReadBack, write_then_read as write-ba
 pub use Rattle.table_row.proofs.Bodies.{bytes_part, number_back}
 pub use Rattle.table_row.proofs.Standing.{row_stands, stands_known, stands_once, two_long}
 pub use Rattle.table_row.proofs.{Judging.row_bytes_long, Judging.row_short, Lines.known_short, Tables.row_known, Tables.rows_from, Tables.rows_length}
-pub use Rattle.table_row.proofs.Stores.{loaded_row, sets_all}
+pub use Rattle.table_row.proofs.Stores.{loaded_row}
 pub use Rattle.table_row.specs.Records.{roles_of, row_from, row_in}
 pub use Rattle.constraint.proofs.Library.{length-sets, replicate}
 pub use Rattle.table_row.specs.{Tables.rows_of, declared.Table.Table, declared.TableRow.TableRow}
@@ -26,16 +26,16 @@ pub use Rattle.constraint.specs.Table.{ReadsRows, ReadsTableUpTo, RowAt, Same, S
 pub use Rattle.constraint.specs.Table.{body_at, length_at, no_more, row_refused, row_taken, row_then, table_of, table_refused, version_refused}
 pub use Rattle.constraint.specs.Table.{version_taken, writer_questions}
 pub use Rattle.constraint.specs.Types.{TypeKnown, count_of, last_type, length_of, type_of}
-pub use Rattle.constraint.specs.{Limits.row_limit, Questions.Judged, Questions.Question, Steps.at, declared.Answer.Answer}
-pub use Rattle.constraint.specs.{declared.Answer.TheVariants.Refused, declared.Answer.TheVariants.Taken, Constraint.Constraint}
+pub use Rattle.constraint.specs.{Limits.row_limit, Questions.Judged, Questions.Question, Steps.at, Answer.Answer}
+pub use Rattle.constraint.specs.{Answer.Refused, Answer.Taken, Constraint.Constraint}
 pub use Rattle.big_endian.proofs.Numbers.{bytes_length, number_of_bytes}
 pub use Rattle.big_endian.proofs.Stores.{stores_append, stores_front}
-pub use Rattle.table.specs.Raw.{KnownAt, KnownFrom, KnownRows, RawRows, RowTaken, WritesRaw, all_read, body_length, raw_body, raw_row}
+pub use Rattle.table.specs.Raw.{KnownAt, KnownRows, RawRows, RowTaken, WholeRow, WritesRaw, all_read, body_length, raw_body, raw_row}
 pub use Rattle.table.specs.Raw.{raw_size, stopped_at}
-pub use Rattle.table.specs.{Reading.ReadsInto, Reading.read_as, Reading.read_of, Rows.ReadsAt, Rows.row_read_at}
-pub use Rattle.table.specs.{Scan.Counted, Scan.PlacedAt, Scan.Says, Writing.Writes, declared.ReadAnswer.ReadAnswer, declared.Reading.Reading}
-pub use Rattle.table.specs.{declared.WriteAnswer.WriteAnswer, declared.scan.Placed.Placed}
+pub use Rattle.table.specs.{Reading.ReadsInto, Reading.read_of, Rows.ReadsAt, Rows.row_read_at}
+pub use Rattle.table.specs.{Scan.Counted, Scan.PlacedAt, Scan.Says, Writing.Writes}
+pub use Rattle.table.specs.{WriteAnswer.WriteAnswer, declared.scan.Placed.Placed}
 unfoldable pub use Rattle.constraint.specs.Table.{place_questions, row_body, row_bytes, rows_bytes, table_bytes_in}
-unfoldable pub use Rattle.constraint.specs.{Accepted.rows_questions, Bytes.Bytes, Bytes.number_behind}
+unfoldable pub use Rattle.constraint.specs.{Accepted.rows_questions, Bytes.Bytes}
 unfoldable pub use Rattle.table.specs.Raw.{raw_rows}
 unfoldable pub use Rattle.table_row.specs.Records.{row_read, values_at}

@@ -1,17 +1,10 @@
 -- The questions of the row at a place are put in their order, so each "no" needs the earlier ones answered "yes".
 use Rattle.table.proofs.Names.{Answer, Bytes, Constraint, Decides, Judged, List, Refused, RowAt, ShapeFits, Taken, VersionUpTo, WholeAt, []}
 use Rattle.table.proofs.Names.{◌+◌, ◌-◌, ◌<◌, ◌∷◌, ◌≡◌, ◌≤◌, add-sub_cancel_left, ap, arith, at, body_at, drop, edition_above}
-use Rattle.table.proofs.Names.{judged_all, judged_no, judged_once_on, judged_yes, last_type, leb, length, length_at, place_questions, row_limit}
+use Rattle.table.proofs.Names.{judged_all, judged_no, judged_once_on, judged_yes, last_type, leb, length_at, place_questions, row_limit}
 use Rattle.table.proofs.Names.{row_questions, same_test, take, test_le, ℕ}
 use Rattle.table.proofs.Names.{bytes_part, row_stands, row_read_at, stands_once}
 use Rattle.table.proofs.Shapes.{there}
-
--- a row is whole where its length is no more than what is left behind the length field
-pub whole_asked : (bytes : List ℕ) (place size : ℕ) → size ≡ length_at bytes place → place + 2 ≤ length bytes
-    → Decides (WholeAt bytes place) (leb size (length bytes - 2 - place))
-whole_asked bytes place size e there =
-    let to : size ≤ length bytes - 2 - place → WholeAt bytes place = λ h. (there, omega (arith, e, h)) in
-    same_test to (λ whole. omega (arith, e, whole.1)) (leb size (length bytes - 2 - place)) (test_le size (length bytes - 2 - place))
 
 module _ (edition : ℕ) (bytes : List ℕ) (i place : ℕ) (c : Constraint) where
   pub place_short : ¬ WholeAt bytes place → Judged (place_questions edition bytes i place c) (Refused 2)

@@ -13,11 +13,6 @@ use Rattle.table.proofs.Written.{written_refused}
 
 -- Rows of known types
 
-pub known_more : (edition : ℕ) (bytes : List ℕ) (i : ℕ) → ((j : ℕ) → j < i → KnownAt edition bytes j) → KnownAt edition bytes i
-    → (j : ℕ) → j < i + 1 → KnownAt edition bytes j
-known_more edition bytes i to here =
-    λ j below. split (eqb j i) (λ _. KnownAt edition bytes j) (λ e. rw (eqb-true j i e) here) (λ e. to j (omega (arith, eqb-false j i e)))
-
 -- one more row that is taken
 pub taken_more : (edition : ℕ) (bytes : List ℕ) (i : ℕ) → ((j : ℕ) → j < i → RowTaken edition bytes j) → RowTaken edition bytes i
     → (j : ℕ) → j < i + 1 → RowTaken edition bytes j
@@ -36,8 +31,8 @@ module _ (edition : ℕ) (bytes : List ℕ) (i : ℕ) (known : KnownAt edition b
   pub body_within : start + size ≤ length bytes
   body_within = omega (arith, known.1)
 
-  body_length_lem : length (raw_body bytes i) ≡ size
-  body_length_lem = length-take-le size (drop start bytes) (omega (arith, length-drop start bytes, body_within))
+  pub body_is : length (raw_body bytes i) ≡ size
+  body_is = length-take-le size (drop start bytes) (omega (arith, length-drop start bytes, body_within))
 
   byte_there : (j : ℕ) → j < size → at (raw_body bytes i) j ≡ at bytes (start + j)
   byte_there j less = rw (get_or-take size (drop start bytes) j 0 less, get_or-drop start bytes j 0)
@@ -54,9 +49,9 @@ module _ (edition : ℕ) (bytes : List ℕ) (i : ℕ) (known : KnownAt edition b
   fits : ShapeFits edition (raw_body bytes i)
   fits =
       record {
-        type_there = omega (arith, body_length_lem, two);
+        type_there = omega (arith, body_is, two);
         known = subst₂ (TypeKnown edition) (sym first) (sym second) known.0;
-        length_right = body_length_lem ∙ sym (ap₂ length_of first second);
+        length_right = body_is ∙ sym (ap₂ length_of first second);
       }
 
   -- the row that is read from it is the one that it stands for
@@ -72,7 +67,7 @@ module _ (edition : ℕ) (bytes : List ℕ) (i : ℕ) (known : KnownAt edition b
   raw_bytes each = (raw_stands each).bytes
 
   pub raw_length : Bytes bytes → length (row_body (raw_row bytes i)) ≡ size
-  raw_length each = ap length (raw_bytes each) ∙ body_length_lem
+  raw_length each = ap length (raw_bytes each) ∙ body_is
 
 -- The rows one after the other
 

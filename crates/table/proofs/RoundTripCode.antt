@@ -1,11 +1,13 @@
 -- §4.9 and §4.10 of the functions: what `read` accepted `write` writes back to the same bytes, and what `write` has written `read` reads back
 -- to the same rows.
-use Rattle.table.proofs.Names.{AcceptedIn, Bytes, Constraint, Judged, List, Question, RawRows, ReadAnswer, Reading, ReadsInto, ReadsTableUpTo}
+use Rattle.constraint.specs.declared.RefusedAt.{RefusedAt}
+use Rattle.std.specs.Prelude.{Result, Ok, Err}
+use Rattle.table.proofs.Names.{AcceptedIn, Bytes, Constraint, Judged, List, Question, RawRows, ReadsInto, ReadsTableUpTo}
 use Rattle.table.proofs.Names.{Refused, Table, Taken, WriteAnswer, Writes, WritesRaw, [], ◌*◌, ◌++◌, ◌+◌, ◌<◌, ◌∙◌, ◌∷◌, ◌≡◌, ◌≤◌, all_read}
 use Rattle.table.proofs.Names.{ap, arith, at, drop, judged_later, judged_none, judged_once, judged_parts, judged_yes, last_type, length, never}
-use Rattle.table.proofs.Names.{raw_size, read_as, refl, rows_then, rows_of, rows_questions, stopped_at, subst, sym, table_of, table_bytes_in, take}
+use Rattle.table.proofs.Names.{raw_size, read_of, refl, rows_then, rows_of, rows_questions, stopped_at, subst, sym, table_of, table_bytes_in, take}
 use Rattle.table.proofs.Names.{take-append_seam, writer_questions, ℕ}
-use Rattle.table.proofs.{AcceptedRows.read_accepted, Answers.reads_as, ReadUnique.reads_once, RoundTrip.read_then_write}
+use Rattle.table.proofs.{AcceptedRows.read_accepted, ReadUnique.reads_once, RoundTrip.read_then_write}
 use Rattle.table.proofs.{RoundTrip.write_then_read}
 
 -- accepted rows, and room for them
@@ -39,11 +41,10 @@ rows_write bytes before after rows w all reads long writes = go w writes
         let no = judged_once (writer_questions (at bytes 0) rows before) Taken (Refused n) taken writes.judged in never (cc)
 
 -- §4.9: of a table record
-pub read_write : {newest : ℕ} (bytes before after : List ℕ) (r : Reading) (w : WriteAnswer) → Bytes bytes → ReadsInto newest bytes r
-    → r.answer ≡ ReadAnswer.Accepted → length bytes ≤ length before → Writes (at bytes 0) (rows_of r.table) before w after
+pub read_write : {newest : ℕ} (bytes before after : List ℕ) (table : Table) (w : WriteAnswer) → Bytes bytes → ReadsInto newest bytes (Ok table)
+    → length bytes ≤ length before → Writes (at bytes 0) (rows_of table) before w after
     → (w ≡ WriteAnswer.Written (length bytes)) × (after ≡ bytes ++ drop (length bytes) before)
-read_write bytes before after r w all into e long writes =
-    rows_write bytes before after (rows_of r.table) w all (reads_as bytes r ReadAnswer.Accepted e into) long writes
+read_write bytes before after table w all into long writes = rows_write bytes before after (rows_of table) w all into long writes
 
 -- written in an edition that the reader takes, then read: the bytes say the same rows
 module _ (newest edition : ℕ) (some : 0 < last_type edition) (known : edition ≤ newest) where
@@ -65,19 +66,17 @@ module _ (newest edition : ℕ) (some : 0 < last_type edition) (known : edition 
           (rows_then edition 0 rows ((16, length (table_bytes_in edition rows) ≤ length before) ∷ [])) writes.judged)).0
 
   -- §4.10: of a table record: the record's rows
-  pub write_read : (table : Table) (before after : List ℕ) (n : ℕ) (r : Reading)
+  pub write_read : (table : Table) (before after : List ℕ) (n : ℕ) (r : Result Table RefusedAt)
       → Writes edition (rows_of table) before (WriteAnswer.Written n) after → ReadsInto newest (take n after) r
-      → (r.answer ≡ ReadAnswer.Accepted) × (rows_of r.table ≡ rows_of table)
-  write_read table before after n r writes into =
-      go r.answer refl (reads_once (take n after) into.reads (written_read (rows_of table) before after n writes))
+      → (again : Table) × (r ≡ Ok again) × (rows_of again ≡ rows_of table)
+  write_read table before after n r writes into = go r (reads_once (take n after) into (written_read (rows_of table) before after n writes))
     where
-      go : (a : ReadAnswer) → r.answer ≡ a → read_as r.answer r.table ≡ table_of (rows_of table) → (r.answer ≡ ReadAnswer.Accepted)
-          × (rows_of r.table ≡ rows_of table)
-      go ReadAnswer.Accepted e same = (e, rows_same (ap (λ (answer : ReadAnswer). read_as answer r.table) (sym e) ∙ same))
+      go : (r : Result Table RefusedAt) → read_of r ≡ table_of (rows_of table) → (again : Table) × (r ≡ Ok again) × (rows_of again ≡ rows_of table)
+      go (Ok again) same = (again, refl, rows_same same)
         where
-          rows_same : table_of (rows_of r.table) ≡ table_of (rows_of table) → rows_of r.table ≡ rows_of table
+          rows_same : table_of (rows_of again) ≡ table_of (rows_of table) → rows_of again ≡ rows_of table
           rows_same p = cc
-      go (ReadAnswer.Refused m place) e same = let no = ap (λ (answer : ReadAnswer). read_as answer r.table) (sym e) ∙ same in never (cc)
+      go (Err refused) same = never (cc)
 
   -- what raw bytes are written as: the rows that their bodies stand for, one for each whole stretch of 34 bytes
   abbrev RawRead : List ℕ → List ℕ → Type 0

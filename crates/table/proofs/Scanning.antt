@@ -1,12 +1,15 @@
 -- A table is read again row by row: a body stands for one row only, so the row at each place is the one that was read there.
-use Rattle.table.proofs.Names.{Constraint, Counted, List, Placed, PlacedAt, ReadAnswer, ReadsAt, ReadsRows, ReadsTableUpTo, Refused, Says}
+use Rattle.constraint.specs.Answers.{refused_number}
+use Rattle.constraint.specs.declared.RefusedAt.{RefusedAt}
+use Rattle.std.specs.Prelude.{Result, Ok, Err}
+use Rattle.table.proofs.Names.{Constraint, Counted, List, Placed, PlacedAt, ReadsAt, ReadsRows, ReadsTableUpTo, Refused, Says}
 use Rattle.table.proofs.Names.{Taken}
-use Rattle.table.proofs.Names.{TableRead, VersionUpTo, [], ◌++◌, ◌+◌, ◌<◌, ◌∙◌, ◌∷◌, ◌≡◌, ◌≤◌, add-one, ap, arith, at, body_at, drop, drop-cons}
+use Rattle.table.proofs.Names.{TableRead, VersionUpTo, [], ◌++◌, ◌+◌, ◌<◌, ◌∙◌, ◌∷◌, ◌≡◌, ◌≤◌, add-one, arith, at, body_at, drop, drop-cons}
 use Rattle.table.proofs.Names.{get_or, get_elem?, length, length-append, never, no_more, refl, row_refused, row_taken, row_limit, subst, subst₂}
 use Rattle.table.proofs.Names.{suc, sym}
 use Rattle.table.proofs.Names.{some, table_of, table_refused, version_taken, zero, ℕ}
 use Rattle.table.proofs.Progress.{RowsUpTo, rows_end, rows_more, rows_refused, rows_start}
-use Rattle.table.proofs.{AcceptedRows.rows_accepted, ReadUnique.reads_once, Places.place_taken}
+use Rattle.table.proofs.{AcceptedRows.rows_accepted, Places.place_taken}
 use Rattle.table.proofs.Names.{length_at, row_in, row_read_at, stands_once}
 
 -- Judging
@@ -52,9 +55,9 @@ counted_end edition bytes count place so_far end =
     }
 
 -- the version byte is asked for first
-pub counted_behind : (newest edition : ℕ) (bytes : List ℕ) (a : ReadAnswer) (count : ℕ) → VersionUpTo newest bytes → edition ≡ at bytes 0
-    → Says edition (ReadsRows edition bytes 0 1) a count → Says (at bytes 0) (ReadsTableUpTo newest bytes) a count
-counted_behind newest edition bytes ReadAnswer.Accepted count version e said =
+pub counted_behind : (newest edition : ℕ) (bytes : List ℕ) (r : Result ℕ RefusedAt) → VersionUpTo newest bytes → edition ≡ at bytes 0
+    → Says edition (ReadsRows edition bytes 0 1) r → Says (at bytes 0) (ReadsTableUpTo newest bytes) r
+counted_behind newest edition bytes (Ok count) version e said =
     let found = subst (λ (v : ℕ). Counted v (ReadsRows v bytes 0 1) count) e said in
     record {
       rows = found.rows;
@@ -63,8 +66,8 @@ counted_behind newest edition bytes ReadAnswer.Accepted count version e said =
       room = found.room;
       accepted = found.accepted;
     }
-counted_behind newest edition bytes (ReadAnswer.Refused n place) count version e said =
-    (version_taken version (subst (λ (v : ℕ). ReadsRows v bytes 0 1 (table_refused n place)) e said.0), said.1)
+counted_behind newest edition bytes (Err refused) version e said =
+    version_taken version (subst (λ (v : ℕ). ReadsRows v bytes 0 1 (table_refused (refused_number refused) refused.place)) e said)
 
 -- Reading again
 
@@ -108,11 +111,3 @@ pub row_there : (rows : List Constraint) (i : ℕ) (none : Constraint) → i < l
 row_there [] i none there = absurd (omega arith)
 row_there (c ∷ rows) zero none there = refl
 row_there (c ∷ rows) (suc i) none there = row_there rows i none (omega arith)
-
--- the count is that of the rows of a table that is read
-pub scan_count : {newest : ℕ} (bytes : List ℕ) (rows : List Constraint) (a : ReadAnswer) (count : ℕ)
-    → Says (at bytes 0) (ReadsTableUpTo newest bytes) a count → ReadsTableUpTo newest bytes (table_of rows) → count ≡ length rows
-scan_count bytes rows ReadAnswer.Accepted count said reads =
-    let same : said.rows ≡ rows = let once = reads_once bytes said.reads reads in cc in
-    said.counted ∙ ap length same
-scan_count bytes rows (ReadAnswer.Refused n place) count said reads = let once = reads_once bytes said.0 reads in never (cc)

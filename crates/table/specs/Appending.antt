@@ -8,8 +8,8 @@ use Rattle.constraint.specs.Questions.{Question, Judged}
 use Rattle.constraint.specs.Steps.{at}
 use Rattle.constraint.specs.Table.{ReadsTableUpTo, ShapeFits, StandsFor, table_of, table_refused}
 use Rattle.constraint.specs.Types.{last_type}
-use Rattle.constraint.specs.declared.Answer.TheVariants.{Taken, Refused}
-use Rattle.table.specs.declared.append.AddAnswer.{AddAnswer}
+use Rattle.constraint.specs.Answer.{Taken, Refused}
+use Rattle.table.specs.AddAnswer.{AddAnswer}
 
 -- §9.12: the questions about a body for a row after some rows: 3, then 4, 5, 18, 6 and 7 as in a table of edition 2; c is the row that it stands for
 abbrev pub body_questions : ℕ → List ℕ → Constraint → List Question

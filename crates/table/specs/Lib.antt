@@ -5,3 +5,6 @@ pub mod Rows
 pub mod Raw
 pub mod Scan
 pub mod Appending
+pub mod ReadAnswer
+pub mod WriteAnswer
+pub mod AddAnswer

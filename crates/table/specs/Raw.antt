@@ -9,11 +9,11 @@ use Rattle.constraint.specs.Types.{TypeKnown, length_of}
 use Rattle.constraint.specs.Accepted.{row_questions, rows_questions}
 use Rattle.constraint.specs.Records.{filler}
 use Rattle.constraint.specs.Table.{StandsFor, row_bytes}
-use Rattle.constraint.specs.declared.Answer.TheVariants.{Taken, Refused}
+use Rattle.constraint.specs.Answer.{Taken, Refused}
 use Rattle.constraint.specs.Constraint.{Constraint}
 use Rattle.table_row.specs.Records.{row_from, row_in}
 use Rattle.table.specs.Writing.{Writes}
-use Rattle.table.specs.declared.WriteAnswer.{WriteAnswer}
+use Rattle.table.specs.WriteAnswer.{WriteAnswer}
 
 -- how many bytes each row is given, which the longest type needs
 abbrev pub raw_size : ℕ

@@ -3,7 +3,7 @@ use Rattle.std.specs.Prelude.{ℕ, List}
 use Rattle.constraint.specs.Constraint.{Constraint}
 use Rattle.constraint.specs.Questions.{Judged}
 use Rattle.constraint.specs.Table.{RowAt, body_at, place_questions}
-use Rattle.constraint.specs.declared.Answer.{Answer}
+use Rattle.constraint.specs.Answer.{Answer}
 use Rattle.table_row.specs.Records.{row_from, row_in}
 
 -- the row that the body at a place is read as: of a fitting shape, the one that it stands for

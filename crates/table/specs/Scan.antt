@@ -1,5 +1,5 @@
 -- What judging a table's bytes promises, and what reading the row at a place does.
-use Rattle.std.specs.Prelude.{ℕ, ◌+◌, ◌≤◌, ◌<◌, ◌≡◌, List, length}
+use Rattle.std.specs.Prelude.{ℕ, ◌+◌, ◌≤◌, ◌<◌, ◌≡◌, List, length, Option, Some, None, Result, Ok, Err}
 use Rattle.std.proofs.Math.ListN.{get_elem?}
 use Rattle.std.proofs.Math.Option.{some}
 use Rattle.constraint.specs.Limits.{row_limit}
@@ -8,13 +8,13 @@ use Rattle.constraint.specs.Records.{filler}
 use Rattle.constraint.specs.Steps.{at}
 use Rattle.constraint.specs.Table.{TableRead, table_of, table_refused, length_at, WholeAt, RowAt, ReadsRows, ReadsTableUpTo}
 use Rattle.constraint.specs.Constraint.{Constraint}
+use Rattle.constraint.specs.Answers.{refused_number}
+use Rattle.constraint.specs.declared.RefusedAt.{RefusedAt}
 use Rattle.table_row.specs.Records.{row_in}
+use Rattle.table_row.specs.declared.TableRow.{TableRow}
 use Rattle.table.specs.Rows.{row_read_at}
-use Rattle.table.specs.declared.ReadAnswer.{ReadAnswer}
-use Rattle.table.specs.declared.scan.Scan.{Scan}
 use Rattle.table.specs.declared.scan.Loaded.{Loaded}
 use Rattle.table.specs.declared.scan.Placed.{Placed}
-use Rattle.table.specs.declared.scan.Numbered.{Numbered}
 
 -- some rows of an edition that are read, as many as were counted
 pub record Counted (edition : ℕ) (Reads : TableRead → Type 0) (count : ℕ) : Type 0 where
@@ -24,18 +24,18 @@ pub record Counted (edition : ℕ) (Reads : TableRead → Type 0) (count : ℕ) 
   pub room : length rows ≤ row_limit
   pub accepted : AcceptedIn edition rows
 
--- what an answer and a count say of what is read
-abbrev pub Says : ℕ → (TableRead → Type 0) → ReadAnswer → ℕ → Type 0
-Says edition Reads ReadAnswer.Accepted count = Counted edition Reads count
-Says edition Reads (ReadAnswer.Refused n place) count = Reads (table_refused n place) × (count ≡ 0)
+-- what a result says of what is read: how many rows there are, or the refusal
+abbrev pub Says : ℕ → (TableRead → Type 0) → Result ℕ RefusedAt → Type 0
+Says edition Reads (Ok count) = Counted edition Reads count
+Says edition Reads (Err refused) = Reads (table_refused (refused_number refused) refused.place)
 
 -- of the rows behind the version byte
-abbrev pub CountsRows : ℕ → List ℕ → Scan → Type 0
-CountsRows edition bytes r = Says edition (ReadsRows edition bytes 0 1) r.answer r.rows
+abbrev pub CountsRows : ℕ → List ℕ → Result ℕ RefusedAt → Type 0
+CountsRows edition bytes r = Says edition (ReadsRows edition bytes 0 1) r
 
--- §9.3: the promise of judging a table: its answer is what reading the bytes gives, and it counts the rows, and no row after a refusal
-abbrev pub Scans : ℕ → List ℕ → Scan → Type 0
-Scans newest bytes r = Says (at bytes 0) (ReadsTableUpTo newest bytes) r.answer r.rows
+-- §9.3: the promise of judging a table: its result is what reading the bytes gives, and it counts the rows
+abbrev pub Scans : ℕ → List ℕ → Result ℕ RefusedAt → Type 0
+Scans newest bytes r = Says (at bytes 0) (ReadsTableUpTo newest bytes) r
 
 -- the promise of reading at a place: where a row is whole, it is read from its body, and the next place is the one behind it; where none is,
 -- the filler and the place itself
@@ -55,13 +55,20 @@ abbrev pub RowBehind : List ℕ → ℕ → Constraint → Type 0
 RowBehind bytes i r =
     (edition : ℕ) (rows : List Constraint) → ReadsRows edition bytes 0 1 (table_of rows) → i < length rows → get_elem? rows i ≡ some r
 
--- there are `count` rows, and row i is this one if there is a row i
-pub record RowIs (count i : ℕ) (c : Constraint) (rows : List Constraint) : Type 0 where
-  pub counted : count ≡ length rows
-  pub is : i < length rows → get_elem? rows i ≡ some c
+-- row i of some rows is this one, or there is no row i
+abbrev pub RowOf : List Constraint → ℕ → Option TableRow → Type 0
+RowOf rows i (Some row) = (i < length rows) × (get_elem? rows i ≡ some (row_in row))
+RowOf rows i None = length rows ≤ i
+
+-- some rows that are read, and their row i, if they have one
+pub record Found (newest : ℕ) (bytes : List ℕ) (i : ℕ) (row : Option TableRow) : Type 0 where
+  pub rows : List Constraint
+  pub reads : ReadsTableUpTo newest bytes (table_of rows)
+  pub room : length rows ≤ row_limit
+  pub accepted : AcceptedIn (at bytes 0) rows
+  pub is : RowOf rows i row
 
 -- the promise of finding a row by its number: the table is judged, and the row is the one of that number
-pub record FindsRow (newest : ℕ) (bytes : List ℕ) (i : ℕ) (r : Numbered) : Type 0 where
-  pub scans : Scans newest bytes r.scan
-  pub found : (rows : List Constraint) → ReadsTableUpTo newest bytes (table_of rows) → RowIs r.scan.rows i (row_in r.row) rows
-  pub none : r.scan.rows ≤ i → row_in r.row ≡ filler
+abbrev pub FindsRow : ℕ → List ℕ → ℕ → Result (Option TableRow) RefusedAt → Type 0
+FindsRow newest bytes i (Ok row) = Found newest bytes i row
+FindsRow newest bytes i (Err refused) = ReadsTableUpTo newest bytes (table_refused (refused_number refused) refused.place)

@@ -2,10 +2,10 @@
 use Rattle.std.specs.Prelude.{ℕ, ◌≡◌, List, length}
 use Rattle.constraint.specs.Questions.{Judged}
 use Rattle.constraint.specs.Table.{table_bytes_in, writer_questions, written_to}
-use Rattle.constraint.specs.declared.Answer.{Answer}
-use Rattle.constraint.specs.declared.Answer.TheVariants.{Taken, Refused}
+use Rattle.constraint.specs.Answer.{Answer}
+use Rattle.constraint.specs.Answer.{Taken, Refused}
 use Rattle.constraint.specs.Constraint.{Constraint}
-use Rattle.table.specs.declared.WriteAnswer.{WriteAnswer}
+use Rattle.table.specs.WriteAnswer.{WriteAnswer}
 
 abbrev pub answer_in : WriteAnswer → Answer
 answer_in (WriteAnswer.Written n) = Taken

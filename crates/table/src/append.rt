@@ -1,62 +1,46 @@
 // Adds a row to a table in a lent buffer.
-ghost use Rattle.std.specs.Prelude.{◌≡◌, ◌≤◌, min, [], ◌∷◌, ◌++◌, length};
+ghost use Rattle.std.specs.Prelude.{◌≡◌, ◌≤◌, [], ◌∷◌, ◌++◌, length};
 ghost use Rattle.std.proofs.lemmas.List.Edits.{sets};
 ghost use Rattle.constraint.specs.Bytes.{bytes_of};
+ghost use Rattle.constraint.specs.Answers.{answer_of};
 ghost use Rattle.constraint.specs.Questions.{Judged};
 ghost use Rattle.constraint.specs.Steps.{at};
 ghost use Rattle.table_row.specs.Records.{row_from, row_in};
+ghost use Rattle.table.specs.AddAnswer.{add_answer_of};
 ghost use Rattle.table.specs.Appending.{body_questions, edition_with, AddsTo, AddsRow};
 
-use super::{ReadAnswer, scan};
-use constraint::Answer;
-use table_row::{TableRow, shape_fits, types, validate_values};
-
-// The answer to adding a row: the number of bytes of the table then, or refused with the number of the first question answered "no" and the place.
-#[derive(Drop)]
-pub enum AddAnswer {
-    Added(usize),
-    Refused { number: u8, place: usize },
-}
+use super::scan;
+use constraint::{Refusal, RefusedAt};
+use table_row::{TableRow, shape_fits, types};
 
 // The answer to questions 3 to 7 and 18 about a body for a row after some rows, in the second edition.
-fn validate_body(rows: usize, body: &[u8]) -> Answer
-    ensures { Judged (body_questions rows body.now (row_in (row_from body.now))) result }
+fn validate_body(rows: usize, body: &[u8]) -> Result<(), Refusal>
+    ensures { Judged (body_questions rows body.now (row_in (row_from body.now))) (answer_of result) }
 {
     if constraint::ROW_LIMIT <= rows {
-        return Answer::Refused(3);
+        return Err(Refusal::TooManyRows);
     }
-    if !shape_fits(2, body, body.len()) {
-        return Answer::Refused(4);
+    if !shape_fits(2, body) {
+        return Err(Refusal::RowShape);
     }
-    let row = TableRow::read(body);
-    validate_values(2, row.tag, &row.values)
+    TableRow::read(body).validate(2)
 }
 
 // The answer to a body for a row after a table, in a buffer of that size.
-fn answer(table: &[u8], body: &[u8], size: usize) -> AddAnswer
+fn answer(table: &[u8], body: &[u8], size: usize) -> Result<usize, RefusedAt>
     requires { length table.now ≤ size }
-    ensures { AddsTo table.now body.now size result }
+    ensures { AddsTo table.now body.now size (add_answer_of result) }
 {
-    let scanned = scan::validate(2, table);
-    let rows = scanned.rows;
-    let found = scanned.answer;
-    match found {
-        ReadAnswer::Refused { number, place } => {
-            return AddAnswer::Refused { number, place };
-        }
-        ReadAnswer::Accepted => {}
-    }
+    let rows = scan::validate(2, table)?;
     let place = table.len();
-    match validate_body(rows, body) {
-        Answer::Refused(number) => {
-            return AddAnswer::Refused { number, place };
-        }
-        Answer::Taken => {}
-    }
+    validate_body(rows, body).map_err(|refusal| RefusedAt { refusal, place })?;
     if size - place < 2 + body.len() {
-        return AddAnswer::Refused { number: 16, place };
+        return Err(RefusedAt {
+            refusal: Refusal::Room,
+            place,
+        });
     }
-    AddAnswer::Added(place + 2 + body.len())
+    Ok(place + 2 + body.len())
 }
 
 // The edition of a table of an edition with a row of a type more.
@@ -84,25 +68,14 @@ fn put_row(buffer: &mut [u8], place: usize, body: &[u8])
     big_endian::put(buffer, place + 2, body);
 }
 
-// The place behind the first bytes of a buffer, `size` of them or all.
-fn within(size: usize, all: usize) -> usize
-    ensures { result ≡ min size all }
-{
-    if size < all { size } else { all }
-}
-
 // §9.12
 // Adds a row, given by its body, to the table in the first bytes of a lent buffer. A refusal leaves the buffer as it was.
-pub fn add_row(buffer: &mut [u8], size: usize, body: &[u8]) -> AddAnswer
-    ensures { AddsRow buffer.old size body.now result buffer.new }
+pub fn add_row(buffer: &mut [u8], size: usize, body: &[u8]) -> Result<usize, RefusedAt>
+    ensures { AddsRow buffer.old size body.now (add_answer_of result) buffer.new }
 {
     let all = buffer.len();
-    let place = within(size, all);
-    match answer(&buffer[..place], body, all) {
-        AddAnswer::Refused { number, place } => AddAnswer::Refused { number, place },
-        AddAnswer::Added(count) => {
-            put_row(buffer, place, body);
-            AddAnswer::Added(count)
-        }
-    }
+    let place = size.min(all);
+    let count = answer(&buffer[..place], body, all)?;
+    put_row(buffer, place, body);
+    Ok(count)
 }

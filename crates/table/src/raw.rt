@@ -1,149 +1,131 @@
 // Rows given as raw bytes, 34 for each: a row's type byte and fields, and behind them bytes that do not matter.
-ghost use Rattle.std.specs.Prelude.{◌+◌, ◌*◌, ◌<◌, ◌≤◌, ◌≡◌, [], length};
+ghost use Rattle.std.specs.Prelude.{ℕ, ◌+◌, ◌*◌, ◌<◌, ◌≤◌, ◌≡◌, [], length};
 ghost use Rattle.std.proofs.lemmas.List.Edits.{sets};
 ghost use Rattle.constraint.specs.Accepted.{rows_questions};
+ghost use Rattle.constraint.specs.Answers.{answer_of};
+ghost use Rattle.constraint.specs.Limits.{row_limit};
 ghost use Rattle.constraint.specs.Questions.{Judged};
 ghost use Rattle.constraint.specs.Records.{Decides};
+ghost use Rattle.constraint.specs.Steps.{at};
 ghost use Rattle.constraint.specs.Table.{rows_bytes};
 ghost use Rattle.table_row.specs.Records.{row_from};
-ghost use Rattle.table.specs.Raw.{raw_size, body_length, raw_body, raw_rows, KnownFrom, WholeRow, KnownRows, RowTaken, FirstRefused, StoresRow};
+ghost use Rattle.table.specs.Raw.{raw_size, body_length, raw_body, raw_rows, WholeRow, KnownRows, RowTaken, FirstRefused, StoresRow};
 ghost use Rattle.table.specs.Raw.{WritesRaw};
+ghost use Rattle.table.specs.WriteAnswer.{write_answer_of};
 
-use super::WriteAnswer;
-use constraint::Answer;
+use constraint::{ROW_LIMIT, Refusal};
+use table_row::TableRow;
 use table_row::types::{length_of, type_known};
-use table_row::{TableRow, validate_values};
 
 // How many bytes each row is given, which the longest type needs.
 const RAW_SIZE: usize = 34;
 
-// Question 4 of the row that starts at a place, where the type gives the length: is the type one of the edition, n in range, and are the bytes that
-// the row is given enough for it?
-fn known_at(edition: u8, bytes: &[u8], start: usize) -> bool
-    requires { start < length bytes.now }
-    ensures { Decides (KnownFrom edition bytes.now start) result }
-{
-    let tag = big_endian::byte_at(bytes, start);
-    let next = start + 1;
-    let n = big_endian::byte_at(bytes, next);
-    if !type_known(edition, tag, n as u64) {
-        return false;
-    }
-    length_of(tag, n) <= RAW_SIZE
+// The rows of an edition that some bytes give.
+#[derive(Clone, Copy)]
+struct GivenRows<'a> {
+    edition: u8,
+    bytes: &'a [u8],
+    ghost each_fits: { (i : ℕ) → i < length bytes.now → at bytes.now i < 256 },
 }
 
-// How many of the first rows are whole and of types of the edition: at most as many as a table has entries.
-fn known_rows(edition: u8, bytes: &[u8]) -> usize
-    ensures { KnownRows edition bytes.now result }
-{
-    let mut start = 0;
-    let mut i = 0;
-    while i < constraint::ROW_LIMIT {
-        if bytes.len() - start < RAW_SIZE {
-            return i;
+impl<'a> GivenRows<'a> {
+    // Is row i whole, and its type one of the edition, its n in range, and are the bytes that it is given enough for it (question 4)?
+    fn is_known(self, i: usize) -> bool
+        requires { i < row_limit }
+        ensures { Decides (WholeRow self.entry.edition self.entry.bytes.now i) result }
+    {
+        let start = i * RAW_SIZE;
+        if self.bytes.len() < start + RAW_SIZE {
+            return false;
         }
-        if !known_at(edition, bytes, start) {
-            return i;
-        }
-        start += RAW_SIZE;
-        i += 1;
+        let tag = big_endian::byte_at(self.bytes, start);
+        let n = big_endian::byte_at(self.bytes, start + 1);
+        type_known(self.edition, tag, u64::from(n)) && length_of(tag, n) <= RAW_SIZE
     }
-    i
-}
 
-// The place behind the body of row i, which has as many bytes as its type says.
-fn body_end(edition: u8, bytes: &[u8], i: usize) -> usize
-    requires { WholeRow edition bytes.now i }
-    ensures { (result ≡ i * raw_size + body_length bytes.now i) × (result ≤ length bytes.now) }
-{
-    let start = i * RAW_SIZE;
-    let tag = big_endian::byte_at(bytes, start);
-    let next = start + 1;
-    let n = big_endian::byte_at(bytes, next);
-    start + length_of(tag, n)
-}
-
-// The row that the body of row i is read as.
-fn row_at(edition: u8, bytes: &[u8], i: usize) -> TableRow
-    requires { WholeRow edition bytes.now i }
-    ensures { result ≡ row_from (raw_body bytes.now i) }
-{
-    let start = i * RAW_SIZE;
-    let end = body_end(edition, bytes, i);
-    TableRow::read(&bytes[start..end])
-}
-
-// The answer to questions 3 to 7 and 18 of the first rows, row by row.
-fn validate_rows(edition: u8, bytes: &[u8], count: usize) -> Answer
-    requires { KnownRows edition bytes.now count }
-    ensures { Judged (rows_questions edition 0 (raw_rows bytes.now 0 count) []) result }
-{
-    let mut i = 0;
-    while i < count {
-        let row = row_at(edition, bytes, i);
-        match validate_values(edition, row.tag, &row.values) {
-            Answer::Refused(number) => {
-                return Answer::Refused(number);
+    // How many of the first rows are whole and of types of the edition: at most as many as a table has entries.
+    fn known_rows(self) -> usize
+        ensures { KnownRows self.entry.edition self.entry.bytes.now result }
+    {
+        for i in 0..ROW_LIMIT {
+            if !self.is_known(i) {
+                return i;
             }
-            Answer::Taken => {}
         }
-        i += 1;
+        ROW_LIMIT
     }
-    Answer::Taken
-}
 
-// The number of bytes of the table of the first rows.
-fn size_of(edition: u8, bytes: &[u8], count: usize) -> usize
-    requires { KnownRows edition bytes.now count }
-    ensures { result ≡ 1 + length (rows_bytes (raw_rows bytes.now 0 count)) }
-{
-    let mut size = 1;
-    let mut i = 0;
-    while i < count {
-        size += 2 + (body_end(edition, bytes, i) - i * RAW_SIZE);
-        i += 1;
+    // The body of row i, which has as many bytes as its type says.
+    fn body(self, i: usize) -> &'a [u8]
+        requires { WholeRow self.edition self.bytes.now i }
+        ensures { result.now ≡ raw_body self.entry.bytes.now i }
+    {
+        let start = i * RAW_SIZE;
+        let tag = big_endian::byte_at(self.bytes, start);
+        let n = big_endian::byte_at(self.bytes, start + 1);
+        let bytes = self.bytes;
+        &bytes[start..start + length_of(tag, n)]
     }
-    size
-}
 
-// Stores row i in a buffer from a place on, its length and its body: the place behind it.
-fn put_row(edition: u8, buffer: &mut [u8], place: usize, bytes: &[u8], i: usize) -> usize
-    requires { WholeRow edition bytes.now i × (place + 2 + body_length bytes.now i ≤ length buffer.old) }
-    ensures { StoresRow bytes.now i buffer.old place result buffer.new }
-{
-    let start = i * RAW_SIZE;
-    let end = body_end(edition, bytes, i);
-    let size = end - start;
-    big_endian::put_two(buffer, place, size);
-    big_endian::put(buffer, place + 2, &bytes[start..end]);
-    place + 2 + size
-}
-
-// Stores the first rows behind the version byte.
-fn put_rows(edition: u8, buffer: &mut [u8], bytes: &[u8], count: usize)
-    requires { KnownRows edition bytes.now count × (1 + length (rows_bytes (raw_rows bytes.now 0 count)) ≤ length buffer.old) }
-    ensures { buffer.new ≡ sets buffer.old 1 (rows_bytes (raw_rows bytes.now 0 count)) }
-{
-    let mut place = 1;
-    let mut i = 0;
-    while i < count {
-        place = put_row(edition, buffer, place, bytes, i);
-        i += 1;
+    // The row that the body of row i is read as.
+    fn row(self, i: usize) -> TableRow
+        requires { WholeRow self.edition self.bytes.now i }
+        ensures { result ≡ row_from (raw_body self.entry.bytes.now i) }
+    {
+        TableRow::read(self.body(i))
     }
-}
 
-// Whether the row of a number is taken: questions 4 to 7 and 18.
-fn row_taken(edition: u8, bytes: &[u8], i: usize) -> bool
-    requires { (i + 1) * raw_size ≤ length bytes.now }
-    ensures { Decides (RowTaken edition bytes.now i) result }
-{
-    if !known_at(edition, bytes, i * RAW_SIZE) {
-        return false;
+    // The answer to questions 3 to 7 and 18 of the first rows, row by row.
+    fn validate(self, count: usize) -> Result<(), Refusal>
+        requires { KnownRows self.edition self.bytes.now count }
+        ensures { Judged (rows_questions self.entry.edition 0 (raw_rows self.entry.bytes.now 0 count) []) (answer_of result) }
+    {
+        for i in 0..count {
+            self.row(i).validate(self.edition)?;
+        }
+        Ok(())
     }
-    let row = row_at(edition, bytes, i);
-    match validate_values(edition, row.tag, &row.values) {
-        Answer::Refused(_) => false,
-        Answer::Taken => true,
+
+    // The number of bytes of the table of the first rows.
+    fn size(self, count: usize) -> usize
+        requires { KnownRows self.edition self.bytes.now count }
+        ensures { result ≡ 1 + length (rows_bytes (raw_rows self.entry.bytes.now 0 count)) }
+    {
+        let mut size = 1;
+        for i in 0..count {
+            size += 2 + self.body(i).len();
+        }
+        size
+    }
+
+    // Stores row i in a buffer from a place on, its length and its body: the place behind it.
+    fn put_row(self, buffer: &mut [u8], place: usize, i: usize) -> usize
+        requires { WholeRow self.edition self.bytes.now i × (place + 2 + body_length self.bytes.now i ≤ length buffer.old) }
+        ensures { StoresRow self.entry.bytes.now i buffer.old place result buffer.new }
+    {
+        let body = self.body(i);
+        big_endian::put_two(buffer, place, body.len());
+        big_endian::put(buffer, place + 2, body);
+        place + 2 + body.len()
+    }
+
+    // Stores the first rows behind the version byte. It copies their bytes, so it is no twin of the writer, which stores fields.
+    fn put(self, buffer: &mut [u8], count: usize)
+        requires { KnownRows self.edition self.bytes.now count × (1 + length (rows_bytes (raw_rows self.bytes.now 0 count)) ≤ length buffer.old) }
+        ensures { buffer.new ≡ sets buffer.old 1 (rows_bytes (raw_rows self.entry.bytes.now 0 count)) }
+    {
+        let mut place = 1;
+        for i in 0..count {
+            place = self.put_row(buffer, place, i);
+        }
+    }
+
+    // Whether row i is whole and taken: questions 4 to 7 and 18.
+    fn is_taken(self, i: usize) -> bool
+        requires { i < row_limit }
+        ensures { Decides (((i + 1) * raw_size ≤ length self.entry.bytes.now) × RowTaken self.entry.edition self.entry.bytes.now i) result }
+    {
+        self.is_known(i) && self.row(i).validate(self.edition).is_ok()
     }
 }
 
@@ -151,44 +133,38 @@ fn row_taken(edition: u8, bytes: &[u8], i: usize) -> bool
 pub fn refused_row(edition: u8, bytes: &[u8]) -> usize
     ensures { FirstRefused edition bytes.now result }
 {
-    let mut start = 0;
-    let mut i = 0;
-    while i < constraint::ROW_LIMIT {
-        if bytes.len() - start < RAW_SIZE {
+    let rows = GivenRows { edition, bytes };
+    for i in 0..ROW_LIMIT {
+        if !rows.is_taken(i) {
             return i;
         }
-        if !row_taken(edition, bytes, i) {
-            return i;
-        }
-        start += RAW_SIZE;
-        i += 1;
     }
-    i
+    ROW_LIMIT
 }
 
 // Writes the table of an edition of rows given as raw bytes to a lent buffer. A refusal leaves the buffer as it was, and bytes after those written
 // stay.
-pub fn write(edition: u8, rows: &[u8], buffer: &mut [u8]) -> WriteAnswer
-    ensures { WritesRaw edition rows.now buffer.old result buffer.new }
+pub fn write(edition: u8, rows: &[u8], buffer: &mut [u8]) -> Result<usize, Refusal>
+    ensures { WritesRaw edition rows.now buffer.old (write_answer_of result) buffer.new }
 {
-    let known = known_rows(edition, rows);
-    match validate_rows(edition, rows, known) {
-        Answer::Refused(number) => {
-            return WriteAnswer::Refused(number);
-        }
-        Answer::Taken => {}
-    }
+    let given = GivenRows {
+        edition,
+        bytes: rows,
+    };
+    let known = given.known_rows();
+    given.validate(known)?;
     if RAW_SIZE <= rows.len() - known * RAW_SIZE {
-        if known < constraint::ROW_LIMIT {
-            return WriteAnswer::Refused(4);
-        }
-        return WriteAnswer::Refused(3);
+        return Err(if known < ROW_LIMIT {
+            Refusal::RowShape
+        } else {
+            Refusal::TooManyRows
+        });
     }
-    let size = size_of(edition, rows, known);
+    let size = given.size(known);
     if buffer.len() < size {
-        return WriteAnswer::Refused(16);
+        return Err(Refusal::Room);
     }
     big_endian::put_byte(buffer, 0, edition);
-    put_rows(edition, buffer, rows, known);
-    WriteAnswer::Written(size)
+    given.put(buffer, known);
+    Ok(size)
 }

@@ -3,17 +3,10 @@ ghost use Rattle.std.specs.Prelude.{◌≡◌, ◌<◌, length};
 ghost use Rattle.table_row.specs.Records.{row_in};
 ghost use Rattle.table.specs.Scan.{CountsRows, Scans, LoadedAt, PlacedAt, RowBehind, FindsRow};
 
-use super::ReadAnswer;
-use super::reader::{validate_row, version_known, whole_at};
-use constraint::Answer;
-use table_row::TableRow;
-
-// The answer to a table's bytes, and how many rows they hold; after a refusal none.
-#[derive(Drop)]
-pub struct Scan {
-    pub answer: ReadAnswer,
-    pub rows: usize,
-}
+use super::reader::{NO_VERSION, validate_row, version_known, whole_at};
+use constraint::RefusedAt;
+use table_row::fields::MOST_FIELDS;
+use table_row::{FILLER_TAG, TableRow};
 
 // The row at a place, and the place behind it.
 #[derive(Drop)]
@@ -29,49 +22,29 @@ pub struct Loaded {
     pub next: usize,
 }
 
-// The type byte of the row of an empty entry.
-const FILLER_TAG: u8 = 6;
-
-// What a table's bytes hold, and the row of one number; the row of an empty entry where the table has no such row.
-#[derive(Drop)]
-pub struct Numbered {
-    pub scan: Scan,
-    pub row: TableRow,
-}
-
 // The rows of an edition behind the version byte, judged and counted.
-fn validate_rows(edition: u8, bytes: &[u8]) -> Scan
+fn validate_rows(edition: u8, bytes: &[u8]) -> Result<usize, RefusedAt>
     requires { 0 < length bytes.now }
     ensures { CountsRows edition bytes.now result }
 {
     let mut rows = 0;
     let mut place = 1;
+    // no `for`: the place goes on by the length of each row
     while place < bytes.len() {
-        match validate_row(edition, bytes, place, rows) {
-            Answer::Refused(number) => {
-                let answer = ReadAnswer::Refused { number, place };
-                return Scan { answer, rows: 0 };
-            }
-            Answer::Taken => {}
-        }
+        validate_row(edition, bytes, place, rows).map_err(|refusal| RefusedAt { refusal, place })?;
         rows += 1;
         place = place + 2 + big_endian::two_at(bytes, place);
     }
-    let answer = ReadAnswer::Accepted;
-    Scan { answer, rows }
+    Ok(rows)
 }
 
 // §7.6, §8.1, §9.3
 // Judges the bytes of a table of an edition up to the newest: the number of its rows, or the first question answered "no" and the place.
-pub fn validate(newest: u8, bytes: &[u8]) -> Scan
+pub fn validate(newest: u8, bytes: &[u8]) -> Result<usize, RefusedAt>
     ensures { Scans newest bytes.now result }
 {
     if !version_known(newest, bytes) {
-        let answer = ReadAnswer::Refused {
-            number: 1,
-            place: 0,
-        };
-        return Scan { answer, rows: 0 };
+        return Err(NO_VERSION);
     }
     let edition = big_endian::byte_at(bytes, 0);
     validate_rows(edition, bytes)
@@ -79,12 +52,12 @@ pub fn validate(newest: u8, bytes: &[u8]) -> Scan
 
 // Stores the values of the row at a place, and returns its type and the place behind it. Where no whole row stands, it is the row of an empty entry,
 // and the place itself.
-pub fn load_at(values: &mut [u64; 18], bytes: &[u8], place: usize) -> Loaded
+pub fn load_at(values: &mut [u64; MOST_FIELDS], bytes: &[u8], place: usize) -> Loaded
     requires { length values.old ≡ 18 }
     ensures { LoadedAt bytes.now place values.new result }
 {
     if !whole_at(bytes, place) {
-        table_row::fill(values, bytes, &[0u8; 18]);
+        *values = [0; MOST_FIELDS];
         return Loaded {
             tag: FILLER_TAG,
             next: place,
@@ -100,7 +73,7 @@ pub fn load_at(values: &mut [u64; 18], bytes: &[u8], place: usize) -> Loaded
 pub fn row_at(bytes: &[u8], place: usize) -> Placed
     ensures { PlacedAt bytes.now place result }
 {
-    let mut values = [0u64; 18];
+    let mut values = [0; MOST_FIELDS];
     let found = load_at(&mut values, bytes, place);
     let row = TableRow {
         tag: found.tag,
@@ -117,25 +90,19 @@ fn row_behind(bytes: &[u8], i: usize) -> TableRow
     ensures { RowBehind bytes.now i (row_in result) }
 {
     let mut place = 1;
-    let mut k = 0;
-    while k < i {
-        let placed = row_at(bytes, place);
-        place = placed.next;
-        k += 1;
+    for _ in 0..i {
+        place = row_at(bytes, place).next;
     }
-    let found = row_at(bytes, place);
-    found.row
+    row_at(bytes, place).row
 }
 
-// Judges the bytes of a table of an edition up to the newest, and finds the row of a number in it.
-pub fn row_numbered(newest: u8, bytes: &[u8], i: u64) -> Numbered
+// Judges the bytes of a table of an edition up to the newest, and finds the row of a number in it, if it has one.
+pub fn row_numbered(newest: u8, bytes: &[u8], i: u64) -> Result<Option<TableRow>, RefusedAt>
     ensures { FindsRow newest bytes.now i result }
 {
-    let scan = validate(newest, bytes);
-    if scan.rows as u64 <= i {
-        let row = TableRow::filler();
-        return Numbered { scan, row };
+    let rows = validate(newest, bytes)?;
+    if rows as u64 <= i {
+        return Ok(None);
     }
-    let row = row_behind(bytes, i as usize);
-    Numbered { scan, row }
+    Ok(Some(row_behind(bytes, i as usize)))
 }

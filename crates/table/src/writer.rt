@@ -12,29 +12,22 @@ pub(crate) fn put_rows(buffer: &mut [u8], table: Table)
     requires { Accepted (rows_of table) × (1 + length (rows_bytes (rows_of table)) ≤ length buffer.old) }
     ensures { buffer.new ≡ sets buffer.old 1 (rows_bytes (rows_of table)) }
 {
-    let count = table.count;
     let mut place = 1;
-    let mut i = 0;
-    while i < count {
+    for i in 0..table.count {
         let row = table.rows[i];
         row.put(buffer, place);
         place += 2 + row.length();
-        i += 1;
     }
 }
 
-// The number of bytes of a table.
+// The number of bytes of a table. `raw` adds up lengths of given bytes in the same way, over rows that no record has.
 pub(crate) fn size_of(table: Table) -> usize
     requires { Accepted (rows_of table) }
     ensures { result ≡ 1 + length (rows_bytes (rows_of table)) }
 {
-    let count = table.count;
     let mut size = 1;
-    let mut i = 0;
-    while i < count {
-        let row = table.rows[i];
-        size += 2 + row.length();
-        i += 1;
+    for i in 0..table.count {
+        size += 2 + table.rows[i].length();
     }
     size
 }

@@ -4,7 +4,7 @@ use Rattle.constraint.specs.Table.{TableRead, table_of, table_refused, ReadsTabl
 use Rattle.constraint.specs.Steps.{at}
 use Rattle.constraint.specs.Constraint.{Constraint}
 use Rattle.table.specs.Writing.{Writes}
-use Rattle.table.specs.declared.WriteAnswer.{WriteAnswer}
+use Rattle.table.specs.WriteAnswer.{WriteAnswer}
 
 -- a place past 2 ^ 32 - 1 counts as that
 abbrev pub refusal_code : ℕ → ℕ → ℕ

@@ -2,28 +2,27 @@
 #![tactic(auto)]
 
 ghost use Rattle.std.specs.Prelude.{◌≡◌};
+ghost use Rattle.constraint.specs.Answers.{refusal_number};
+ghost use Rattle.table.specs.WriteAnswer.{write_answer_of};
 ghost use Rattle.table_ffi.specs.Codes.{refusal_code, write_code, AnswersRead, AnswersRewrite};
 
-use table::{ReadAnswer, WriteAnswer};
+use constraint::{Refusal, RefusedAt};
 
 // A refusal as one number.
-fn refusal_code(number: u8, place: usize) -> u64
-    ensures { result ≡ refusal_code number place }
+fn refusal_code(refusal: Refusal, place: usize) -> u64
+    ensures { result ≡ refusal_code (refusal_number refusal) place }
 {
-    let high = (number as u64) * 4294967296;
-    if place < 4294967296 {
-        return high + place as u64;
-    }
-    high + 4294967295
+    let high = u64::from(u8::from(refusal)) * 4294967296;
+    high + (place as u64).min(4294967295)
 }
 
-// The writer's answer as one number.
-fn write_code(answer: WriteAnswer) -> u64
-    ensures { result ≡ write_code answer }
+// The writer's result as one number.
+fn write_code(written: Result<usize, Refusal>) -> u64
+    ensures { result ≡ write_code (write_answer_of written) }
 {
-    match answer {
-        WriteAnswer::Written(count) => count as u64,
-        WriteAnswer::Refused(number) => refusal_code(number, 0),
+    match written {
+        Ok(count) => count as u64,
+        Err(refusal) => refusal_code(refusal, 0),
     }
 }
 
@@ -32,12 +31,9 @@ fn write_code(answer: WriteAnswer) -> u64
 pub extern "C" fn table_read(newest: u8, bytes: &[u8]) -> u64
     ensures { AnswersRead newest bytes.now result }
 {
-    let reading = table::read(newest, bytes);
-    let answer = reading.answer;
-    let rows = reading.table;
-    match answer {
-        ReadAnswer::Accepted => rows.count as u64,
-        ReadAnswer::Refused { number, place } => refusal_code(number, place),
+    match table::read(newest, bytes) {
+        Ok(rows) => rows.count as u64,
+        Err(RefusedAt { refusal, place }) => refusal_code(refusal, place),
     }
 }
 
@@ -47,11 +43,8 @@ pub extern "C" fn table_rewrite(newest: u8, bytes: &[u8], buffer: &mut [u8]) -> 
     ensures { AnswersRewrite newest bytes.now buffer.old result buffer.new }
 {
     let edition = big_endian::byte_at(bytes, 0);
-    let reading = table::read(newest, bytes);
-    let answer = reading.answer;
-    let rows = reading.table;
-    match answer {
-        ReadAnswer::Accepted => write_code(table::write(edition, rows, buffer)),
-        ReadAnswer::Refused { number, place } => refusal_code(number, place),
+    match table::read(newest, bytes) {
+        Ok(rows) => write_code(table::write(edition, rows, buffer)),
+        Err(RefusedAt { refusal, place }) => refusal_code(refusal, place),
     }
 }

@@ -5,7 +5,7 @@ use Rattle.constraint.proofs.Judged.{judged_all}
 use Rattle.constraint.specs.Accepted.{InRange, KindsFit, KindsSuit, LowerFirst}
 use Rattle.constraint.specs.Questions.{Judged}
 use Rattle.constraint.specs.Steps.{at}
-use Rattle.constraint.specs.declared.Answer.TheVariants.{Taken}
+use Rattle.constraint.specs.Answer.{Taken}
 use Rattle.constraint.specs.Constraint.{Constraint, Delay, StrongDelay, Repeat, Sporadic, Burst, Order, StrongSynchronization, ExecutionTime}
 use Rattle.constraint.specs.Constraint.{Reaction, Repetition, Synchronization, Age, OutputSynchronization, InputSynchronization, Pattern}
 use Rattle.constraint.specs.Constraint.{Arbitrary, Comparison}

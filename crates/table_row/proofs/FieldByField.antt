@@ -1,16 +1,19 @@
 -- A row's fields are asked one by one: what is asked of those from a place on is asked of the one at that place and of those behind it.
 use Rattle.constraint.proofs.Library.{Bool, List, [], ◌++◌, ◌+◌, ◌<◌, ◌∙◌, ◌∷◌, ◌≡◌, ◌≢◌, ◌≤◌, add-one, ap, arith, cond, drop-cons}
-use Rattle.constraint.proofs.Library.{drop_of_length-le, eqb, eqb-true, false, le-ltb, length, lt-ltb, ltb, ltb-false, ltb-true, ne_eqb, refl}
-use Rattle.constraint.proofs.Library.{subst, subst⁻¹, sym, true, ℕ, ⊎_elim}
+use Rattle.constraint.proofs.Library.{drop_of_length-le, eqb, eqb-true, false, length, ltb, ltb-false, ltb-true, ne_eqb, refl}
+use Rattle.constraint.proofs.Library.{subst, subst⁻¹, suc, sym, true, zero, ℕ, ⊎_elim}
+use Rattle.std.specs.Bool.{MatchBool}
+use Rattle.std.specs.List.{AllWithin, HoldsAt, zip}
+use Rattle.std.proofs.lemmas.Slice.Zip.{get_or-zip, length-zip}
 use Rattle.constraint.proofs.Judged.{same_test}
 use Rattle.constraint.proofs.Lists.{both, or-true, split}
-use Rattle.constraint.specs.Limits.{last_time, span_limit, repetition_span_limit}
+use Rattle.constraint.specs.Limits.{span_limit, repetition_span_limit}
 use Rattle.constraint.specs.Records.{Decides}
 use Rattle.constraint.specs.Steps.{at}
-use Rattle.constraint.specs.Types.{kind, coloured, count, span, plain, lower, upper, offset, left, right, TimeRole, ByteRole, Field, byte, time}
-use Rattle.constraint.specs.Accepted.{kinds_in, KindClassFits, FieldInRange, EachField, bound_after, Ordered}
+use Rattle.constraint.specs.Types.{kind, coloured, count, span, ByteRole, Field, byte, time}
+use Rattle.constraint.specs.Accepted.{kinds_in, EachField, bound_after, Ordered}
 use Rattle.table_row.specs.Records.{bound_behind}
-use Rattle.table_row.specs.Records.{byte_role, time_role, operand_role, plain_role, is_kind, field_of, field_at, fields_from, fields_with}
+use Rattle.table_row.specs.Records.{byte_role, time_role, is_kind, field_of, field_at, fields_from, fields_with}
 
 -- Places
 
@@ -41,21 +44,49 @@ pub each_parts : (Asked : Field → Type 0) (a b : List Field) → EachField Ask
 each_parts Asked [] b h = (tt, h)
 each_parts Asked (f ∷ a) b h = let parts = each_parts Asked a b h.1 in ((h.0, parts.0), parts.1)
 
-module _ (Asked : Field → Type 0) (roles values : List ℕ) (i : ℕ) (h : i < length roles) where
-  -- where the field at a place is as asked, the answer is that of those behind it
-  pub field_here : EachField Asked (field_at (at roles i) (at values i)) → (b : Bool) → Decides (EachField Asked (fields_from roles values (i + 1))) b
-      → Decides (EachField Asked (fields_from roles values i)) b
-  field_here here =
-      let one = field_at (at roles i) (at values i) in
-      let later = fields_from roles values (i + 1) in
-      same_test (λ rest. subst⁻¹ (EachField Asked) (fields_next roles values i h) (each_join Asked one later here rest))
-      (λ all. (each_parts Asked one later (subst (EachField Asked) (fields_next roles values i h) all)).1)
-
-  pub field_parts : EachField Asked (fields_from roles values i)
+module _ (Asked : Field → Type 0) (roles values : List ℕ) where
+  pub field_parts : (i : ℕ) → i < length roles → EachField Asked (fields_from roles values i)
       → EachField Asked (field_at (at roles i) (at values i)) × EachField Asked (fields_from roles values (i + 1))
-  field_parts all =
+  field_parts i h all =
       each_parts Asked (field_at (at roles i) (at values i)) (fields_from roles values (i + 1)) (subst (EachField Asked)
       (fields_next roles values i h) all)
+
+  -- each field is asked where the one at each place is
+  places_asked : (more i : ℕ) → length roles ≤ i + more
+      → ((k : ℕ) → i ≤ k → k < length roles → EachField Asked (field_at (at roles k) (at values k))) → EachField Asked (fields_from roles values i)
+  places_asked zero i past each = rw (fields_end roles values i (omega (arith, past))) tt
+  places_asked (suc more) i past each =
+      split (ltb i (length roles)) (λ b. EachField Asked (fields_from roles values i))
+      (λ e. let here = ltb-true i (length roles) e in
+      subst⁻¹ (EachField Asked) (fields_next roles values i here)
+      (each_join Asked (field_at (at roles i) (at values i)) (fields_from roles values (i + 1)) (each i (omega arith) here)
+      (places_asked more (i + 1) (omega (arith, past)) (λ k from below. each k (omega (arith, from)) below))))
+      (λ e. rw (fields_end roles values i (ltb-false i (length roles) e)) tt)
+
+  place_asked : (before i : ℕ) → i + before < length roles → EachField Asked (fields_from roles values i)
+      → EachField Asked (field_at (at roles (i + before)) (at values (i + before)))
+  place_asked zero i there all = let none : i + 0 ≡ i = omega arith in rw none (field_parts i (omega (arith, there)) all).0
+  place_asked (suc before) i there all =
+      let later : i + suc before ≡ i + 1 + before = omega arith in
+      rw later (place_asked before (i + 1) (omega (arith, there)) (field_parts i (omega (arith, there)) all).1)
+
+  abbrev pub Fits : ℕ × ℕ → Type 0
+  Fits p = EachField Asked (field_at p.0 p.1)
+
+  -- a test of each pair of a role and a value tests all fields
+  pub pairs_asked : length values ≡ length roles → (b : Bool)
+      → MatchBool b (AllWithin Fits (zip roles values) 0 (length (zip roles values)))
+      ((k : ℕ) × (k < length (zip roles values)) × HoldsAt (λ p. ¬ Fits p) (zip roles values) k)
+      → Decides (EachField Asked (fields_from roles values 0)) b
+  pairs_asked same true each =
+      places_asked (length roles) 0 (omega arith) (λ k from below.
+      subst Fits (get_or-zip roles values k (0, 0) below (omega (arith, same)))
+      (each k (0, 0) (omega arith) (omega (arith, same, length-zip roles values))))
+  pairs_asked same false missed = λ all.
+      let there : missed.0 < length roles = omega (arith, missed.1, same, length-zip roles values) in
+      let none : 0 + missed.0 ≡ missed.0 = omega arith in
+      subst (λ p. ¬ Fits p) (get_or-zip roles values missed.0 (0, 0) there (omega (arith, same))) (missed.2 (0, 0))
+      (subst (λ k. Fits (at roles k, at values k)) none (place_asked missed.0 0 (omega (arith, there)) all))
 
 -- Kinds
 
@@ -90,39 +121,6 @@ module _ (roles values : List ℕ) (i : ℕ) (h : i < length roles) where
       ∙ kinds_append (field_at (at roles i) (at values i)) (fields_from roles values (i + 1))
       ∙ rw (other_kinds (at roles i) (at values i) (λ e. both (sym (ap is_kind e) ∙ is)) (λ e. both (sym (ap is_kind e) ∙ is)))
 
--- Plain and coloured kinds
-
-pub other_sorts : (r x : ℕ) → r ≢ 107 → r ≢ 99 → EachField KindClassFits (field_at r x)
-other_sorts r x no_kind uncoloured =
-    by_role (EachField KindClassFits) r x (λ e. tt) (λ e. (tt, tt))
-    (λ e. other_byte (λ role. EachField KindClassFits (byte role x ∷ [])) r no_kind uncoloured (tt, tt) (λ limit. (tt, tt)))
-
--- Ranges
-
--- a time that is no bound, or one of another role
-other-time {ℓ} : (P : TimeRole → Type ℓ) (r : ℕ) → r ≢ 76 → r ≢ 85 → r ≢ 78 → r ≢ 79 → r ≢ 88 → r ≢ 89 → P (plain (plain_role r)) → P (time_role r)
-other-time P r a b c d e f p = rw (ne_eqb r 76 a, ne_eqb r 85 b, ne_eqb r 78 c, ne_eqb r 79 d, ne_eqb r 88 e, ne_eqb r 89 f) p
-
--- by the role of a time that is no lower, upper or offset
-by-operand {ℓ} : (P : TimeRole → Type ℓ) (r : ℕ) → P left → P right → P (plain (plain_role r)) → P (operand_role r)
-by-operand P r one two p =
-    split (eqb r 88) (λ b. P (cond b left (cond (eqb r 89) right (plain (plain_role r))))) (λ e. one)
-    (λ e. split (eqb r 89) (λ b. P (cond b right (plain (plain_role r)))) (λ e. two) (λ e. p))
-
-pub time_range : (r x : ℕ) → 65 ≤ r → r ≢ 78 → r < 97 → EachField FieldInRange (field_at r x) ≡ ((x ≤ last_time) × Unit {0})
-time_range r x there no-mark long =
-    rw (le-ltb r 65 there, lt-ltb r 97 long, ne_eqb r 78 no-mark)
-    (split (eqb r 76) (λ l. Same (cond l lower (cond (eqb r 85) upper (cond (eqb r 79) offset (operand_role r))))) (λ e. refl)
-    (λ e. split (eqb r 85) (λ u. Same (cond u upper (cond (eqb r 79) offset (operand_role r)))) (λ e. refl)
-    (λ e. split (eqb r 79) (λ o. Same (cond o offset (operand_role r))) (λ e. refl) (λ e. by-operand Same r refl refl refl))))
-  where
-    Same : TimeRole → Type 1
-    Same role = EachField FieldInRange (time role x ∷ []) ≡ ((x ≤ last_time) × Unit {0})
-
-pub span_range : (r x : ℕ) → 97 ≤ r → r ≢ 107 → r ≢ 99 → r ≢ 110
-    → EachField FieldInRange (field_at r x) ≡ (((1 ≤ x) × (x ≤ cond (eqb r 115) span_limit repetition_span_limit)) × Unit {0})
-span_range r x short a b c = rw (le-ltb r 65 (omega arith), le-ltb r 97 short, ne_eqb r 107 a, ne_eqb r 99 b, ne_eqb r 110 c)
-
 -- Bounds
 
 -- what is asked of two parts
@@ -133,21 +131,6 @@ ordered_join n low (f ∷ a) b h k = (h.0, ordered_join n (bound_after low f) a 
 pub ordered_parts : (n low : ℕ) (a b : List Field) → Ordered n low (a ++ b) → Ordered n low a × Ordered n (bound_behind low a) b
 ordered_parts n low [] b h = (tt, h)
 ordered_parts n low (f ∷ a) b h = let parts = ordered_parts n (bound_after low f) a b h.1 in ((h.0, parts.0), parts.1)
-
--- a field of another role has no bound
-module _ (r x low : ℕ) (b : r ≢ 85) (c : r ≢ 78) (d : r ≢ 79) (f : r ≢ 89) where
-  pub other_bound : (n : ℕ) → Ordered n low (field_at r x)
-  other_bound n =
-      by_role (Ordered n low) r x (λ e. tt)
-      (λ e. rw (ne_eqb r 85 b, ne_eqb r 78 c, ne_eqb r 79 d, ne_eqb r 89 f)
-      (split (eqb r 76) (λ l. Ordered n low (time (cond l lower (cond (eqb r 88) left (plain (plain_role r)))) x ∷ [])) (λ e. (tt, tt))
-      (λ e. split (eqb r 88) (λ l. Ordered n low (time (cond l left (plain (plain_role r))) x ∷ [])) (λ e. (tt, tt)) (λ e. (tt, tt)))))
-      (λ e. (tt, tt))
-
-  pub same_bound : r ≢ 76 → r ≢ 88 → low ≡ bound_behind low (field_at r x)
-  same_bound a g =
-      by_role (λ fs. low ≡ bound_behind low fs) r x (λ e. refl)
-      (λ e. other-time (λ role. low ≡ bound_behind low (time role x ∷ [])) r a b c d g f refl) (λ e. refl)
 
 module _ (n low : ℕ) (roles values : List ℕ) (i : ℕ) (h : i < length roles) where
   abbrev one : List Field

@@ -8,8 +8,8 @@ use Rattle.constraint.specs.Questions.{Judged, Question}
 use Rattle.constraint.specs.Accepted.{InRange, KindsFit, KindsSuit, LowerFirst}
 use Rattle.constraint.specs.Steps.{at}
 use Rattle.constraint.specs.Bytes.{bytes_of}
-use Rattle.constraint.specs.declared.Answer.{Answer}
-use Rattle.constraint.specs.declared.Answer.TheVariants.{Refused}
+use Rattle.constraint.specs.Answer.{Answer}
+use Rattle.constraint.specs.Answer.{Refused}
 use Rattle.big_endian.proofs.Numbers.{bytes_length}
 use Rattle.big_endian.proofs.Stores.{stores_append}
 use Rattle.constraint.specs.Constraint.{Constraint}

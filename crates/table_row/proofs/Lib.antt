@@ -8,3 +8,4 @@ pub mod Stores
 pub mod Judging
 pub mod Tables
 pub mod Accepting
+pub mod Exits

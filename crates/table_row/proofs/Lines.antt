@@ -1,17 +1,14 @@
 -- The lines of the types: the roles that an n uses, and the lists that are looked up.
-use Rattle.constraint.proofs.Library.{List, List·getD-eq-default, [], ◌*◌, ◌+◌, ◌-◌, ◌<◌, ◌∷◌, ◌≡◌, ◌≤◌, add-one, arith, cond, drop}
-use Rattle.constraint.proofs.Library.{drop-cons}
-use Rattle.constraint.proofs.Library.{le-leb, leb, length, mul-le-mul_left, refl, set, sets, suc, sym, zero, ℕ}
-use Rattle.constraint.proofs.Library.{get_or, ltb, ltb-false, replicate}
-use Rattle.constraint.proofs.Lengths.{at_most}
+use Rattle.constraint.proofs.Library.{List, List·getD-eq-default, [], ◌*◌, ◌+◌, ◌<◌, ◌∷◌, ◌≡◌, ◌≤◌, arith, cond}
+use Rattle.constraint.proofs.Library.{length, refl, suc, sym, zero, ℕ}
+use Rattle.constraint.proofs.Library.{◌∙◌, ap, get_or, ltb, ltb-false, map, replicate}
+use Rattle.std.proofs.lemmas.List.Sums.{sum_by-cons}
+use Rattle.std.specs.Prelude.{sum}
+use Rattle.constraint.proofs.Lengths.{at_most, entries_small, lengths_small}
 use Rattle.constraint.proofs.Lists.{split}
 use Rattle.constraint.specs.Steps.{at}
-use Rattle.constraint.specs.Types.{TypeKnown, lengths, entry_sizes, least_counts, most_counts, length_of}
-use Rattle.table_row.specs.Records.{uses, role_at, roles_from, total, width}
-
-pub uses_leb : (m n : ℕ) → uses m n ≡ leb m n
-uses_leb zero n = sym (le-leb 0 n (omega arith))
-uses_leb (suc m) n = refl
+use Rattle.constraint.specs.Types.{TypeKnown, entry_sizes, most_counts, length_of}
+use Rattle.table_row.specs.Records.{total, width}
 
 -- a number that is no type's has the line of none
 pub other_line : (lines : List (List ℕ)) → length lines ≡ 18 → get_or lines 0 [] ≡ replicate 18 0 → (t : ℕ) → (0 < t → 18 ≤ t)
@@ -21,36 +18,18 @@ other_line (l ∷ lines) long first zero other = sym first
 other_line (l ∷ lines) long first (suc t) other =
     sym (List·getD-eq-default (l ∷ lines) (replicate 18 0) {n = suc t} (omega (arith, other (omega arith))))
 
-pub roles_more : (roles : List ℕ) (t n i left : ℕ) → i + left ≡ 18 → 0 < left
-    → sets roles i (roles_from left t n i) ≡ sets (set roles i (role_at t n i)) (i + 1) (roles_from (left - 1) t n (i + 1))
-roles_more roles t n i zero sum some = absurd (omega arith)
-roles_more roles t n i (suc left) sum some = let one_less : suc left - 1 ≡ left = omega arith in rw (one_less, add-one i)
-
-pub length_unknown : (t n : ℕ) → 18 ≤ t → length_of t n ≡ 0
-length_unknown t n past = rw (List·getD-eq-default lengths 0 {n = t} past, List·getD-eq-default entry_sizes 0 {n = t} past) (omega arith)
-
-pub entries_small : (t n : ℕ) → n * at entry_sizes t ≤ n * 16
-entries_small t n = mul-le-mul_left n (at_most 16 entry_sizes (omega arith) t)
-
-pub entry_small : (t : ℕ) → at entry_sizes t ≤ 16
-entry_small t = at_most 16 entry_sizes (omega arith) t
-
-pub least_small : (t : ℕ) → at least_counts t ≤ 8
-least_small t = at_most 8 least_counts (omega arith) t
-
 pub most_small : (t : ℕ) → at most_counts t ≤ 8
 most_small t = at_most 8 most_counts (omega arith) t
-
-pub lengths_small : (t : ℕ) → at lengths t ≤ 34
-lengths_small t = at_most 34 lengths (omega arith) t
 
 pub width_small : (r : ℕ) → width r ≤ 8
 width_small r =
     split (ltb r 65) (λ none. cond none 0 (cond (ltb r 97) 8 1) ≤ 8) (λ e. omega arith)
     (λ e. split (ltb r 97) (λ long. cond long 8 1 ≤ 8) (λ e. omega arith) (λ e. omega arith))
 
-pub total_next : (roles : List ℕ) (i : ℕ) → i < length roles → total (drop i roles) ≡ width (at roles i) + total (drop (i + 1) roles)
-total_next roles i h = rw (add-one i, drop-cons roles i 0 h)
+-- their sum
+pub total_sum : (roles : List ℕ) → sum (map width roles) ≡ total roles
+total_sum [] = refl
+total_sum (r ∷ roles) = sum_by-cons (λ x. x) (width r) (map width roles) ∙ ap (λ (n : ℕ). width r + n) (total_sum roles)
 
 pub total_small : (roles : List ℕ) → total roles ≤ 8 * length roles
 total_small [] = omega arith

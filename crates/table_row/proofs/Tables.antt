@@ -3,6 +3,11 @@ use Rattle.constraint.proofs.Library.{List, List·getD-append, List·getD-map, [
 use Rattle.constraint.proofs.Library.{drop-cons, get_or, get_or-take, get_elem?, length, length-append, length-drop, length-map, length-replicate}
 use Rattle.constraint.proofs.Library.{length-set}
 use Rattle.constraint.proofs.Library.{length-take, map, refl, replicate, set, some, suc, sym, take, take-append-le, take-suc-set, zero, ℕ}
+use Rattle.std.specs.Prelude.{Option, Some, ◌≤◌}
+use Rattle.std.specs.List.{HoldsAt}
+use Rattle.std.specs.Option.{MatchOption}
+use Rattle.std.proofs.Common.{Bor}
+use Rattle.std.proofs.lemmas.Option.{MatchOption-at_some}
 use Rattle.constraint.proofs.Accepted.{row_accepted}
 use Rattle.constraint.proofs.Judged.{judged_all}
 use Rattle.constraint.specs.Accepted.{AcceptedIn}
@@ -52,6 +57,15 @@ rows_more rows n x there =
     ∙ ap (take (n + 1)) (map_set rows n x)
     ∙ rw (add-one n) (take-suc-set (map row_in rows) n (row_in x) (omega arith))
     ∙ ap (λ (l : List Constraint). l ++ (row_in x ∷ [])) (sym (take-append-le n (map row_in rows) (replicate n no_constraint) (omega arith)))
+
+-- the entry that is found at a place
+pub rows_found : (table : Table) (i : ℕ) (found : Option (Bor TableRow)) (entry : Bor TableRow) → found ≡ Some entry
+    → MatchOption found (length table.rows ≤ i) (λ x. (i < length table.rows) × HoldsAt (λ y. x.now ≡ y) table.rows i) → i < table.count
+    → drop i (rows_of table) ≡ row_in entry.now ∷ drop (i + 1) (rows_of table)
+rows_found table i found entry e looked counted =
+    let there = MatchOption-at_some _ _ entry e looked in
+    rows_from table i entry.now counted there.0
+    ∙ ap (λ (row : TableRow). row_in row ∷ drop (i + 1) (rows_of table)) (sym (there.1 entry.now))
 
 -- the rows of an accepted table are of known types
 first_of : (l : List Constraint) (i : ℕ) (c : Constraint) (rest : List Constraint) → drop i l ≡ c ∷ rest → get_elem? l i ≡ some c

@@ -1,19 +1,20 @@
 // The roles of fields, and the questions that are put to a row's fields one after the other.
 ghost use Rattle.std.specs.Prelude.{◌≡◌, ◌≤◌, length};
+ghost use Rattle.std.proofs.lemmas.List.Edits.{sets};
 ghost use Rattle.constraint.specs.Records.{Decides, Absent};
 ghost use Rattle.constraint.specs.Accepted.{KindsFit};
-ghost use Rattle.table_row.specs.Records.{width, is_kind, field_at, fields_from};
+ghost use Rattle.constraint.specs.Table.{fields_bytes};
+ghost use Rattle.table_row.specs.Records.{width, is_kind, field_at, fields_as, fields_from, total};
 ghost use Rattle.constraint.specs.Accepted.{kinds_in, KindClassFits, FieldInRange, EachField, Ordered};
 ghost use Rattle.constraint.specs.Meets.{Compares};
 ghost use Rattle.table_row.specs.Records.{bound_behind};
 
-use constraint::{LAST_TIME, NO_LIMIT};
+use constraint::{
+    FIRST_COLOURED, LAST_KIND, LAST_TIME, NO_LIMIT, REPETITION_SPAN_LIMIT, SPAN_LIMIT,
+};
 
-// The largest kind, and the first coloured one.
-const LAST_KIND: u64 = 63;
-
-const FIRST_COLOURED: u64 = 48;
-// The roles are letters: capitals for times, small ones for fields of one byte. What is no letter is no field.
+// The roles are letters: capitals for times, small ones for fields of one byte. What is no letter is no field. They stay bytes, and no enum, as
+// the definitions (`role_lines`, `width`, `field_of`) say them in letters.
 pub const FIRST_TIME: u8 = b'A';
 
 pub const JITTER: u8 = b'J';
@@ -47,10 +48,6 @@ pub const COUNT: u8 = b'n';
 pub const SPAN: u8 = b's';
 
 pub const SHORT_SPAN: u8 = b't';
-// The limits of spans and maxima.
-const SPAN_LIMIT: u64 = 64;
-
-const SHORT_SPAN_LIMIT: u64 = 8;
 // How many places for fields a row has.
 pub const MOST_FIELDS: usize = 18;
 
@@ -58,173 +55,66 @@ pub const MOST_FIELDS: usize = 18;
 pub fn width_of(role: u8) -> usize
     ensures { result ≡ width role }
 {
-    if role < FIRST_TIME {
-        return 0;
+    match role {
+        ..FIRST_TIME => 0,
+        ..FIRST_BYTE => 8,
+        _ => 1,
     }
-    if role < FIRST_BYTE {
-        return 8;
-    }
-    1
 }
 
 // Is the role that of a kind, plain or coloured?
 pub fn is_kind(role: u8) -> bool
     ensures { result ≡ is_kind role }
 {
-    role == KIND || role == COLOURED
+    matches!(role, KIND | COLOURED)
 }
 
 // Is a kind plain where plain ones are asked for, and coloured where coloured ones are?
 fn kind_class_valid(role: u8, value: u64) -> bool
     ensures { Decides (EachField KindClassFits (field_at role value)) result }
 {
-    if role == KIND {
-        return value < FIRST_COLOURED;
+    match role {
+        KIND => value < u64::from(FIRST_COLOURED),
+        COLOURED => u64::from(FIRST_COLOURED) <= value,
+        _ => true,
     }
-    if role == COLOURED {
-        return FIRST_COLOURED <= value;
-    }
-    true
 }
 
 // Is a field in range? A kind and an n are asked for elsewhere.
 fn range_fits(role: u8, value: u64) -> bool
     ensures { Decides (EachField FieldInRange (field_at role value)) result }
 {
-    if role < FIRST_TIME {
-        return true;
+    match role {
+        ..FIRST_TIME | KIND | COLOURED | COUNT => true,
+        UPPER_OR_NONE => value <= LAST_TIME || value == NO_LIMIT,
+        ..FIRST_BYTE => value <= LAST_TIME,
+        SPAN => (1..=u64::from(SPAN_LIMIT)).contains(&value),
+        _ => (1..=u64::from(REPETITION_SPAN_LIMIT)).contains(&value),
     }
-    if role == UPPER_OR_NONE {
-        if value == NO_LIMIT {
-            return true;
-        }
-        return value <= LAST_TIME;
-    }
-    if role < FIRST_BYTE {
-        return value <= LAST_TIME;
-    }
-    if role == KIND {
-        return true;
-    }
-    if role == COLOURED {
-        return true;
-    }
-    if role == COUNT {
-        return true;
-    }
-    if value == 0 {
-        return false;
-    }
-    if role == SPAN {
-        return value <= SPAN_LIMIT;
-    }
-    value <= SHORT_SPAN_LIMIT
-}
-
-// Is a kind none of the kinds from a place on?
-fn is_new(kind: u64, roles: &[u8; 18], values: &[u64; 18], from: usize) -> bool
-    requires { (length roles.now ≡ 18) × (from ≤ 18) }
-    ensures { Decides (Absent kind (kinds_in (fields_from roles.now values.now from))) result }
-{
-    let mut i = from;
-    while i < MOST_FIELDS {
-        if is_kind(roles[i]) {
-            if values[i] == kind {
-                return false;
-            }
-        }
-        i += 1;
-    }
-    true
-}
-
-// Question 5: are the kinds at most 63 and all different?
-pub(crate) fn kinds_fit(roles: &[u8; 18], values: &[u64; 18]) -> bool
-    requires { length roles.now ≡ 18 }
-    ensures { Decides (KindsFit (kinds_in (fields_from roles.now values.now 0))) result }
-{
-    let mut i = 0;
-    while i < MOST_FIELDS {
-        if is_kind(roles[i]) {
-            let kind = values[i];
-            if LAST_KIND < kind {
-                return false;
-            }
-            if !is_new(kind, roles, values, i + 1) {
-                return false;
-            }
-        }
-        i += 1;
-    }
-    true
-}
-
-// Question 18: are the kinds plain or coloured as the type takes them?
-pub(crate) fn kind_classes_valid(roles: &[u8; 18], values: &[u64; 18]) -> bool
-    requires { length roles.now ≡ 18 }
-    ensures { Decides (EachField KindClassFits (fields_from roles.now values.now 0)) result }
-{
-    let mut i = 0;
-    while i < MOST_FIELDS {
-        if !kind_class_valid(roles[i], values[i]) {
-            return false;
-        }
-        i += 1;
-    }
-    true
-}
-
-// Question 6: are times, spans and maxima in range?
-pub(crate) fn ranges_fit(roles: &[u8; 18], values: &[u64; 18]) -> bool
-    requires { length roles.now ≡ 18 }
-    ensures { Decides (EachField FieldInRange (fields_from roles.now values.now 0)) result }
-{
-    let mut i = 0;
-    while i < MOST_FIELDS {
-        if !range_fits(roles[i], values[i]) {
-            return false;
-        }
-        i += 1;
-    }
-    true
 }
 
 // Does the left number compare with the right one as an operator from 1 to 5 says: ≤, <, ≥, >, =?
 fn compares(operator: u64, left: u64, right: u64) -> bool
     ensures { Decides (Compares operator left right) result }
 {
-    if operator == 1 {
-        return left <= right;
+    match operator {
+        1 => left <= right,
+        2 => left < right,
+        3 => right <= left,
+        4 => right < left,
+        _ => left == right,
     }
-    if operator == 2 {
-        return left < right;
-    }
-    if operator == 3 {
-        return right <= left;
-    }
-    if operator == 4 {
-        return right < left;
-    }
-    left == right
 }
 
 // Does a field fit n and the bound before it, where it is asked to?
 fn bound_fits(n: u64, role: u8, value: u64, low: u64) -> bool
     ensures { Decides (Ordered n low (field_at role value)) result }
 {
-    if role == UPPER {
-        return low <= value;
+    match role {
+        UPPER | UPPER_OR_NONE | OFFSET => low <= value,
+        RIGHT => compares(n, low, value),
+        _ => true,
     }
-    if role == UPPER_OR_NONE {
-        return low <= value;
-    }
-    if role == OFFSET {
-        return low <= value;
-    }
-    if role == RIGHT {
-        return compares(n, low, value);
-    }
-    true
 }
 
 // The bound behind a field that is in range.
@@ -232,40 +122,109 @@ fn bound_after(role: u8, value: u64, low: u64) -> u64
     requires { EachField FieldInRange (field_at role value) }
     ensures { result ≡ bound_behind low (field_at role value) }
 {
-    if role == LOWER {
-        return value;
+    match role {
+        LOWER | LEFT => value,
+        UPPER | UPPER_OR_NONE | RIGHT => 0,
+        OFFSET => value + 1,
+        _ => low,
     }
-    if role == UPPER {
-        return 0;
-    }
-    if role == UPPER_OR_NONE {
-        return 0;
-    }
-    if role == OFFSET {
-        return value + 1;
-    }
-    if role == LEFT {
-        return value;
-    }
-    if role == RIGHT {
-        return 0;
-    }
-    low
 }
 
-// Question 7, of fields in range: is lower ≤ upper where both stand, do offsets rise, does the left compare with the right as n says?
-pub(crate) fn lower_first(n: u64, roles: &[u8; 18], values: &[u64; 18]) -> bool
-    requires { (length roles.now ≡ 18) × EachField FieldInRange (fields_from roles.now values.now 0) }
-    ensures { Decides (Ordered n 0 (fields_from roles.now values.now 0)) result }
-{
-    let mut low = 0;
-    let mut i = 0;
-    while i < MOST_FIELDS {
-        if !bound_fits(n, roles[i], values[i], low) {
-            return false;
+// The fields of a row: the roles of its places, and their values.
+#[derive(Clone, Copy)]
+pub(crate) struct Fields<'a> {
+    pub(crate) roles: &'a [u8; MOST_FIELDS],
+    pub(crate) values: &'a [u64; MOST_FIELDS],
+    ghost roles_long: { length roles.now ≡ 18 },
+    ghost values_long: { length values.now ≡ 18 },
+}
+
+impl Fields<'_> {
+    // Is a kind none of the kinds from a place on?
+    fn is_new(self, kind: u64, from: usize) -> bool
+        requires { from ≤ 18 }
+        ensures { Decides (Absent kind (kinds_in (fields_from self.entry.roles.now self.entry.values.now from))) result }
+    {
+        let (roles, values) = (self.roles, self.values);
+        for i in from..MOST_FIELDS {
+            if is_kind(roles[i]) && values[i] == kind {
+                return false;
+            }
         }
-        low = bound_after(roles[i], values[i], low);
-        i += 1;
+        true
     }
-    true
+
+    // Question 5: are the kinds at most 63 and all different?
+    pub(crate) fn kinds_fit(self) -> bool
+        ensures { Decides (KindsFit (kinds_in (fields_from self.entry.roles.now self.entry.values.now 0))) result }
+    {
+        let (roles, values) = (self.roles, self.values);
+        for i in 0..MOST_FIELDS {
+            let kind = values[i];
+            if is_kind(roles[i]) && (u64::from(LAST_KIND) < kind || !self.is_new(kind, i + 1)) {
+                return false;
+            }
+        }
+        true
+    }
+
+    // Question 18: are the kinds plain or coloured as the type takes them?
+    pub(crate) fn kind_classes_valid(self) -> bool
+        ensures { Decides (EachField KindClassFits (fields_from self.entry.roles.now self.entry.values.now 0)) result }
+    {
+        let (roles, values) = (self.roles, self.values);
+        roles
+            .iter()
+            .zip(values)
+            .all(|(role, value)| kind_class_valid(*role, *value))
+    }
+
+    // Question 6: are times, spans and maxima in range?
+    pub(crate) fn ranges_fit(self) -> bool
+        ensures { Decides (EachField FieldInRange (fields_from self.entry.roles.now self.entry.values.now 0)) result }
+    {
+        let (roles, values) = (self.roles, self.values);
+        roles
+            .iter()
+            .zip(values)
+            .all(|(role, value)| range_fits(*role, *value))
+    }
+
+    // Question 7, of fields in range: is lower ≤ upper where both stand, do offsets rise, does the left compare with the right as n says?
+    pub(crate) fn lower_first(self, n: u64) -> bool
+        requires { EachField FieldInRange (fields_from self.roles.now self.values.now 0) }
+        ensures { Decides (Ordered n 0 (fields_from self.entry.roles.now self.entry.values.now 0)) result }
+    {
+        let (roles, values) = (self.roles, self.values);
+        let mut low = 0;
+        for i in 0..MOST_FIELDS {
+            if !bound_fits(n, roles[i], values[i], low) {
+                return false;
+            }
+            low = bound_after(roles[i], values[i], low);
+        }
+        true
+    }
+
+    // How many bytes the fields have.
+    pub(crate) fn size(self) -> usize
+        ensures { result ≡ total self.entry.roles.now }
+    {
+        let roles = self.roles;
+        roles.iter().map(|role| width_of(*role)).sum()
+    }
+
+    // Stores the fields in a buffer from a place on.
+    pub(crate) fn put(self, buffer: &mut [u8], place: usize)
+        requires { place ≤ length buffer.old }
+        ensures { buffer.new ≡ sets buffer.old place (fields_bytes (fields_as self.entry.roles.now self.entry.values.now)) }
+    {
+        let (roles, values) = (self.roles, self.values);
+        let mut next = place;
+        for i in 0..MOST_FIELDS {
+            let width = width_of(roles[i]);
+            big_endian::put_number(buffer, next, values[i], width);
+            next += width;
+        }
+    }
 }

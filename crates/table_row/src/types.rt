@@ -6,6 +6,7 @@ ghost use Rattle.constraint.specs.Types.{length_of, last_type, TypeKnown};
 
 use super::fields::MOST_FIELDS;
 
+// A list for each number, and no list of records: the definitions have these lists (`lengths`, `entry_sizes`, `least_counts`, `most_counts`).
 // The length expected for each type, by the type byte, without the entries of the row's list.
 const LENGTHS: [u8; 18] = [
     0, 19, 19, 19, 34, 19, 3, 10, 21, 19, 27, 10, 19, 11, 11, 27, 3, 18,
@@ -26,15 +27,11 @@ const LAST_TYPES: [u8; 3] = [0, 10, 17];
 pub fn last_type(edition: u8) -> u8
     ensures { result ≡ last_type edition }
 {
-    let place = edition as usize;
-    if LAST_TYPES.len() <= place {
-        return 0;
-    }
-    LAST_TYPES[place]
+    LAST_TYPES.get(usize::from(edition)).copied().unwrap_or(0)
 }
 
-// The roles of the places of a row, by the type byte.
-fn role_line(tag: u8) -> [u8; 18]
+// The roles of the places of a row, by the type byte: a constant list, which the definition of that name has line by line.
+fn role_line(tag: u8) -> [u8; MOST_FIELDS]
     ensures { result ≡ role_line tag }
 {
     match tag {
@@ -55,12 +52,12 @@ fn role_line(tag: u8) -> [u8; 18]
         15 => *b"nkUJMOOOOOOOO.....",
         16 => *b"nkLNLNLNLNLNLNLNLN",
         17 => *b"nXY...............",
-        _ => [0u8; 18],
+        _ => [0; MOST_FIELDS],
     }
 }
 
 // From which n on each place is used, by the type byte.
-fn need_line(tag: u8) -> [u8; 18]
+fn need_line(tag: u8) -> [u8; MOST_FIELDS]
     ensures { result ≡ need_line tag }
 {
     match tag {
@@ -81,7 +78,7 @@ fn need_line(tag: u8) -> [u8; 18]
         15 => *b"000001234567800000",
         16 => *b"001122334455667788",
         17 => *b"000000000000000000",
-        _ => [0u8; 18],
+        _ => [0; MOST_FIELDS],
     }
 }
 
@@ -89,61 +86,42 @@ fn need_line(tag: u8) -> [u8; 18]
 fn role_for(n: u64, role: u8, need: u8) -> u8
     ensures { result ≡ cond (uses (need - 48) n) role 0 }
 {
-    if need <= b'0' {
-        return role;
+    if n < u64::from(need.saturating_sub(b'0')) {
+        0
+    } else {
+        role
     }
-    if n < ((need - b'0') as u64) {
-        return 0;
-    }
-    role
 }
 
 // The roles of the places of a row of a type with an n: those that it does not use have none.
-pub fn roles_of(tag: u8, n: u64) -> [u8; 18]
+pub fn roles_of(tag: u8, n: u64) -> [u8; MOST_FIELDS]
     ensures { result ≡ roles_of tag n }
 {
     let line = role_line(tag);
     let needs = need_line(tag);
-    let mut roles = [0u8; 18];
-    let mut i = 0;
-    while i < MOST_FIELDS {
-        roles[i] = role_for(n, line[i], needs[i]);
-        i += 1;
-    }
-    roles
+    std::array::from_fn(|i| role_for(n, line[i], needs[i]))
 }
 
 // The length expected of a row of a type with the byte behind it, which is the n of a type that has one; 0 if there is no such type.
 pub fn length_of(tag: u8, n: u8) -> usize
     ensures { result ≡ length_of tag n }
 {
-    let place = tag as usize;
-    if LENGTHS.len() <= place {
+    let place = usize::from(tag);
+    let Some(length) = LENGTHS.get(place) else {
         return 0;
-    }
-    LENGTHS[place] as usize + (n as usize) * (ENTRY_SIZES[place] as usize)
+    };
+    usize::from(*length) + usize::from(n) * usize::from(ENTRY_SIZES[place])
 }
 
 // Question 4 without the length: is the type one of the edition, and is n in range?
 pub fn type_known(edition: u8, tag: u8, n: u64) -> bool
     ensures { Decides (TypeKnown edition tag n) result }
 {
-    let version = edition as usize;
-    if LAST_TYPES.len() <= version {
+    if tag == 0 || last_type(edition) < tag {
         return false;
     }
-    if tag == 0 {
-        return false;
-    }
-    if LAST_TYPES[version] < tag {
-        return false;
-    }
-    let place = tag as usize;
-    if MOST_COUNTS[place] == 0 {
-        return true;
-    }
-    if n < LEAST_COUNTS[place] as u64 {
-        return false;
-    }
-    n <= MOST_COUNTS[place] as u64
+    let place = usize::from(tag);
+    let least = u64::from(LEAST_COUNTS[place]);
+    let most = u64::from(MOST_COUNTS[place]);
+    most == 0 || (least <= n && n <= most)
 }

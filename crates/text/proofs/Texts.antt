@@ -1,10 +1,9 @@
 -- Bytes put behind a text, one after the other: what it holds then is what it held and those bytes, as long as there is room.
 use Rattle.constraint.proofs.Library.{List, [], ◌++◌, ◌+◌, ◌<◌, ◌∙◌, ◌∷◌, ◌≡◌, ◌≤◌, add-one, ap, append_assoc, append-nil, arith, drop, drop-cons}
-use Rattle.constraint.proofs.Library.{get_or, get_or-set_other, le-ltb, length, length-append, length-replicate, length-set, length-take-le, lt-ltb}
-use Rattle.constraint.proofs.Library.{refl}
-use Rattle.constraint.proofs.Library.{replicate, set, sets, suc, take-suc-set, zero, ℕ}
+use Rattle.constraint.proofs.Library.{by_cases, dec_lt, get_or, get_or-set_other, length, length-append, length-replicate, length-set}
+use Rattle.constraint.proofs.Library.{length-take-le, lt-ltb, min, refl, replicate, set, sets, suc, sym, take, take_all, take-suc-set, zero, ℕ}
 use Rattle.big_endian.proofs.Stores.{stores_front}
-use Rattle.text.specs.Content.{Copied, HoldsText, empty_text, extended, text_limit, with_byte}
+use Rattle.text.specs.Content.{Copied, HoldsText, content, empty_text, extended, text_limit, with_byte}
 use Rattle.text.specs.declared.Text.{Text}
 
 -- Bytes behind a text
@@ -20,19 +19,11 @@ pushed_stored : (byte : ℕ) (text : Text) → text.len < text_limit → with_by
 unfolding with_byte
 pushed_stored byte text room = rw (lt-ltb text.len text_limit room)
 
--- the first of the bytes left is stored
-pub extended_next : (list : List ℕ) (i : ℕ) (text : Text) → i < length list → text.len < text_limit
-    → extended (drop i list) text ≡ extended (drop (i + 1) list)
-    (record { bytes = set text.bytes text.len (get_or list i 0); len = text.len + 1 })
+-- the first of the bytes left is put behind it
+pub extended_next : (list : List ℕ) (i : ℕ) (text : Text) → i < length list
+    → extended (drop i list) text ≡ extended (drop (i + 1) list) (with_byte (get_or list i 0) text)
 unfolding extended
-extended_next list i text there room =
-    rw (drop-cons list i 0 there, add-one i) (ap (λ (next : Text). extended (drop (suc i) list) next) (pushed_stored (get_or list i 0) text room))
-
--- a full text takes none
-pub extended_full : (list : List ℕ) (text : Text) → text_limit ≤ text.len → extended list text ≡ text
-unfolding extended with_byte
-extended_full [] text full = refl
-extended_full (byte ∷ list) text full = rw (le-ltb text.len text_limit full) (extended_full list text full)
+extended_next list i text there = rw (drop-cons list i 0 there, add-one i)
 
 -- What a text holds
 
@@ -80,3 +71,19 @@ copied_all text before long =
 
 pub copied_none : (text before : List ℕ) → length before < length text → Copied text before 0 before
 copied_none text before short = record { fits = λ h. absurd (omega arith); too_short = λ h. (refl, refl) }
+
+-- the bytes that a text holds, and also one whose length says more than there is
+module _ (text : Text) (before : List ℕ) (len : ℕ) (size : length text.bytes ≡ text_limit) (least : len ≡ min text.len text_limit) where
+  held : take len text.bytes ≡ content text
+  held =
+      by_cases (dec_lt text.len text_limit) (λ short. let same : len ≡ text.len = omega arith in rw same)
+      (λ full. take_all len text.bytes (omega arith) ∙ sym (take_all text.len text.bytes (omega arith)))
+
+  counted : len ≡ length (content text)
+  counted = sym (length-take-le len text.bytes (omega arith)) ∙ ap length held
+
+  pub copied_held : len ≤ length before → Copied (content text) before len (sets before 0 (take len text.bytes))
+  copied_held long = rw (held, counted) (copied_all (content text) before (omega (arith, counted)))
+
+  pub copied_short : length before < len → Copied (content text) before 0 before
+  copied_short short = copied_none (content text) before (omega (arith, counted))

@@ -1,7 +1,7 @@
 // The text of a report. Methods append bytes line by line; the finished text is copied to the caller's buffer.
 #![tactic(auto)]
 
-ghost use Rattle.std.specs.Prelude.{◌≡◌};
+ghost use Rattle.std.specs.Prelude.{◌≡◌, unwrap_or};
 ghost use Rattle.constraint.specs.Report.{decimal, refused_text};
 ghost use Rattle.text.specs.Content.{Spells, empty_text, with_byte, extended, content, Copied};
 ghost use Rattle.text.specs.Lines.{closed_line, row_line};
@@ -11,11 +11,12 @@ use constraint::Verdict;
 // How many bytes a text holds at most, which no report exceeds.
 pub const TEXT_LIMIT: usize = 1024;
 // One blank stands between the parts of a line.
-const BLANK: u8 = 32;
+const BLANK: u8 = b' ';
 // Lines end in this byte.
-const LINE_END: u8 = 10;
+const LINE_END: u8 = b'\n';
 
 // The text is the first len bytes. A full text takes no more.
+// Stays an array with its length: `HoldsText` (Content.antt) speaks of the bytes behind the text, which a kit's ArrayVec does not tell.
 #[derive(Drop)]
 pub struct Text {
     pub bytes: [u8; 1024],
@@ -23,6 +24,7 @@ pub struct Text {
 }
 
 // The decimal digits of a number: the bytes from the place start on, with blanks before them.
+// Stays an array with a place: `aligned` of `Spells` (Content.antt) speaks of all 20 bytes, which a page prints.
 #[derive(Drop)]
 pub struct Digits {
     pub bytes: [u8; 20],
@@ -36,16 +38,18 @@ pub fn digits_of(x: u64) -> Digits
     let mut bytes = [BLANK; 20];
     let mut start: usize = 20;
     let mut left = x;
+    // Stays a `while`, which ends with the digits: a `for` over the 20 places would be no plainer, with an answer behind it that is never given.
     while 10 <= left {
         start -= 1;
-        bytes[start] = (48 + left % 10) as u8;
+        bytes[start] = b'0' + (left % 10) as u8;
         left /= 10;
     }
     start -= 1;
-    bytes[start] = (48 + left) as u8;
+    bytes[start] = b'0' + left as u8;
     Digits { bytes, start }
 }
 
+// The lines stay put by hand: `write!` promises its text on Ok alone, and these clauses, which `ReportsUpTo` of Report.antt needs, hold always.
 impl Text {
     // The text that holds nothing.
     pub fn new() -> Self
@@ -61,23 +65,20 @@ impl Text {
     pub fn word(&mut self, word: &[u8])
         ensures { self.new ≡ extended word.now self.old }
     {
-        let mut i = 0;
-        while i < word.len() {
-            let len = self.len;
-            if TEXT_LIMIT <= len {
-                return;
-            }
-            self.bytes[len] = word[i];
-            self.len = len + 1;
-            i += 1;
+        for byte in word {
+            self.push(*byte);
         }
     }
 
-    // Appends one byte.
+    // Appends one byte, if the text takes one more.
     pub fn push(&mut self, byte: u8)
         ensures { self.new ≡ with_byte byte self.old }
     {
-        self.word(&[byte]);
+        let len = self.len;
+        if len < TEXT_LIMIT {
+            self.bytes[len] = byte;
+            self.len = len + 1;
+        }
     }
 
     // §7.7
@@ -86,9 +87,7 @@ impl Text {
         ensures { self.new ≡ extended (decimal x) self.old }
     {
         let digits = digits_of(x);
-        let bytes = digits.bytes;
-        let start = digits.start;
-        self.word(&bytes[start..]);
+        self.word(&digits.bytes[digits.start..]);
     }
 
     // §7.4
@@ -109,17 +108,14 @@ impl Text {
         self.decimal(row as u64);
         self.push(BLANK);
         match verdict {
-            Verdict::Open => self.push(LINE_END),
-            Verdict::Kept => {
-                self.word(b"kept");
-                self.push(LINE_END);
-            }
+            Verdict::Open => {}
+            Verdict::Kept => self.word(b"kept"),
             Verdict::Broken(step) => {
                 self.word(b"broken ");
                 self.decimal(step);
-                self.push(LINE_END);
             }
         }
+        self.push(LINE_END);
     }
 
     // §7.5
@@ -128,26 +124,21 @@ impl Text {
         ensures { self.new ≡ extended (refused_text number place) self.old }
     {
         self.word(b"refused ");
-        self.decimal(number as u64);
+        self.decimal(u64::from(number));
         self.push(BLANK);
         self.decimal(place as u64);
         self.push(LINE_END);
     }
 
-    // Copies the text to the front of a buffer and answers its length; where the buffer is too short, answers 0 and leaves it as it was.
-    pub fn copy_to(self, buffer: &mut [u8]) -> usize
-        ensures { Copied (content self) buffer.old result buffer.new }
+    // Copies the text to the front of a buffer and answers its length; where the buffer is too short, answers none and leaves it as it was.
+    pub fn copy_to(self, buffer: &mut [u8]) -> Option<usize>
+        ensures { Copied (content self) buffer.old (unwrap_or result 0) buffer.new }
     {
-        let bytes = self.bytes;
-        let len = if self.len < TEXT_LIMIT {
-            self.len
-        } else {
-            TEXT_LIMIT
-        };
+        let len = self.len.min(TEXT_LIMIT);
         if buffer.len() < len {
-            return 0;
+            return None;
         }
-        big_endian::put(buffer, 0, &bytes[..len]);
-        len
+        big_endian::put(buffer, 0, &self.bytes[..len]);
+        Some(len)
     }
 }

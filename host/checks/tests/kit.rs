@@ -132,8 +132,8 @@ fn one_wrong_answer_is_found() {
 const SLIPS: [(&str, &str, &str); 2] = [
     (
         "row_type/parts.rs",
-        "plus(time_at(times, head, dropped), upper)",
-        "plus(plus(time_at(times, head, dropped), upper), 1)",
+        "times.at(dropped).saturating_add(upper)",
+        "times.at(dropped).saturating_add(upper).saturating_add(1)",
     ),
     ("row/stored.rs", "if row[1][row_words::DUE] < o.time {", "if row[1][row_words::DUE] <= o.time {"),
 ];

@@ -178,7 +178,7 @@ fn what_is_left_out() {
 fn what_is_not_understood_is_refused() {
     let refused = [
         (
-            "pub struct S {\n    ghost now: { ℕ }\n}\n",
+            "pub struct S {\n    ghost now\n}\n",
             "small:\n",
             "small",
             "crates/small/src/lib.rt: not understood: ghost now",

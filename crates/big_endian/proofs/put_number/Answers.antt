@@ -1,34 +1,24 @@
 -- The loop stores byte after byte, each cut out by a shift: storing those left in what there is now gives the whole.
-use Rattle.constraint.proofs.Library.{◌∙◌, ◌≡◌, ap, arith, length-set, refl, sets, sym, ℕ}
+use Rattle.constraint.proofs.Library.{◌+◌, ◌-◌, ◌≡◌, ◌∙◌, ap, arith, by_cases, dec_lt, sets, sym, ℕ}
 use Rattle.constraint.specs.Bytes.{bytes_of}
 use Rattle.big_endian.proofs.{Shifts.stores_shifted, Stores.stores_past}
 use Rattle.big_endian.proofs.put_number.Goals as goal
 
-pub returns-then-buffer-next : goal.returns-then-buffer-next
-returns-then-buffer-next c =
-    let loop = c.loop-left in
-    sym (stores_past loop.buffer loop.next (bytes_of loop.left c.args.x) c.if-buffer-next.true) ∙ loop.invariant.2
-
-pub loop-left-preserved : goal.loop-left-preserved
-loop-left-preserved c =
-    let loop = c.loop-left in let x = c.args.x in let byte = c.low_byte.result in (
-      omega arith,
-      length-set loop.buffer loop.next byte ∙ loop.invariant.1,
-      sym (stores_shifted loop.buffer loop.next loop.left x byte (omega arith) c.low_byte.ensures) ∙ loop.invariant.2,
-    )
+pub loop-i-preserved : goal.loop-i-preserved
+loop-i-preserved c =
+    let loop = c.loop-i in let a = c.args in
+    let left = a.width - loop.i in
+    let cut : left - 1 ≡ a.width - 1 - loop.i = omega arith in
+    let fewer : a.width - (loop.i + 1) ≡ left - 1 = omega arith in
+    let next : a.place + (loop.i + 1) ≡ a.place + loop.i + 1 = omega arith in
+    rw (next, fewer)
+    (sym (stores_shifted loop.buffer (a.place + loop.i) left a.x c.low_byte.result (omega arith) (rw cut c.low_byte.ensures)) ∙ loop.invariant)
 
 pub returns : goal.returns
 unfolding bytes_of
 returns c =
-    let loop = c.loop-left in
-    let none : loop.left ≡ 0 = omega arith in
-    sym (ap (λ (left : ℕ). sets loop.buffer loop.next (bytes_of left c.args.x)) none) ∙ loop.invariant.2
-
-pub loop-left-init : goal.loop-left-init
-loop-left-init c = (c.requires, refl, refl)
-
-pub shape_of-buffer-then-buffer-next : goal.shape_of-buffer-then-buffer-next
-shape_of-buffer-then-buffer-next c = c.loop-left.invariant.1
-
-pub shape_of-buffer : goal.shape_of-buffer
-shape_of-buffer c = c.loop-left.invariant.1
+    let loop = c.loop-i in let a = c.args in
+    by_cases (dec_lt loop.i a.width)
+    (λ room. sym (stores_past loop.buffer (a.place + loop.i) (bytes_of (a.width - loop.i) a.x) (omega arith)) ∙ loop.invariant)
+    (λ all. let none : a.width - loop.i ≡ 0 = omega arith in
+    sym (ap (λ (left : ℕ). sets loop.buffer (a.place + loop.i) (bytes_of left a.x)) none) ∙ loop.invariant)

@@ -1,7 +1,8 @@
 -- The sources with no target in their interval, as a list: it is filtered source by source and target by target, and Delay is met just where
 -- it is empty.
-use Rattle.constraint.proofs.Library.{Bool, List, [], ◌&&◌, ◌++◌, ◌+◌, ◌<◌, ◌||◌, ◌∙◌, ◌∷◌, ◌≡◌, ◌≤◌, ◌⊎◌, ap, arith, cond, eq-eqb, eqb, eqb-true}
-use Rattle.constraint.proofs.Library.{false, false≢true, inl, inr, le-leb, leb, leb-true, length, refl, suc, sym, true, true≢false, zero, ℕ, ⊎_elim}
+use Rattle.constraint.proofs.Library.{List, [], ◌++◌, ◌+◌, ◌<◌, ◌||◌, ◌∙◌, ◌∷◌, ◌≡◌, ◌≤◌, ◌⊎◌, and-eq-true_iff, ap, arith, cond, eq-eqb, eqb}
+use Rattle.constraint.proofs.Library.{eqb-true, false≢true, inl, inr, le-leb, leb, leb-true, length, refl, suc, sym, true, true≢false, zero, ℕ}
+use Rattle.constraint.proofs.Library.{⊎_elim}
 use Rattle.constraint.proofs.Lists.{Each, Rising, each_cons, each_none, each_tail, or-true, split}
 use Rattle.constraint.specs.{Limits.no_limit, Meets.Apart, Meets.MeetsDelay, Steps.at, Waiting.answered, Waiting.in_interval, Waiting.unanswered}
 
@@ -15,15 +16,11 @@ unmet lower upper [] targets = []
 unmet lower upper (s ∷ sources) targets =
     cond (answered lower upper s targets) (unmet lower upper sources targets) (s ∷ unmet lower upper sources targets)
 
-both_true : (a b : Bool) → (a && b) ≡ true → (a ≡ true) × (b ≡ true)
-both_true true b e = (refl, e)
-both_true false b e = absurd (false≢true e)
-
 module _ (lower upper : ℕ) where
   -- the mark, or a target in time
   in_interval_lem : (s t : ℕ) → in_interval lower upper s t ≡ true → Apart lower upper s t
   in_interval_lem s t e =
-      let h = both_true (leb (s + lower) t) (eqb upper no_limit || leb t (s + upper)) e in (
+      let h = (and-eq-true_iff (leb (s + lower) t) (eqb upper no_limit || leb t (s + upper))).0 e in (
         leb-true (s + lower) t h.0,
         ⊎_elim (λ f. inl (eqb-true upper no_limit f)) (λ f. inr (leb-true t (s + upper) f)) (or-true (eqb upper no_limit) (leb t (s + upper)) h.1),
       )

@@ -2,16 +2,16 @@
 -- now can only get one at its own time.
 use Rattle.event_chain.proofs.Laws.ByPairs.{ByPair, ByPairs, LostPair, NearerPair, exact_by_pairs, maximum_small, minimum_first, steady_pair}
 use Rattle.event_chain.proofs.Laws.Firsts.{each_snoc, latest_new, latest_old}
-use Rattle.event_chain.proofs.Laws.Words.{high_of, latest_some, low_of, other_high, other_low, stored, stored_high, stored_low}
-use Rattle.event_chain.specs.Coloured.{least_of}
-use Rattle.event_chain.specs.Age.{after_response_age, after_stimulus_age, decide_age, due_age, machine_age, owed, owed_but, pair_after_age, suits}
-use Rattle.event_chain.specs.Reaction.{no_pair, pair_of}
-use Rattle.event_chain.specs.declared.reaction.Pair.{Pair}
-use Rattle.constraint.proofs.Library.{List, [], ◌%◌, ◌&&◌, ◌++◌, ◌+◌, ◌-◌, ◌<◌, ◌∙◌, ◌∷◌, ◌≡◌, ◌≤◌, and-eq-true_iff, ap, ap₂, arith, by_cases}
+use Rattle.event_chain.proofs.Laws.Words.{high_of, latest_some, low_of}
+use Rattle.event_chain.specs.Age.{after_response_age, after_stimulus_age, decide_age, due_age, machine_age, owed, pair_after_age, suits}
+use Rattle.std.specs.Prelude.{Option}
+use Rattle.event_chain.specs.FirstOwed.{first_owed_age}
+use Rattle.event_chain.specs.Pairs.{no_pair, pair_of}
+use Rattle.event_chain.specs.declared.pairs.Pair.{Pair}
+use Rattle.constraint.proofs.Library.{List, [], ◌%◌, ◌&&◌, ◌++◌, ◌+◌, ◌-◌, ◌<◌, ◌∙◌, ◌∷◌, ◌≡◌, ◌≤◌, and-eq-true_iff, ap, arith, by_cases}
 use Rattle.constraint.proofs.Library.{cond, dec_lt, eq-eqb, eqb, eqb-false, eqb-true, false, false≢true, le-leb, leb, leb-false, leb-true}
 use Rattle.constraint.proofs.Library.{length}
-use Rattle.constraint.proofs.Library.{length-append, lt-ltb, ltb, ltb-true, min, ne_eqb, refl, subst, suc, sym, true, zero, ℕ}
-use Rattle.constraint.proofs.Library.{ℕ_discrete}
+use Rattle.constraint.proofs.Library.{length-append, lt-ltb, ltb, ltb-true, ne_eqb, refl, subst, sym, true, ℕ}
 use Rattle.constraint.proofs.Lists.{Each, at_left, at_next, each_none, split}
 use Rattle.constraint.specs.Steps.{at}
 use Rattle.constraint.specs.{Limits.last_time}
@@ -108,7 +108,7 @@ module _ (minimum maximum : ℕ) where
 
   module _ (stimuli responses : List ℕ) (t : ℕ) (past : Each (λ s. s ≤ t) stimuli) (past_responses : Each (λ y. y ≤ t) responses)
       (small : t ≤ last_time) where
-    abbrev StimulusDoes : Pair → Type 0
+    abbrev StimulusDoes : Option Pair → Type 0
     StimulusDoes = ByPair (LostAge t (stimuli ++ t ∷ []) responses) (GoesAge t (stimuli ++ t ∷ []) responses)
 
     longer : length (stimuli ++ t ∷ []) ≡ length stimuli + 1
@@ -172,7 +172,7 @@ module _ (minimum maximum : ℕ) where
 
   module _ (stimuli responses : List ℕ) (t : ℕ) (past : Each (λ s. s ≤ t) stimuli) (rises : Each (λ y. y < t) responses) (small : t ≤ last_time)
       (min_small : minimum ≤ last_time) (max_small : maximum ≤ last_time) where
-    abbrev ResponseDoes : Pair → Type 0
+    abbrev ResponseDoes : Option Pair → Type 0
     ResponseDoes = ByPair (LostAge t stimuli (responses ++ t ∷ [])) (GoesAge t stimuli (responses ++ t ∷ []))
 
     more : length (responses ++ t ∷ []) ≡ length responses + 1
@@ -356,22 +356,6 @@ module _ (minimum maximum : ℕ) where
         first = λ i h. omega (arith, o.alone i h);
       })
 
--- ---- the words
-
-module _ (words : List ℕ) (whole : length words ≡ 16) (d low high : ℕ) (few : d < 8) where
-  owed_stored : (n : ℕ) → owed_but d low high words n ≡ owed (low_of (stored words d low high) n) (high_of (stored words d low high) n)
-  owed_stored n =
-      by_cases (ℕ_discrete n d)
-      (λ e. rw (eq-eqb n d e) (ap₂ owed (sym (stored_low words whole d low high few) ∙ ap (low_of (stored words d low high)) (sym e))
-      (sym (stored_high words whole d low high few) ∙ ap (high_of (stored words d low high)) (sym e))))
-      (λ o. rw (ne_eqb n d o) (ap₂ owed (sym (other_low words whole d low high few n o)) (sym (other_high words whole d low high few n o))))
-
-  due_stored : (n : ℕ) → due_age n d low high words
-      ≡ least_of (λ e. owed (low_of (stored words d low high) e) (high_of (stored words d low high) e)) n
-  unfolding due_age least_of
-  due_stored zero = refl
-  due_stored (suc n) = ap₂ min (due_stored n) (owed_stored n)
-
 -- ---- the row
 
 module _ (minimum maximum : ℕ) (low_first : minimum ≤ maximum) (max_small : maximum ≤ last_time) where
@@ -427,7 +411,7 @@ exact_age stimulus response minimum maximum sound =
     (λ low high t. after_stimulus_age minimum high t) (after_response_age minimum maximum)
     (by_age minimum maximum (minimum_first c sound stimulus response minimum maximum refl)
     (maximum_small c sound stimulus response minimum maximum refl))
-    (λ words whole d low high few. due_stored words whole d low high few 8) refl refl refl (λ steps. refl) (λ steps. (λ m. m, λ m. m))
+    first_owed_age refl refl refl (λ steps. refl) (λ steps. (λ m. m, λ m. m))
 
 -- ---- In a row
 

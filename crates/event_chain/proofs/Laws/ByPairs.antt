@@ -1,13 +1,15 @@
 -- Rows of two coloured kinds with two words for each colour: such a row is exact if the two words of a colour tell what an event of it does, and if a
 -- colour that is not kept can be brought nearer by one event.
 use Rattle.event_chain.proofs.Laws.ByColour.{ByColour, Colouring, Lost, Nearer, Turned, due_next_lem, exact_by_colour, least_limit, with_one}
-use Rattle.event_chain.proofs.Laws.Words.{high_of, low_of, marking_last, other_high, other_low, stored, stored_high, stored_low, stored_whole}
-use Rattle.event_chain.proofs.Laws.Words.{stream_coloured}
-use Rattle.event_chain.specs.{Coloured.least_of, Marked.coloured_kind, Marked.due_marked, Marked.due_next, Marked.marking}
-use Rattle.event_chain.specs.declared.reaction.Pair.{Pair}
+use Rattle.event_chain.proofs.Laws.Words.{due_stored, high_of, low_of, marking_last, other_high, other_low, stored, stored_high, stored_low}
+use Rattle.event_chain.proofs.Laws.Words.{stored_whole, stream_coloured}
+use Rattle.event_chain.specs.{Coloured.least_of, Marked.coloured_kind, Marked.due_marked, Marked.due_next}
+use Rattle.event_chain.specs.Pairs.{change_pair, due_pairs}
+use Rattle.event_chain.specs.declared.pairs.Pair.{Pair}
+use Rattle.std.specs.Prelude.{Option, Some, None}
 use Rattle.constraint.proofs.Library.{List, [], ◌%◌, ◌*◌, ◌++◌, ◌+◌, ◌<◌, ◌↔◌, ◌∙◌, ◌∷◌, ◌≡◌, ◌≤◌, ap, ap₂, arith, cond, eq-eqb, eqb, false}
 use Rattle.constraint.proofs.Library.{get_or-replicate, length, ltb, ne_eqb, refl, replicate, subst, subst₂, suc, sym, take, zero, ℕ}
-use Rattle.constraint.proofs.Lists.{Each, each_cons, each_none, split}
+use Rattle.constraint.proofs.Lists.{Each, each_cons, each_none}
 use Rattle.constraint.proofs.Streams.{streams_in}
 use Rattle.constraint.specs.Accepted.{EachField, FieldInRange, InRange, KindClassFits, KindsFit, KindsSuit, LowerFirst, Ordered, kinds_in}
 use Rattle.constraint.specs.Steps.{Step, at, times}
@@ -20,13 +22,13 @@ use Rattle.row_type.proofs.FitsRow.{Steady, keeping_last, steady_breaking, stead
 use Rattle.row_type.proofs.SeveralKinds.{kinds_apart}
 use Rattle.row_type.specs.Parameters.{constants_of, start_words, waits_in, word_counts}
 use Rattle.row_type.specs.{Parts.breaking, Words.last_saved, declared.Change.Change, declared.Registers.Registers}
-use Rattle.ring.specs.declared.Edit.TheVariants.{Store}
 
 -- ---- a colour's words
 
 -- by what an event makes of a colour's words
-abbrev pub ByPair : Type 0 → (ℕ → ℕ → Type 0) → Pair → Type 0
-ByPair Breaks Goes pair = cond pair.breaks Breaks (Goes pair.low pair.high)
+abbrev pub ByPair : Type 0 → (ℕ → ℕ → Type 0) → Option Pair → Type 0
+ByPair Breaks Goes None = Breaks
+ByPair Breaks Goes (Some pair) = Goes pair.low pair.high
 
 -- no further times from t on are what is said
 abbrev pub LostPair : (List ℕ → List ℕ → Type 0) → ℕ → List ℕ → List ℕ → Type 0
@@ -48,7 +50,7 @@ pub record NearerPair (Colour : List ℕ → List ℕ → ℕ → ℕ → Type 0
   pub fewer : lacks new_low new_high < lacks low high
 
 -- what the row says of a colour's times, and what its words tell
-pub record ByPairs (Says : List ℕ → List ℕ → Type 0) (owed : ℕ → ℕ → ℕ) (on_stimulus on_response : ℕ → ℕ → ℕ → Pair) : Type 1 where
+pub record ByPairs (Says : List ℕ → List ℕ → Type 0) (owed : ℕ → ℕ → ℕ) (on_stimulus on_response : ℕ → ℕ → ℕ → Option Pair) : Type 1 where
   pub Colour : List ℕ → List ℕ → ℕ → ℕ → Type 0
   pub lacks : ℕ → ℕ → ℕ
   pub start : Colour [] [] 0 0
@@ -79,32 +81,29 @@ pair_due owed due registers words d low high =
     due_next (due_marked registers) (owed (low_of words d) (high_of words d)) (owed low high) (due d low high words)
 
 -- the change that new words of a colour make
-abbrev pub pair_change : (ℕ → ℕ → ℕ) → (ℕ → ℕ → ℕ → List ℕ → ℕ) → Registers → List ℕ → ℕ → Pair → Change
-pair_change owed due registers words d pair =
-    cond pair.breaks breaking
-    (marking (Store (2 * d) pair.low pair.high) registers (pair_due owed due registers words d pair.low pair.high))
+abbrev pub pair_change : (ℕ → ℕ → ℕ) → (ℕ → ℕ → ℕ → List ℕ → ℕ) → Registers → List ℕ → ℕ → Option Pair → Change
+pair_change owed due registers words d pair = change_pair owed due registers words d (owed (low_of words d) (high_of words d)) pair
 
 -- an event of one of the row's streams
-abbrev pub decide_pair : (ℕ → ℕ → ℕ) → (ℕ → ℕ → ℕ → List ℕ → ℕ) → (ℕ → ℕ → ℕ → Pair) → (ℕ → ℕ → ℕ → Pair) → ℕ → Registers → List ℕ → ℕ → ℕ → Change
+abbrev pub decide_pair : (ℕ → ℕ → ℕ) → (ℕ → ℕ → ℕ → List ℕ → ℕ) → (ℕ → ℕ → ℕ → Option Pair) → (ℕ → ℕ → ℕ → Option Pair) → ℕ
+    → Registers → List ℕ → ℕ → ℕ → Change
 decide_pair owed due on_stimulus on_response stimulus registers words s t =
     cond (ltb (length words) 16) breaking
     (pair_change owed due registers words (s % 8)
     (cond (eqb (coloured_kind s) stimulus) (on_stimulus (low_of words (s % 8)) (high_of words (s % 8)) t) (on_response (low_of words (s % 8))
     (high_of words (s % 8)) t)))
 
--- its due time is the first last moment of the new words
+-- its due time is the first of all last moments
 abbrev pub FirstOwed : (ℕ → ℕ → ℕ) → (ℕ → ℕ → ℕ → List ℕ → ℕ) → Type 0
-FirstOwed owed due =
-    (words : List ℕ) → length words ≡ 16 → (d low high : ℕ) → d < 8
-    → due d low high words ≡ least_of (λ e. owed (low_of (stored words d low high) e) (high_of (stored words d low high) e)) 8
+FirstOwed owed due = (d low high : ℕ) (words : List ℕ) → due d low high words ≡ due_pairs owed d low high words 8
 
 -- whatever the words of the event's colour become, they stand where they stood, and only the mark changes
-pub steady_pair : (owed : ℕ → ℕ → ℕ) (due : ℕ → ℕ → ℕ → List ℕ → ℕ) (m : Registers) (words : List ℕ) (d : ℕ) (pair : Pair)
+pub steady_pair : (owed : ℕ → ℕ → ℕ) (due : ℕ → ℕ → ℕ → List ℕ → ℕ) (m : Registers) (words : List ℕ) (d : ℕ) (pair : Option Pair)
     → Steady last_saved m words (cond (ltb (length words) 16) breaking (pair_change owed due m words d pair))
-steady_pair owed due m words d pair =
+steady_pair owed due m words d None = steady_by (ltb (length words) 16) (steady_breaking keeping_last) (steady_breaking keeping_last)
+steady_pair owed due m words d (Some pair) =
     steady_by (ltb (length words) 16) (steady_breaking keeping_last)
-    (steady_by pair.breaks (steady_breaking keeping_last)
-    (steady_store (2 * d) pair.low pair.high (marking_last (pair_due owed due m words d pair.low pair.high))))
+    (steady_store (2 * d) pair.low pair.high (marking_last (pair_due owed due m words d pair.low pair.high)))
 
 -- ---- a constraint of two coloured kinds and an interval
 
@@ -144,7 +143,7 @@ module _ (c : Constraint) (sound : Sound c) (stimulus response minimum maximum :
     colour_of : (k d : ℕ) → d ≤ last_colour → stream k d % 8 ≡ d
     colour_of k d few = omega arith
 
-    module _ (Says : List ℕ → List ℕ → Type 0) (owed : ℕ → ℕ → ℕ) (due : ℕ → ℕ → ℕ → List ℕ → ℕ) (on_stimulus on_response : ℕ → ℕ → ℕ → Pair)
+    module _ (Says : List ℕ → List ℕ → Type 0) (owed : ℕ → ℕ → ℕ) (due : ℕ → ℕ → ℕ → List ℕ → ℕ) (on_stimulus on_response : ℕ → ℕ → ℕ → Option Pair)
         (r : ByPairs Says owed on_stimulus on_response) (due_is : FirstOwed owed due) where
       abbrev decide : Registers → List ℕ → ℕ → ℕ → Change
       decide = decide_pair owed due on_stimulus on_response stimulus
@@ -172,12 +171,13 @@ module _ (c : Constraint) (sound : Sound c) (stimulus response minimum maximum :
           rw (whole, colour_of response d few, stream_coloured response d suit.1.0 few, ne_eqb response stimulus kinds_differ)
 
       -- the new words of a colour
-      pair_turns : (f : ℕ → List ℕ) (registers : Registers) (words : List ℕ) (d j t : ℕ) (pair : Pair) → d ≤ last_colour → length words ≡ 16
+      pair_turns : (f : ℕ → List ℕ) (registers : Registers) (words : List ℕ) (d j t : ℕ) (pair : Option Pair) → d ≤ last_colour → length words ≡ 16
           → due_marked registers ≡ least_of (colouring.due words) 8
           → ByPair (LostPair Says t (with_one f j t 0) (with_one f j t 1))
           (λ l h. r.Colour (with_one f j t 0) (with_one f j t 1) l h × (t ≤ owed l h)) pair
           → ByOutcome (Lost 2 SaysOf t (with_one f j t)) (Turned colouring f d j t words) (pair_change owed due registers words d pair)
-      pair_turns f registers words d j t pair few whole marked =
+      pair_turns f registers words d j t None few whole marked = λ lost g late. lost (g 0) (g 1) (late 0 (omega arith)) (late 1 (omega arith))
+      pair_turns f registers words d j t (Some pair) few whole marked =
           let low = pair.low in let high = pair.high in
           let now = pair_due owed due registers words d low high in
           let next = colouring.due (stored words d low high) in
@@ -187,14 +187,8 @@ module _ (c : Constraint) (sound : Sound c) (stimulus response minimum maximum :
           due_next_lem (colouring.due words) next d (omega arith)
           (λ e h o. ap₂ owed (other_low words whole d low high (omega arith) e o) (other_high words whole d low high (omega arith) e o))
           (due_marked registers) (owed low high) (due d low high words) marked (ap₂ owed low_is high_is)
-          (due_is words whole d low high (omega arith)) in
-          split pair.breaks
-          (λ x. cond x (LostPair Says t (with_one f j t 0) (with_one f j t 1))
-          (r.Colour (with_one f j t 0) (with_one f j t 1) low high × (t ≤ owed low high))
-          → ByOutcome (Lost 2 SaysOf t (with_one f j t)) (Turned colouring f d j t words)
-          (cond x breaking (marking (Store (2 * d) low high) registers now)))
-          (λ e lost g late. lost (g 0) (g 1) (late 0 (omega arith)) (late 1 (omega arith)))
-          (λ e goes. record {
+          (due_is d low high words ∙ due_stored words whole d low high (omega arith) owed 8) in
+          λ goes. record {
             keeps = (
               stored_whole words whole d low high (omega arith),
               subst₂ (r.Colour (with_one f j t 0) (with_one f j t 1)) low_is high_is goes.0,
@@ -204,7 +198,7 @@ module _ (c : Constraint) (sound : Sound c) (stimulus response minimum maximum :
             due_is = first;
             kept_is = refl;
             marked = omega (arith, first, least_limit next 8);
-          })
+          }
 
       turns : (f : ℕ → List ℕ) (registers : Registers) (words : List ℕ) (d j t : ℕ) → d ≤ last_colour → j < 2
           → ((i : ℕ) → i < 2 → Each (λ s. s ≤ t) (f i)) → Each (λ s. s < t) (f j) → t ≤ last_time → colouring.Keeps f d words

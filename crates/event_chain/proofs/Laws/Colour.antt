@@ -3,8 +3,10 @@
 use Rattle.event_chain.proofs.Laws.ByPairs.{ByPair, LostPair}
 use Rattle.event_chain.proofs.Laws.Firsts.{each_snoc}
 use Rattle.event_chain.proofs.Laws.Words.{latest_none, latest_some}
-use Rattle.event_chain.specs.Reaction.{after_response, after_stimulus, latest, no_pair, pair_of}
-use Rattle.event_chain.specs.declared.reaction.Pair.{Pair}
+use Rattle.event_chain.specs.Reaction.{after_response, after_stimulus, latest}
+use Rattle.event_chain.specs.Pairs.{no_pair, pair_of}
+use Rattle.event_chain.specs.declared.pairs.Pair.{Pair}
+use Rattle.std.specs.Prelude.{Option}
 use Rattle.constraint.proofs.Library.{List, [], ◌++◌, ◌+◌, ◌<◌, ◌∙◌, ◌∷◌, ◌≡◌, ◌≤◌, ap, arith, cond, length, length-append, ltb, ltb-false, ltb-true}
 use Rattle.constraint.proofs.Library.{ne_eqb, refl, sym, ℕ}
 use Rattle.constraint.proofs.Lists.{Each, at_left, at_next, split}
@@ -72,7 +74,7 @@ module _ (minimum maximum : ℕ) where
 
   module _ (stimuli responses : List ℕ) (t : ℕ) (past : Each (λ s. s ≤ t) stimuli) (past_responses : Each (λ y. y ≤ t) responses)
       (small : t ≤ last_time) (low_first : minimum ≤ maximum) (max_small : maximum ≤ last_time) where
-    abbrev StimulusDoes : Pair → Type 0
+    abbrev StimulusDoes : Option Pair → Type 0
     StimulusDoes = ByPair (LostColour t (stimuli ++ t ∷ []) responses) (GoesAt t (stimuli ++ t ∷ []) responses)
 
     longer : length (stimuli ++ t ∷ []) ≡ length stimuli + 1
@@ -150,7 +152,7 @@ module _ (minimum maximum : ℕ) where
       }
 
   module _ (stimuli responses : List ℕ) (t : ℕ) (small : t ≤ last_time) where
-    abbrev ResponseDoes : Pair → Type 0
+    abbrev ResponseDoes : Option Pair → Type 0
     ResponseDoes = ByPair (LostColour t stimuli (responses ++ t ∷ [])) (GoesAt t stimuli (responses ++ t ∷ []))
 
     pub response_does : (low high : ℕ) → t ≤ latest high → LiveColour stimuli responses low high → ResponseDoes (after_response low high t)

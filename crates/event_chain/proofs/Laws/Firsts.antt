@@ -4,7 +4,7 @@ use Rattle.event_chain.specs.Coloured.{first_word, least_of, most_of}
 use Rattle.constraint.proofs.Library.{List, [], ◌++◌, ◌+◌, ◌-◌, ◌<◌, ◌∙◌, ◌∷◌, ◌≡◌, ◌≤◌, ◌⊎◌, ap, arith, by_cases, cond, dec_lt, eq-eqb, eqb}
 use Rattle.constraint.proofs.Library.{eqb-false}
 use Rattle.constraint.proofs.Library.{eqb-true, get_or-set_other, get_or-set_same, inl, inr, length, length-append, ne_eqb, refl, set, subst, subst₂}
-use Rattle.constraint.proofs.Library.{suc}
+use Rattle.constraint.proofs.Library.{ap₂, get_or-take, length-take-le, max, suc, take}
 use Rattle.constraint.proofs.Library.{sym, zero, ℕ}
 use Rattle.constraint.proofs.Library.{ℕ_discrete, ⊎_elim}
 use Rattle.constraint.proofs.Lists.{Each, at_left, at_next, at_right, each_append, each_cons, each_none, split}
@@ -142,3 +142,12 @@ find_other g (suc n) x =
     (λ all. inl (λ i h. by_cases (ℕ_discrete i n) (λ is. ap g is ∙ e) (λ o. all i (omega arith))))
     (λ found. inr (found.0, omega (arith, found.1), found.2)) (find_other g n x))
     (λ o. inr (n, omega arith, o))
+
+pub most_same : (f g : ℕ → ℕ) (n : ℕ) → ((d : ℕ) → d < n → f d ≡ g d) → most_of f n ≡ most_of g n
+unfolding most_of
+most_same f g zero same = refl
+most_same f g (suc n) same = ap₂ max (most_same f g n (λ d l. same d (omega arith))) (same n (omega arith))
+
+pub most_taken : (w : List ℕ) (n : ℕ) → n ≤ length w → most_of (at (take n w)) (length (take n w)) ≡ most_of (at w) n
+most_taken w n h =
+    ap (most_of (at (take n w))) (length-take-le n w h) ∙ most_same (at (take n w)) (at w) n (λ i l. get_or-take n w i 0 l)

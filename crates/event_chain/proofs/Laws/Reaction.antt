@@ -2,7 +2,8 @@
 use Rattle.event_chain.proofs.Laws.ByPairs.{ByPairs, NearerPair, exact_by_pairs, maximum_small, minimum_first, steady_pair}
 use Rattle.event_chain.proofs.Laws.Colour.{LiveColour, answered, answers, colour_kept, colour_late, colour_unkept, quiet, response_does}
 use Rattle.event_chain.proofs.Laws.Colour.{stimulus_does, waits}
-use Rattle.event_chain.proofs.Laws.Words.{due_stored, high_of, latest_some, low_of}
+use Rattle.event_chain.specs.FirstOwed.{first_owed_reaction}
+use Rattle.event_chain.proofs.Laws.Words.{high_of, latest_some, low_of}
 use Rattle.event_chain.specs.Reaction.{after_response, after_stimulus, decide_reaction, due_but, latest, machine_reaction, pair_after}
 use Rattle.constraint.proofs.Library.{List, ◌%◌, ◌+◌, ◌<◌, ◌≤◌, arith, cond, eqb, ne_eqb, refl, ℕ}
 use Rattle.constraint.specs.{Constraint.Reaction, Limits.last_time, Limits.no_limit, Meets.Meets, Meets.MeetsReaction}
@@ -68,7 +69,7 @@ exact_reaction stimulus response minimum maximum sound =
     (after_stimulus minimum maximum) after_response
     (by_reaction minimum maximum (minimum_first c sound stimulus response minimum maximum refl)
     (maximum_small c sound stimulus response minimum maximum refl))
-    (λ words whole d low high few. due_stored words whole d low high few 8) refl refl refl (λ steps. refl) (λ steps. (λ m. m, λ m. m))
+    first_owed_reaction refl refl refl (λ steps. refl) (λ steps. (λ m. m, λ m. m))
 
 -- ---- In a row
 

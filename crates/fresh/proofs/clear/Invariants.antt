@@ -1,10 +1,6 @@
 -- Block after block: before the turn of number i the first i are cleared.
-use Rattle.fresh.proofs.Names.{◌-◌, ◌≡◌, ◌≤◌, length, no_words, replicate}
-use Rattle.fresh.proofs.Names.{take}
+use Rattle.fresh.proofs.Names.{◌≡◌, no_words, replicate, take}
 use Rattle.fresh.proofs.clear.Given as goal
 
-abbrev pub invariant-loop-i : goal.invariant-loop-i
-invariant-loop-i l = (l.i ≤ length l.initial.blocks) × ((length l.blocks ≡ length l.initial.blocks) × (take l.i l.blocks ≡ replicate l.i no_words))
-
-abbrev pub decreases-loop-i : goal.decreases-loop-i
-decreases-loop-i l = length l.initial.blocks - l.i
+abbrev pub invariant-loop-block : goal.invariant-loop-block
+invariant-loop-block l = take l.block-index l.blocks ≡ replicate l.block-index no_words

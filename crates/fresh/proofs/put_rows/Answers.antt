@@ -1,7 +1,7 @@
 -- Row after row: before the turn of number i the first i are stored, and the others are read from the place on that the turn has.
-use Rattle.fresh.proofs.Names.{Constraint, List, RowsPut, [], ◌∙◌, ◌≡◌, after, ap, ap₂, arith}
-use Rattle.fresh.proofs.Names.{Known, Placed, refl, no_row_undo, row_of, subst, sym, ℕ}
-use Rattle.fresh.proofs.Scanned.{put_next, put_none, row_known, scan_next}
+use Rattle.fresh.proofs.Names.{Constraint, List, [], ◌∙◌, after, ap, ap₂, arith}
+use Rattle.fresh.proofs.Names.{Known, Placed, no_row_undo, row_of, subst, sym, ℕ}
+use Rattle.fresh.proofs.Scanned.{put_next, row_known, scan_next}
 use Rattle.fresh.proofs.{Freshness.kept_is, Freshness.row_is}
 use Rattle.row.specs.Stored as Stored
 use Rattle.fresh.proofs.put_rows.Goals as goal
@@ -13,10 +13,9 @@ placed tag values next = record { row = record { tag = tag; values = values }; n
 pub loop-i-preserved : goal.loop-i-preserved
 loop-i-preserved c =
     let l = c.loop-i in (
-      omega arith,
       c.load_at-found.ensures.many,
       λ rows reads.
-          let so_far = l.invariant.2 rows reads in
+          let so_far = l.invariant.1 rows reads in
           let next = scan_next _ rows l.i l.place
           (placed c.load_at-found.result.tag c.load_at-found.new.values c.load_at-found.result.next) so_far.0 c.load_at-found.ensures.placed in
           let row = c.begin.ensures ∙ ap (λ (x : Constraint). Stored.words_of_row (row_of x) no_row_undo) next.0
@@ -30,17 +29,5 @@ begin-requires c =
     let l = c.loop-i in
     let rows = c.requires.0 in let reads = c.requires.1 in
     let next = scan_next _ rows l.i l.place (placed c.load_at-found.result.tag c.load_at-found.new.values c.load_at-found.result.next)
-    (l.invariant.2 rows reads).0 c.load_at-found.ensures.placed in
+    (l.invariant.1 rows reads).0 c.load_at-found.ensures.placed in
     subst Known (sym next.0) (row_known _ rows reads l.i)
-
-pub returns : goal.returns
-returns c rows reads long =
-    let l = c.loop-i in
-    let at_end : l.i ≡ 32 = omega arith in
-    subst (λ (k : ℕ). RowsPut c.args.m.now (after rows []) k l.m) at_end ((l.invariant.2 rows reads).1 long)
-
-pub loop-i-init : goal.loop-i-init
-loop-i-init c = (omega arith, refl, λ rows reads. (reads, λ long. put_none _ (after rows [])))
-
-pub load_at-found-requires : goal.load_at-found-requires
-load_at-found-requires c = c.loop-i.invariant.1

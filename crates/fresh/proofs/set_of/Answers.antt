@@ -8,29 +8,21 @@ unfolding set_from
 loop-i-init c =
     let a = c.args in
     let none : 0 ≡ a.n - a.n = omega arith in
-    (omega arith, subst (λ (k : ℕ). 0 < 2 ^ k) none (omega arith), λ h e s. ap (set_from (is_of h.monitor a.kind) a.n) none)
+    (subst (λ (k : ℕ). 0 < 2 ^ k) none (omega arith), λ h e s. ap (set_from (is_of h.monitor a.kind) a.n) none)
 
 pub loop-i-preserved : goal.loop-i-preserved
 unfolding set_from
 loop-i-preserved c =
     let a = c.args in let i = c.loop-i.i in let inv = c.loop-i.invariant in
-    let more : suc (a.n - i) ≡ a.n - (i - 1) = omega (arith, inv.0) in
-    let same : i ≡ suc (i - 1) = omega arith in (
-      omega (arith, inv.0),
+    let more : suc (a.n - i) ≡ a.n - (i - 1) = omega (arith, c.loop-i-test.true, c.loop-i.auto.i) in
+    let same : i ≡ suc (i - 1) = omega (arith, c.loop-i-test.true) in (
       subst (λ (k : ℕ). 2 * c.loop-i.rows + c.digit_of.result < 2 ^ k) more
-          (omega (arith, inv.1, c.digit_of.ensures.0, pow-suc 2 (a.n - i))),
+          (omega (arith, inv.0, c.digit_of.ensures.0, pow-suc 2 (a.n - i))),
       λ h e s.
           let test = is_of h.monitor a.kind in
-          ap₂ (λ (x d : ℕ). 2 * x + d) (inv.2 h e s ∙ ap (λ (k : ℕ). set_from test k (a.n - i)) same) (c.digit_of.ensures.1 h e s)
+          ap₂ (λ (x d : ℕ). 2 * x + d) (inv.1 h e s ∙ ap (λ (k : ℕ). set_from test k (a.n - i)) same) (c.digit_of.ensures.1 h e s)
           ∙ ap (set_from test (i - 1)) more,
     )
-
-pub returns : goal.returns
-returns c h e s =
-    let l = c.loop-i in let a = c.args in
-    let at_end : l.i ≡ 0 = omega (arith, c.loop-i-test.false) in
-    let all : a.n - l.i ≡ a.n = omega (arith, at_end) in
-    l.invariant.2 h e s ∙ ap₂ (set_from (is_of h.monitor a.kind)) at_end all
 
 -- there are at most 32 digits
 small : (n i rows : ℕ) → n ≤ 32 → rows < 2 ^ (n - i) → rows < 4294967296
@@ -39,8 +31,4 @@ small n i rows few below =
     omega (arith, below, most)
 
 pub overflow_mul-rows : goal.overflow_mul-rows
-overflow_mul-rows c = omega (arith, small c.args.n c.loop-i.i c.loop-i.rows c.requires c.loop-i.invariant.1)
-
-pub overflow_add-rows : goal.overflow_add-rows
-overflow_add-rows c =
-    omega (arith, small c.args.n c.loop-i.i c.loop-i.rows c.requires c.loop-i.invariant.1, c.digit_of.ensures.0)
+overflow_mul-rows c = omega (arith, small c.args.n c.loop-i.i c.loop-i.rows c.requires c.loop-i.invariant.0)

@@ -5,16 +5,16 @@ use Rattle.join.proofs.following.Goals as goal
 
 pub returns-then-b-a : goal.returns-then-b-a
 returns-then-b-a c =
-    let args = c.args in (
-      λ one two heads others. comes_second one two args.place args.other args.a args.b heads others c.if-b-a.true,
+    let a = c.args.a in let b = c.args.b in (
+      λ one two heads others. comes_second one two a.place b.place a.head b.head heads others c.if-b-a.true,
       omega arith,
       omega arith,
     )
 
 pub returns : goal.returns
 returns c =
-    let args = c.args in (
-      λ one two heads others. comes_first one two args.place args.other args.a args.b heads others c.if-b-a.false,
+    let a = c.args.a in let b = c.args.b in (
+      λ one two heads others. comes_first one two a.place b.place a.head b.head heads others c.if-b-a.false,
       omega arith,
       omega arith,
     )

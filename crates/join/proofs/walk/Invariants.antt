@@ -10,13 +10,14 @@ last = 18446744073709551615
 
 abbrev pub invariant-loop-a : goal.invariant-loop-a
 invariant-loop-a l =
-    (l.size ≤ l.limit) × (length l.buffer ≡ length l.initial.buffer) × HeadAt l.first l.place l.a × HeadAt l.second l.other l.b
-    × (l.place + l.a.size ≤ last)
-    × (l.other + l.b.size ≤ last)
+    (l.part.size ≤ l.limit) × (length l.buffer ≡ length l.initial.buffer)
+    × HeadAt l.first l.a.place l.a.head × HeadAt l.second l.b.place l.b.head
+    × (l.a.place + l.a.head.size ≤ last)
+    × (l.b.place + l.b.head.size ≤ last)
     × ((a b : List Step) → Records l.first 1 a → Records l.second 1 b
-    → Walking l.first l.second l.initial.buffer l.limit l.place l.other l.clock l.size l.buffer a b)
+    → Walking l.first l.second l.initial.buffer l.limit l.a.place l.b.place l.part.clock l.part.size l.buffer a b)
     × (length l.first ≤ last) × (length l.second ≤ last)
 
 abbrev pub decreases-loop-a : goal.decreases-loop-a
 decreases-loop-a l =
-    (length l.first - l.place) + (length l.second - l.other)
+    (length l.first - l.a.place) + (length l.second - l.b.place)

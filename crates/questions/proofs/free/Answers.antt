@@ -1,8 +1,6 @@
 -- After an event its time is taken.
+use Rattle.constraint.proofs.Library.{⊎_elim}
 use Rattle.questions.proofs.free.Goals as goal
 
 pub returns-in-Event : goal.returns-in-Event
-returns-in-Event c = rw c.in-Event.is c.plus.ensures
-
-pub returns-in-ColouredEvent : goal.returns-in-ColouredEvent
-returns-in-ColouredEvent c = rw c.in-ColouredEvent.is c.plus-in-ColouredEvent.ensures
+returns-in-Event c = ⊎_elim (λ is. rw is.1 c.saturating_add.ensures) (λ is. rw is.2 c.saturating_add.ensures) c.in-Event.is

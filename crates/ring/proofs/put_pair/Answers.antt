@@ -7,8 +7,5 @@ beyond : (q : Ring) (place first second : ℕ) → q.len ≤ place → put_ring 
 unfolding put_ring
 beyond q place first second out = rw (le-ltb place q.len out, le-ltb (place + 1) q.len (omega arith))
 
-pub returns-then-place-len : goal.returns-then-place-len
-returns-then-place-len c = rw (← c.put.ensures) c.put-then-place-len.ensures
-
 pub returns-else-place-len : goal.returns-else-place-len
 returns-else-place-len c = sym (beyond _ _ _ _ c.if-place-len.false)

@@ -22,17 +22,7 @@ bounds-need-first c =
 
 pub returns-then-need-first : goal.returns-then-need-first
 returns-then-need-first c =
-    let inv = c.loop-size.invariant in
-    let more = c.loop-size-test.true in
-    record {
-      none = λ e. absurd (omega (arith, e));
-      first_is = λ h. search_found c.args.count c.args.need.now _ _ _ inv more c.if-need-first.true;
-      small = (
-        omega (arith, c.requires, inv.inside more, inv.positive),
-        omega (arith, c.requires, more),
-        omega (arith, c.requires, inv.small, inv.inside more, inv.positive),
-      );
-    }
+    search_found c.args.count c.args.need.now _ _ _ c.loop-size.invariant c.loop-size-test.true c.if-need-first.true
 
 pub overflow_add-first : goal.overflow_add-first
 overflow_add-first c =
@@ -75,12 +65,7 @@ loop-size-preserved c =
     c.if-need-first.false c.requires c.if-first-size.false
 
 pub returns : goal.returns
-returns c =
-    record {
-      none = λ e. search_end c.args.count c.args.need.now _ _ _ c.loop-size.invariant c.loop-size-test.false;
-      first_is = λ h. absurd (omega (arith, h));
-      small = (omega arith, omega arith, omega arith);
-    }
+returns c = search_end c.args.count c.args.need.now _ _ _ c.loop-size.invariant c.loop-size-test.false
 
 pub loop-size-init : goal.loop-size-init
 loop-size-init c = search_start _ _

@@ -1,8 +1,8 @@
 -- The number is that of the stretch, or that of the refusal, which is from 1 to 127, and its place.
 use Rattle.constraint.proofs.Judged.{never}
 use Rattle.constraint.proofs.Library.{◌<◌, ◌≡◌, arith, refl, ℕ}
-use Rattle.constraint.specs.{Stretches.AnswersStretchUpTo, declared.StretchAnswer.StretchAnswer}
-use Rattle.stretch_ffi.proofs.{StretchNumbers.stretch_short}
+use Rattle.constraint.proofs.Refusals.{numbered}
+use Rattle.constraint.specs.{Answers.refused_number, Stretches.StretchAnswer}
 use Rattle.stretch_ffi.proofs.stretch_number.Goals as goal
 
 -- the number of a refusal is small
@@ -19,27 +19,24 @@ stretch_parts first size tried a b c one two three e =
     let tried_is : tried ≡ c = cc in
     (omega (arith, one, first_is), omega (arith, two, size_is), omega (arith, three, tried_is))
 
-pub returns-in-Found : goal.returns-in-Found
-returns-in-Found c =
-    let a = c.in-Found in
+pub returns-in-Ok : goal.returns-in-Ok
+returns-in-Ok c =
+    let a = c.in-Ok.found in
     record {
       answer = StretchAnswer.Found a.first a.size a.tried;
-      answers = rw a.is at c.shortest-answer.ensures;
-      equals = refl;
+      answers = rw c.in-Ok.is at c.shortest.ensures;
+      equals = rw (c.from.ensures, c.from-in-Ok.ensures, c.from-in-Ok-2.ensures) refl;
       small = λ n place e. never (cc);
       parts = λ first size tried e. stretch_parts a.first a.size a.tried first size tried (omega arith) (omega arith) (omega arith) e;
     }
 
-pub returns-in-Refused : goal.returns-in-Refused
-returns-in-Refused c =
-    let args = c.args in
-    let a = c.in-Refused in
-    let says : AnswersStretchUpTo args.newest args.table.now args.recording.now args.row (StretchAnswer.Refused a.number a.place) =
-    rw a.is at c.shortest-answer.ensures in
+pub returns-in-Err : goal.returns-in-Err
+returns-in-Err c =
+    let refused = c.in-Err.refused in
     record {
-      answer = StretchAnswer.Refused a.number a.place;
-      answers = says;
-      equals = omega (arith, c.place_number.ensures);
-      small = λ n place e. refusal_small a.number a.place n place (stretch_short _ _ _ _ _ says).0 (omega arith) e;
+      answer = StretchAnswer.Refused (refused_number refused) refused.place;
+      answers = rw c.in-Err.is at c.shortest.ensures;
+      equals = c.refusal_number.ensures;
+      small = λ n place e. refusal_small _ refused.place n place (numbered refused.refusal).0 (omega (arith, (numbered refused.refusal).1)) e;
       parts = λ first size tried e. never (cc);
     }

@@ -1,18 +1,8 @@
 -- The number of a kind lies at the kind's place among a row's numbers: the three tests that choose the one choose the other.
-use Rattle.constraint.proofs.Library.{Bool, List, [], ◌<◌, ◌∷◌, ◌≡◌, ap, arith, cond, eqb, false, get_or, refl, set, true, ℕ}
+use Rattle.constraint.proofs.Library.{Bool, List, [], ◌∷◌, ◌≡◌, ap, cond, eqb, false, get_or, refl, set, true, ℕ}
 use Rattle.row_type.specs.Words.{UndoRecord, number_words, parameters_at, registers_at, row_as_words, with_registers}
 use Rattle.row_type.specs.{declared.Parameters.Parameters, declared.Registers.Registers, declared.State.State}
 use Rattle.synchronizations.specs.Kinds.{register_of, register_place, with_four, with_register_of}
-
-pub place_small : (parameters : Parameters) (kind place : ℕ) → place ≡ register_place parameters kind → place < 64
-unfolding register_place
-place_small parameters kind place is = rw is (by (eqb kind parameters.first) (eqb kind parameters.second) (eqb kind parameters.third))
-  where
-    by : (a b c : Bool) → cond a 11 (cond b 12 (cond c 13 14)) < 64
-    by true b c = omega arith
-    by false true c = omega arith
-    by false false true = omega arith
-    by false false false = omega arith
 
 pub register_at : (w : List ℕ) (parameters : Parameters) (kind : ℕ)
     → get_or w (register_place parameters kind) 0 ≡ register_of parameters (registers_at w) kind

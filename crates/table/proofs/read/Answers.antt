@@ -4,20 +4,12 @@ use Rattle.table.proofs.read.Goals as goal
 
 pub returns-then-not-version_known : goal.returns-then-not-version_known
 returns-then-not-version_known c =
-    let refused = c.refused.ensures in let test = c.version_known in
-    record {
-      reads = rw refused.0 (version_refused (failed test.result test.ensures (ap not c.if-not-version_known.true)));
-      holds = rw refused.0 refused.1;
-    }
+    let test = c.version_known in version_refused (failed test.result test.ensures (ap not c.if-not-version_known.true))
 
 pub returns : goal.returns
 returns c =
-    let edition = c.byte_at-edition in let a = c.args in let read = c.read_rows in
-    record {
-      reads = version_taken (yes_of c.version_known.result c.version_known.ensures c.if-not-version_known.false)
-          (subst (λ (e : ℕ). ReadsRows e a.bytes.now 0 1 (read_of read.result)) edition.ensures read.ensures.0);
-      holds = read.ensures.1;
-    }
+    version_taken (yes_of c.version_known.result c.version_known.ensures c.if-not-version_known.false)
+    (subst (λ (e : ℕ). ReadsRows e c.args.bytes.now 0 1 (read_of c.read_rows.result)) c.byte_at-edition.ensures c.read_rows.ensures)
 
 pub read_rows-requires : goal.read_rows-requires
 read_rows-requires c = (yes_of c.version_known.result c.version_known.ensures c.if-not-version_known.false).0

@@ -1,24 +1,10 @@
--- The code is that of the reader's answer.
+-- The code is that of the reader's result.
 use Rattle.constraint.proofs.Library.{sym}
 use Rattle.table_row.proofs.Tables.{rows_length}
-use Rattle.table.proofs.Answers.{reads_as}
 use Rattle.table_ffi.proofs.table_read.Goals as goal
 
-pub returns-in-Accepted : goal.returns-in-Accepted
-returns-in-Accepted c =
-    let r = c.read-reading in
-    record {
-      read = _;
-      reads = reads_as c.args.bytes.now r.result _ c.in-Accepted.is r.ensures;
-      code = sym (rows_length r.result.table);
-    }
+pub returns-in-Ok : goal.returns-in-Ok
+returns-in-Ok c = record { read = _; reads = rw c.in-Ok.is at c.read.ensures; code = sym (rows_length c.in-Ok.rows) }
 
-pub returns-in-Refused : goal.returns-in-Refused
-returns-in-Refused c =
-    let r = c.read-reading in
-    record {
-      read = _;
-      reads = reads_as c.args.bytes.now r.result _ c.in-Refused.is
-          r.ensures;
-      code = c.refusal_code.ensures;
-    }
+pub returns-in-Err : goal.returns-in-Err
+returns-in-Err c = record { read = _; reads = rw c.in-Err.is at c.read.ensures; code = c.refusal_code.ensures }

@@ -1,9 +1,9 @@
 -- EachField test answers its question of the record's fields, which are the constraint's.
-use Rattle.constraint.proofs.Library.{List, ◌∷◌, ◌≡◌, [], ap, length, subst, ℕ, not}
+use Rattle.constraint.proofs.Library.{List, ◌∷◌, ◌≡◌, [], ap, subst, ℕ, not}
 use Rattle.constraint.proofs.Judged.{failed, judged_no, judged_none, judged_yes, passed}
 use Rattle.constraint.specs.Questions.{Judged, Question}
 use Rattle.constraint.specs.Steps.{at}
-use Rattle.constraint.specs.declared.Answer.{Answer}
+use Rattle.constraint.specs.Answer.{Answer}
 use Rattle.constraint.specs.Types.{Field, TypeKnown}
 use Rattle.constraint.specs.Accepted.{EachField, FieldInRange, KindsFit, Ordered, KindClassFits, kinds_in, row_questions_in}
 use Rattle.table_row.specs.Records.{fields_as, fields_from, roles_of, row_read}
@@ -77,7 +77,7 @@ returns-then-not-lower_first c =
     (judged_no 7 _ _ (failed c.lower_first.result c.lower_first.ensures (ap not c.if-not-lower_first.true)))
 
 pub lower_first-requires : goal.lower_first-requires
-lower_first-requires c = (ap length c.roles_of-roles.ensures, (passed c.ranges_fit.result c.ranges_fit.ensures (ap not c.if-not-ranges_fit.false)))
+lower_first-requires c = passed c.ranges_fit.result c.ranges_fit.ensures (ap not c.if-not-ranges_fit.false)
 
 pub returns : goal.returns
 returns c =
@@ -88,12 +88,3 @@ returns c =
     (passed c.ranges_fit.result c.ranges_fit.ensures (ap not c.if-not-ranges_fit.false))
     _
     (judged_yes 7 _ _ _ (passed c.lower_first.result c.lower_first.ensures (ap not c.if-not-lower_first.false)) judged_none)
-
-pub kinds_fit-requires : goal.kinds_fit-requires
-kinds_fit-requires c = ap length c.roles_of-roles.ensures
-
-pub kind_classes_valid-requires : goal.kind_classes_valid-requires
-kind_classes_valid-requires c = ap length c.roles_of-roles.ensures
-
-pub ranges_fit-requires : goal.ranges_fit-requires
-ranges_fit-requires c = ap length c.roles_of-roles.ensures

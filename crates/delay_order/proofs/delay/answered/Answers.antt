@@ -1,6 +1,6 @@
 -- The target answers every source that the loop has passed; once it has passed 64 it has passed every time of the ring, which repeats itself.
-use Rattle.constraint.proofs.Library.{Bool, List, [], ◌%◌, ◌+◌, ◌<◌, ◌∙◌, ◌∷◌, ◌≡◌, ◌≤◌, ◌⊎◌, ap, arith, by_cases, false, get_or, inl, inr, leb}
-use Rattle.constraint.proofs.Library.{length, refl, suc, sym, true, zero, ℕ, ℕ_discrete}
+use Rattle.constraint.proofs.Library.{Bool, List, [], ◌%◌, ◌+◌, ◌<◌, ◌∙◌, ◌∷◌, ◌≡◌, ◌≤◌, ap, arith, by_cases, false, get_or, leb}
+use Rattle.constraint.proofs.Library.{length, min, refl, suc, sym, true, zero, ℕ, ℕ_discrete}
 use Rattle.delay_order.specs.Delay.{answered_by}
 use Rattle.ring.proofs.{Laws.ring_length, Laws.ring_read, Laws.ring_round}
 use Rattle.ring.specs.Ring.{ring, time_at}
@@ -36,42 +36,26 @@ module _ (lower t : ℕ) (times : List ℕ) (head len n : ℕ) (passed : (i : �
     one_more e i h = by_cases (ℕ_discrete i n) (λ same. rw (same, ← at) (sym test ∙ e)) (λ other. passed i (omega arith))
 
   -- every source is one of those passed
-  ends : (len ≤ n) ⊎ (64 ≤ n) → len ≡ answered_by lower t (ring times head len)
+  ends : min len 64 ≤ n → len ≡ answered_by lower t (ring times head len)
   ends over =
       sym (all_passed lower t (ring times head len)
-      (λ i h. let here : i < len = rw ring_length at h in rw (← ring_read times head len i here) (each over i here)) ∙ ring_length times head len)
-    where
-      each : (len ≤ n) ⊎ (64 ≤ n) → (i : ℕ) → i < len → leb (time_at times head i + lower) t ≡ true
-      each (inl h) i here = passed i (omega arith)
-      each (inr h) i here = rw (ring_round times head i) (passed (i % 64) (omega arith))
+      (λ i h. let here : i < len = rw ring_length at h in
+      rw (← ring_read times head len i here, ring_round times head i) (passed (i % 64) (omega arith)))
+      ∙ ring_length times head len)
 
 pub returns-then-not-reaches : goal.returns-then-not-reaches
 returns-then-not-reaches c =
-    let s = c.time_at in let r = c.reaches in
+    let s = c.at in let r = c.reaches in
     let a = c.args in
-    stops a.lower a.t a.times.now a.head a.len _ c.loop-n.invariant.2 _ s.ensures _ r.ensures c.loop-n-test.true
-    c.if-not-reaches.true
-
-pub loop-n-smaller : goal.loop-n-smaller
-loop-n-smaller c =
-    omega arith
+    stops a.lower a.t a.times.words.now a.times.head a.times.len _ c.loop-n.invariant _ s.ensures _ r.ensures (omega arith) c.if-not-reaches.true
 
 pub loop-n-preserved : goal.loop-n-preserved
 loop-n-preserved c =
-    let s = c.time_at in let r = c.reaches in
+    let s = c.at in let r = c.reaches in
     let a = c.args in
-    let more = one_more a.lower a.t a.times.now a.head a.len _ c.loop-n.invariant.2 _ s.ensures _ r.ensures in
-    (omega arith, omega arith, more c.if-not-reaches.false)
+    one_more a.lower a.t a.times.words.now a.times.head a.times.len _ c.loop-n.invariant _ s.ensures _ r.ensures c.if-not-reaches.false
 
-pub returns-else-n-lt-SIZE : goal.returns-else-n-lt-SIZE
-returns-else-n-lt-SIZE c =
+pub returns : goal.returns
+returns c =
     let a = c.args in
-    ends a.lower a.t a.times.now a.head a.len _ c.loop-n.invariant.2 (inr c.if-n-lt-SIZE.false)
-
-pub returns-after-loop-n : goal.returns-after-loop-n
-returns-after-loop-n c =
-    let a = c.args in
-    ends a.lower a.t a.times.now a.head a.len _ c.loop-n.invariant.2 (inl c.loop-n-test.false)
-
-pub loop-n-init : goal.loop-n-init
-loop-n-init c = (omega arith, omega arith, λ i h. absurd (omega arith))
+    ends a.lower a.t a.times.words.now a.times.head a.times.len _ c.loop-n.invariant (omega arith)

@@ -32,7 +32,8 @@ returns c parameters times state past e =
     let k = c.save_undo_last.ensures parameters times state past e in
     rw (
       c.fewer_wait-2.ensures parameters times state (undo_with past (last_saved state.registers past.state.registers)) k,
-      c.plus.ensures,
+      c.saturating_add.ensures,
       ne_eqb _ _ (rw k at c.if-stream-row.false),
       rw k at c.answered-dropped.ensures,
+      rw k at c.times.ensures.times,
     ) refl

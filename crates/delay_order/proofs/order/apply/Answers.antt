@@ -45,7 +45,7 @@ returns-then-early-eq0 c parameters times state past e =
     let wait = waiting more none (omega arith) in
     rw (
       c.wait_for_target.ensures parameters _ _ (ap (λ w. get_or w 1 []) stayed),
-      c.plus.ensures,
+      c.saturating_add.ensures,
       stayed,
       eq-eqb _ _ (rw stayed at c.if-stream-row.true),
       eq-eqb _ _ none,
@@ -74,7 +74,7 @@ returns-then-ahead-eq0 c parameters times state past e =
     let stayed = c.stay.ensures parameters times state (undo_with past (first_three_saved state.registers past.state.registers)) k in
     rw (
       c.store-then-ahead-eq0.ensures parameters _ _ (ap (λ w. get_or w 1 []) stayed),
-      c.plus-then-ahead-eq0.ensures,
+      c.saturating_add-then-ahead-eq0.ensures,
       stayed,
       ne_eqb _ _ (rw stayed at c.if-stream-row.false),
       eq-eqb _ _ (rw stayed at c.if-ahead-eq0.true),

@@ -1,6 +1,6 @@
 -- A source waits unless there is a target beyond; a target takes the oldest source that waits, if that is long enough before it, or is one beyond.
 use Rattle.constraint.proofs.Library.{[], ap, eq-eqb, get_or, ne_eqb, refl, set}
-use Rattle.row_type.proofs.Oldest.{none_left_ring}
+use Rattle.row_type.proofs.Oldest.{front_at, none_left_ring}
 use Rattle.row_type.specs.Words.{changed_words, last_saved, number_words, undo_with, row_as_words}
 use Rattle.delay_order.specs.StrongDelay.{decide_strong_delay, source_strong_delay, target_strong_delay}
 use Rattle.delay_order.proofs.strong_delay.apply.Goals as goal
@@ -30,26 +30,26 @@ unfolding row_as_words number_words changed_words decide_strong_delay target_str
 returns-then-lower-eq0 c parameters times state past e =
     let k = c.save_undo_last.ensures parameters times state past e in
     let stayed = c.stay.ensures parameters times state (undo_with past (last_saved state.registers past.state.registers)) k in
-    let done = c.settle.ensures parameters _ _ (ap (λ w. get_or (set w 1 (set (get_or w 1 []) 10 c.plus.result)) 1 []) stayed) in
+    let done = c.settle.ensures parameters _ _ (ap (λ w. get_or (set w 1 (set (get_or w 1 []) 10 c.saturating_add.result)) 1 []) stayed) in
     rw (
       done,
-      c.plus.ensures,
+      c.saturating_add.ensures,
       stayed,
       ne_eqb _ _ (rw k at c.if-stream-row.false),
       none_left_ring,
-      eq-eqb _ _ (rw k at c.if-len-eq0.true),
+      eq-eqb _ _ (rw (c.times-times.ensures.len, k) at c.if-times-eq0.true),
       eq-eqb _ _ (rw k at c.if-lower-eq0.true),
     ) refl
 
-pub returns-then-len-eq0 : goal.returns-then-len-eq0
+pub returns-then-times-eq0 : goal.returns-then-times-eq0
 unfolding row_as_words number_words changed_words decide_strong_delay target_strong_delay
-returns-then-len-eq0 c parameters times state past e =
+returns-then-times-eq0 c parameters times state past e =
     let k = c.save_undo_last.ensures parameters times state past e in
     rw (
       c.break_at.ensures parameters times state (undo_with past (last_saved state.registers past.state.registers)) k,
       ne_eqb _ _ (rw k at c.if-stream-row.false),
       none_left_ring,
-      eq-eqb _ _ (rw k at c.if-len-eq0.true),
+      eq-eqb _ _ (rw (c.times-times.ensures.len, k) at c.if-times-eq0.true),
       ne_eqb _ _ (rw k at c.if-lower-eq0.false),
     ) refl
 
@@ -61,8 +61,9 @@ returns-then-reaches c parameters times state past e =
       c.fewer_wait-then-reaches.ensures parameters times state (undo_with past (last_saved state.registers past.state.registers)) k,
       ne_eqb _ _ (rw k at c.if-stream-row.false),
       none_left_ring,
-      ne_eqb _ _ (rw k at c.if-len-eq0.false),
-      ← rw k at c.front.ensures,
+      ne_eqb _ _ (rw (c.times-times.ensures.len, k) at c.if-times-eq0.false),
+      front_at,
+      ← rw (c.times-times.ensures.times, k) at c.front.ensures,
       ← rw k at c.reaches.ensures,
       c.if-reaches.true,
     ) refl
@@ -75,8 +76,9 @@ returns c parameters times state past e =
       c.break_at-2.ensures parameters times state (undo_with past (last_saved state.registers past.state.registers)) k,
       ne_eqb _ _ (rw k at c.if-stream-row.false),
       none_left_ring,
-      ne_eqb _ _ (rw k at c.if-len-eq0.false),
-      ← rw k at c.front.ensures,
+      ne_eqb _ _ (rw (c.times-times.ensures.len, k) at c.if-times-eq0.false),
+      front_at,
+      ← rw (c.times-times.ensures.times, k) at c.front.ensures,
       ← rw k at c.reaches.ensures,
       c.if-reaches.false,
     ) refl

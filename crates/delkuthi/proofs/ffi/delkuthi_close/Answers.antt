@@ -3,4 +3,4 @@ use Rattle.delkuthi.proofs.Names.{takes_of}
 use Rattle.delkuthi.proofs.ffi.delkuthi_close.Goals as goal
 
 pub returns : goal.returns
-returns c = takes_of c.close.ensures
+returns c = rw c.call_number.ensures (takes_of c.close.ensures)

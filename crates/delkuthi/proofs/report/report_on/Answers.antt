@@ -4,5 +4,4 @@ use Rattle.delkuthi.proofs.report.report_on.Goals as goal
 
 pub returns : goal.returns
 returns c =
-    reports_on c.summary_of-summary.result c.answer_on-answer.ensures c.summary_of-summary.ensures
-    c.write.ensures
+    reports_on c.summary_of.result c.answer_on-answer.ensures c.summary_of.ensures c.write.ensures

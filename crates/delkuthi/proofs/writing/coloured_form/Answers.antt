@@ -1,24 +1,14 @@
 -- The tests are those of the questions, in their order.
-use Rattle.delkuthi.proofs.Names.{Refused, arith, judged_no, judged_yes}
+use Rattle.delkuthi.proofs.Names.{Refused, arith, inl, inr, judged_no, judged_yes}
 use Rattle.delkuthi.proofs.writing.coloured_form.Goals as goal
 
 pub returns-then-kind-lt-FIRST_COLOURED : goal.returns-then-kind-lt-FIRST_COLOURED
-returns-then-kind-lt-FIRST_COLOURED c = judged_yes 9 _ _ (Refused 19) (omega (
-  arith,
-  c.if-kind-gt-LAST_KIND.false,
-)) (judged_no 19 _ _ (λ h. omega (arith, h.0, c.if-kind-lt-FIRST_COLOURED.true)))
-
-pub returns-then-colour-gt-LAST_COLOUR : goal.returns-then-colour-gt-LAST_COLOUR
-returns-then-colour-gt-LAST_COLOUR c = judged_yes 9 _ _ (Refused 19) (omega (
-  arith,
-  c.if-kind-gt-LAST_KIND.false,
-)) (judged_no 19 _ _ (λ h. omega (arith, h.1, c.if-colour-gt-LAST_COLOUR.true)))
-
-pub returns-then-version-eq1 : goal.returns-then-version-eq1
-returns-then-version-eq1 c = judged_yes 9 _ _ (Refused 19) (omega (
-  arith,
-  c.if-kind-gt-LAST_KIND.false,
-)) (judged_no 19 _ _ (λ h. h.2 c.if-version-eq1.true))
+returns-then-kind-lt-FIRST_COLOURED c =
+    judged_yes 9 _ _ (Refused 19) (omega (arith, c.if-kind-gt-LAST_KIND.false))
+    (judged_no 19 _ _ (λ h. elim c.then-kind-lt-FIRST_COLOURED.either [
+      | inl plain ↦ omega (arith, h.0, plain)
+      | inr coloured ↦ elim coloured [ inl far ↦ omega (arith, h.1, far) | inr none ↦ h.2 none.2 ]
+    ]))
 
 pub returns : goal.returns
 returns c =

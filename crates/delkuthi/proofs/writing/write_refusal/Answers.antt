@@ -1,41 +1,33 @@
--- The questions are put in their order, and the first "no" gives the number.
-use Rattle.delkuthi.proofs.Names.{ap, arith, failed, passed}
-use Rattle.constraint.proofs.Library.{not}
-use Rattle.delkuthi.proofs.WrittenRecords.{form_refused, no_room, room_there, unknown_version}
+-- The questions are put in their order, and the first "no" gives the refusal.
+use Rattle.std.proofs.lemmas.Result.{err_from_is_err_and}
+use Rattle.delkuthi.proofs.Names.{arith, inl, inr}
+use Rattle.delkuthi.proofs.WrittenRecords.{form_refused, no_room, place_least, room_there, unknown_version}
 use Rattle.delkuthi.proofs.writing.write_refusal.Goals as goal
 
-pub returns-then-not-version_fits : goal.returns-then-not-version_fits
-returns-then-not-version_fits c =
+pub returns-then-version-ne2 : goal.returns-then-version-ne2
+returns-then-version-ne2 c =
     let args = c.args in
     unknown_version args.recording.now args.size args.call c.version_for-version.result c.version_for-version.ensures
-    (failed c.version_fits.result c.version_fits.ensures (ap not c.if-not-version_fits.true))
+    (λ known. elim known [ inl one ↦ c.if-version-ne1.true one | inr two ↦ c.if-version-ne2.true two ])
 
-pub returns-then-form-gt0 : goal.returns-then-form-gt0
-returns-then-form-gt0 c =
+pub returns-in_err-form_refusal : goal.returns-in_err-form_refusal
+returns-in_err-form_refusal c =
     let args = c.args in
-    form_refused args.recording.now args.size args.call c.version_for-version.result c.version_for-version.ensures
-    (passed c.version_fits.result c.version_fits.ensures (ap not c.if-not-version_fits.false)) c.form_refusal-form.result c.if-form-gt0.true
-    c.form_refusal-form.ensures
+    let exit = err_from_is_err_and c.from_residual.result c.from_residual.ensures.1 in
+    rw (exit.1, exit.2)
+    (form_refused args.recording.now args.size args.call c.version_for-version.result c.version_for-version.ensures
+    (elim c.else-version-ne1.either [ inl two ↦ inr two.1 | inr one ↦ inl one ]) _ c.in_err-form_refusal.ensures)
 
-pub returns-then-recording-more : goal.returns-then-recording-more
-returns-then-recording-more c =
-    let args = c.args in
-    no_room args.recording.now args.size args.call c.version_for-version.result c.version_for-version.ensures
-    (passed c.version_fits.result c.version_fits.ensures (ap not c.if-not-version_fits.false)) c.form_refusal-form.result
-    (omega (arith, c.if-form-gt0.false)) c.form_refusal-form.ensures (λ room. omega (arith, room, c.size_of-more.ensures, c.if-recording-more.true))
-
-pub returns-then-recording-more-2 : goal.returns-then-recording-more-2
-returns-then-recording-more-2 c =
+pub returns-then-saturating_sub-place_for : goal.returns-then-saturating_sub-place_for
+returns-then-saturating_sub-place_for c =
     let args = c.args in
     no_room args.recording.now args.size args.call c.version_for-version.result c.version_for-version.ensures
-    (passed c.version_fits.result c.version_fits.ensures (ap not c.if-not-version_fits.false)) c.form_refusal-form.result
-    (omega (arith, c.if-form-gt0.false)) c.form_refusal-form.ensures
-    (λ room. omega (arith, room, c.size_of-more.ensures, c.place_for.ensures, c.if-recording-more.false, c.if-recording-more-2.true))
+    (elim c.else-version-ne1.either [ inl two ↦ inr two.1 | inr one ↦ inl one ]) c.in_ok-form_refusal.ensures
+    (λ room. omega (arith, room, c.size_of.ensures, c.place_for.ensures, c.saturating_sub.ensures, c.if-saturating_sub-place_for.true))
 
 pub returns : goal.returns
 returns c =
     let args = c.args in
     room_there args.recording.now args.size args.call c.version_for-version.result c.version_for-version.ensures
-    (passed c.version_fits.result c.version_fits.ensures (ap not c.if-not-version_fits.false)) c.form_refusal-form.result
-    (omega (arith, c.if-form-gt0.false)) c.form_refusal-form.ensures
-    (omega (arith, c.size_of-more.ensures, c.place_for.ensures, c.if-recording-more.false, c.if-recording-more-2.false))
+    (elim c.else-version-ne1.either [ inl two ↦ inr two.1 | inr one ↦ inl one ]) c.in_ok-form_refusal.ensures
+    (omega (arith, place_least args.size, c.size_of.ensures, c.place_for.ensures, c.saturating_sub.ensures, c.if-saturating_sub-place_for.false))

@@ -1,4 +1,5 @@
 -- The mark and the two numbers are stored at their places, and nothing else.
+use Rattle.row_type.proofs.Tests.{bool_number}
 use Rattle.constraint.proofs.Library.{◌-◌, ◌∙◌, refl}
 use Rattle.constraint.specs.Limits.{no_limit}
 use Rattle.row_type.specs.{Parts.with_last, Words.number_words, Words.with_registers}
@@ -9,4 +10,4 @@ unfolding number_words
 returns c parameters state past e =
     let a = c.args in
     c.settle.ensures parameters (with_registers state (with_last state.registers (no_limit - a.due))) past (rw e refl)
-    ∙ rw c.one_if.ensures refl
+    ∙ rw (c.from.ensures, bool_number) refl

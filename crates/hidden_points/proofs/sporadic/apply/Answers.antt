@@ -1,5 +1,6 @@
 -- The first event may have its point anywhere within its jitter; a later one goes on where the three tests hold.
-use Rattle.constraint.proofs.Library.{Bool, List, ◌&&◌, ◌∙◌, ◌≡◌, ap, eq-eqb, eqb, false, le-leb, leb, lt-leb, ne_eqb, refl, sym, true, ℕ}
+use Rattle.constraint.proofs.Library.{Bool, List, ◌&&◌, ◌∙◌, ◌≡◌, ap, eq-eqb, eqb, false, le-leb, leb, lt-leb, ne_eqb, refl, sym, ℕ}
+use Rattle.std.proofs.lemmas.Bool.{and_left, and_right}
 use Rattle.ring.specs.Ring.{ring}
 use Rattle.row_type.specs.{Parts.breaking, Parts.far_enough, declared.Parameters.Parameters, declared.Registers.Registers}
 use Rattle.row_type.specs.Words.{changed_words, number_words, row_as_words}
@@ -20,32 +21,18 @@ breaks : (parameters : Parameters) (registers : Registers) (kept : List ℕ) (st
 unfolding decide_sporadic later_sporadic
 breaks parameters registers kept stream t later stops = rw (stops, later) refl
 
--- one of them that does not hold is enough
-and_false : (x : Bool) → (x && false) ≡ false
-and_false true = refl
-and_false false = refl
-
-first_fails : (x y : Bool) → x ≡ false → (x && y) ≡ false
-first_fails x y e = rw e refl
-
-second_fails : (x y z : Bool) → y ≡ false → (x && (y && z)) ≡ false
-second_fails x y z e = rw e (and_false x)
-
-third_fails : (x y z : Bool) → z ≡ false → (x && (y && z)) ≡ false
-third_fails x y z e = rw (e, and_false y) (and_false x)
-
 pub returns-then-last-eq0 : goal.returns-then-last-eq0
 unfolding row_as_words number_words decide_sporadic
 returns-then-last-eq0 c parameters times state past e =
-    rw (c.place.ensures parameters times state past e, rw e at c.minus-near.ensures, eq-eqb _ _ (rw e at c.if-last-eq0.true)) refl
+    rw (c.place.ensures parameters times state past e, rw e at c.saturating_sub-near.ensures, eq-eqb _ _ (rw e at c.if-last-eq0.true)) refl
 
 pub returns-then-low-high : goal.returns-then-low-high
 unfolding row_as_words number_words decide_sporadic later_sporadic
 returns-then-low-high c parameters times state past e =
     let a = c.args in
     let strides : c.stride-stride.result ≡ stride parameters.lower = rw e at c.stride-stride.ensures in
-    let low : c.larger-low.result ≡ lowest parameters state.registers a.t = c.larger-low.ensures
-    ∙ rw (c.plus.ensures, strides, c.minus-near.ensures, e) refl in
+    let low : c.max-low.result ≡ lowest parameters state.registers a.t = c.max-low.ensures
+    ∙ rw (c.saturating_add.ensures, strides, c.saturating_sub-near.ensures, e) refl in
     let high : c.latest-high.result ≡ highest parameters state.registers a.t = rw e at c.latest-high.ensures in
     rw (
       c.place-then-low-high.ensures parameters times state past e,
@@ -71,16 +58,17 @@ returns c parameters times state past e =
     let stops : goes parameters state.registers a.t ≡ false =
     elim c.if-stride-upper.branch [
       | then-stride-upper+then-far_enough+else-low-high w ↦
-          let low : w.larger-low.result ≡ lowest parameters state.registers a.t = w.larger-low.ensures
-          ∙ rw (w.plus.ensures, strides, c.minus-near.ensures, e) refl in
+          let low : w.max-low.result ≡ lowest parameters state.registers a.t = w.max-low.ensures
+          ∙ rw (w.saturating_add.ensures, strides, c.saturating_sub-near.ensures, e) refl in
           let high : w.latest-high.result ≡ highest parameters state.registers a.t = rw e at w.latest-high.ensures in
           let none : room ≡ false = rw (← low, ← high) (lt-leb _ _ w.if-low-high.false) in
-          third_fails far wide room none
+          and_right far (wide && room) (and_right wide room none)
       | else-stride-upper v ↦ elim v.else-stride-upper.branch [
         | else-stride-upper-via-then-stride-upper+else-far_enough w ↦
-            first_fails far (wide && room) (sym (rw e at w.far_enough.ensures) ∙ w.if-far_enough.false)
+            and_left far (wide && room) (sym (rw e at w.far_enough.ensures) ∙ w.if-far_enough.false)
         | else-stride-upper-via-else-stride-upper w ↦
-            second_fails far wide room (ap (λ (x : ℕ). leb x parameters.upper) (sym strides) ∙ lt-leb _ _ (rw e at w.if-stride-upper.false))
+            and_right far (wide && room)
+            (and_left wide room (ap (λ (x : ℕ). leb x parameters.upper) (sym strides) ∙ lt-leb _ _ (rw e at w.if-stride-upper.false)))
       ]
     ] in
     let kept = ring times state.head state.len in

@@ -13,5 +13,6 @@ returns c parameters times state past e =
     let a = c.args in
     let kept = c.save_undo_first_three.ensures parameters times state past e in
     let stayed = c.stay.ensures parameters times state (undo_with past (first_three_saved state.registers past.state.registers)) kept in
-    let done = c.settle.ensures parameters _ _ (ap (λ w. get_or (with (with (with w 10 c.plus-2.result) 11 a.low) 12 a.high) 1 []) stayed) in
-    rw (done, c.plus-2.ensures, c.plus-due.ensures, c.plus.ensures, stayed, e) refl
+    let done = c.settle.ensures parameters _ _
+    (ap (λ w. get_or (with (with (with w 10 c.saturating_add-2.result) 11 a.low) 12 a.high) 1 []) stayed) in
+    rw (done, c.saturating_add-2.ensures, c.saturating_add-due.ensures, c.saturating_add.ensures, stayed, e) refl

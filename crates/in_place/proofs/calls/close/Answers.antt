@@ -1,21 +1,21 @@
 -- The questions are put first; then the numbers are counted on, and the close goes to every row.
-use Rattle.in_place.proofs.Names.{Call, ◌∙◌, ap, arith, close_at, recorded_to, clock_applied, held_rows, next_number, refl, words_of_lent}
-use Rattle.in_place.proofs.Names.{ℕ}
+use Rattle.in_place.proofs.Names.{Call, ◌∙◌, ap, arith, close_at, recorded_to, clock_applied, held_rows, next_number, numbered, refl}
+use Rattle.in_place.proofs.Names.{words_of_lent, ℕ}
+use Rattle.constraint.proofs.Refusals.{exit_number}
 use Rattle.in_place.proofs.RefusalOrder.{first_number, own_number, refused_stores, taken_stores}
 use Rattle.in_place.proofs.{Parts.number_at, Parts.shaped_ended, Parts.shaped_to}
 use Rattle.in_place.proofs.calls.close.Goals as goal
 
-pub returns-then-refusal-gt0 : goal.returns-then-refusal-gt0
-returns-then-refusal-gt0 c =
-    let a = c.args in
-    refused_stores a.m.now Call.Close _ (λ h e s. first_number h Call.Close _
-    (c.first_refusal-refusal.ensures h e s) c.if-refusal-gt0.true) c.if-refusal-gt0.true
+pub returns-in_err-first_refusal : goal.returns-in_err-first_refusal
+returns-in_err-first_refusal c =
+    let some = (numbered _).0 in
+    rw (exit_number c.from_residual.result _ c.from_residual.ensures.1)
+    (refused_stores c.args.m.now Call.Close _ (λ h e s. first_number h _ 0 (c.in_err-first_refusal.ensures h e s) some) some)
 
 pub returns : goal.returns
 returns c =
     let a = c.args in
-    taken_stores a.m.now Call.Close 0
-    (λ h e s. own_number h Call.Close _ 0 (c.first_refusal-refusal.ensures h e s) (omega (arith, c.if-refusal-gt0.false)) refl) 0 c.put_soonest.new.m
+    taken_stores a.m.now Call.Close 0 (λ h e s. own_number h 0 0 (c.in_ok-first_refusal.ensures h e s) refl) 0 c.put_soonest.new.m
     (omega arith) (λ some. absurd (some refl))
     (λ h e s going.
     let clock = number_at h s a.m.now e 0 in

@@ -1,45 +1,34 @@
 -- The questions are put in their order, and the first "no" gives the number.
-use Rattle.in_place.proofs.Names.{Call, ◌<◌, ◌∙◌, ap₂, arith, first_coloured, last_kind, le-leb, le-ltb, lt-leb, lt-ltb, refl}
-use Rattle.in_place.proofs.Names.{stream_count, time_refusal}
-use Rattle.in_place.proofs.{RefusalOrder.first_number, RefusalOrder.own_number, Parts.number_at}
+use Rattle.in_place.proofs.Names.{◌<◌, arith, first_coloured, le-leb, lt-leb, lt-ltb, numbered, refl, stream_count}
+use Rattle.constraint.proofs.Refusals.{exit_number}
+use Rattle.in_place.proofs.{RefusalOrder.form_number, RefusalOrder.kind_number, RefusalOrder.some_number}
 use Rattle.in_place.proofs.calls.event_refusal.Goals as goal
 
-pub returns-then-first-gt0 : goal.returns-then-first-gt0
-returns-then-first-gt0 c = (
-  λ z. absurd (omega (arith, z, c.if-first-gt0.true)),
-  λ h e s. first_number h
-      (Call.Event c.args.kind c.args.time) _ (c.first_refusal-first.ensures h e s) c.if-first-gt0.true,
-)
-
-pub returns-then-kind-gt-LAST_KIND : goal.returns-then-kind-gt-LAST_KIND
-returns-then-kind-gt-LAST_KIND c =
-    let a = c.args in (
-      λ z. absurd (omega (arith, z)),
-      λ h e s.
-          own_number h (Call.Event a.kind a.time) _ _ (c.first_refusal-first.ensures h e s) (omega (arith, c.if-first-gt0.false))
-          (rw (lt-ltb last_kind a.kind c.if-kind-gt-LAST_KIND.true) refl),
+pub returns-in_err-kind_refusal : goal.returns-in_err-kind_refusal
+returns-in_err-kind_refusal c =
+    rw (exit_number c.from_residual.result _ c.from_residual.ensures.1) (
+      λ z. absurd (some_number _ z),
+      λ h e s. kind_number h c.args.kind _ _ (c.in_err-kind_refusal.ensures.1 h e s) (numbered _).0,
     )
 
 pub returns-then-kind-ge-FIRST_COLOURED : goal.returns-then-kind-ge-FIRST_COLOURED
 returns-then-kind-ge-FIRST_COLOURED c =
-    let a = c.args in (
+    let kind = c.args.kind in (
       λ z. absurd (omega (arith, z)),
       λ h e s.
-          own_number h (Call.Event a.kind a.time) _ _ (c.first_refusal-first.ensures h e s) (omega (arith, c.if-first-gt0.false))
-          (rw (le-ltb last_kind a.kind c.if-kind-gt-LAST_KIND.false, le-leb first_coloured a.kind c.if-kind-ge-FIRST_COLOURED.true) refl),
+          form_number h kind _ _ (c.in_ok-kind_refusal.ensures.1 h e s)
+          (rw (le-leb first_coloured kind c.if-kind-ge-FIRST_COLOURED.true) refl),
     )
 
 pub returns : goal.returns
 returns c =
-    let a = c.args in
-    let small : a.kind < 48 = omega (arith, c.if-kind-ge-FIRST_COLOURED.false) in (
-      λ z. small,
+    let kind = c.args.kind in
+    let small : kind < 48 = omega (arith, c.if-kind-ge-FIRST_COLOURED.false) in (
+      λ _. small,
       λ h e s.
-          own_number h (Call.Event a.kind a.time) _ _ (c.first_refusal-first.ensures h e s) (omega (arith, c.if-first-gt0.false))
+          form_number h kind _ _ (c.in_ok-kind_refusal.ensures.1 h e s)
           (rw (
-            le-ltb last_kind a.kind c.if-kind-gt-LAST_KIND.false,
-            lt-leb first_coloured a.kind c.if-kind-ge-FIRST_COLOURED.false,
-            lt-ltb a.kind stream_count (omega (arith, small)),
-          )
-          (c.time_refusal.ensures ∙ ap₂ (time_refusal a.time) (number_at h s a.m.now e 0) (c.free_at.ensures h e s))),
+            lt-leb first_coloured kind c.if-kind-ge-FIRST_COLOURED.false,
+            lt-ltb kind stream_count (omega (arith, small)),
+          ) (c.stream_refusal.ensures h e s)),
     )

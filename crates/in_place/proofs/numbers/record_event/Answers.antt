@@ -8,7 +8,7 @@ pub returns : goal.returns
 returns c h e s going =
     let a = c.args in
     let h₁ = with_next h (set h.monitor.next a.stream (plus a.time 1)) in
-    let stored = c.put_free.ensures h e s ∙ ap (λ (t : ℕ). words_of_lent (with_next h (set h.monitor.next a.stream t))) c.plus.ensures in
+    let stored = c.put_free.ensures h e s ∙ ap (λ (t : ℕ). words_of_lent (with_next h (set h.monitor.next a.stream t))) c.saturating_add.ensures in
     let wide = shaped_next h a.stream (plus a.time 1) s in
     let block = ap (λ m. get_or m 32 []) stored ∙ numbers_read h₁ wide in
     let counted = c.record_step.ensures h₁.monitor h₁.soonest h₁.full (take 48 h₁.monitor.next) h₁.lists block going in

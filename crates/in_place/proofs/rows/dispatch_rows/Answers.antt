@@ -54,7 +54,7 @@ loop-left-preserved c =
             lent = dispatched_to x i o a.number;
             shaped = shaped_full _ _ (shaped_soonest _ _ (shaped_row x i row' kept' (λ _. zero_then) mid.shaped));
             words_are = c.mark_full.ensures y stored wide';
-            soonest_is = c.smaller-soonest.ensures ∙ ap₂ min mid.soonest_is due;
+            soonest_is = c.min-soonest.ensures ∙ ap₂ min mid.soonest_is due;
             same = mid.same ∙ ap (λ (rows : List ℕ). dispatched x rows o a.number)
                 (rows_first left c.loop-left-test.true c.loop-left.invariant.0);
           },
@@ -72,27 +72,8 @@ returns c h e s =
     ∙ ap words_of_lent (sym (mid.same ∙ ap (λ (k : ℕ). dispatched x (rows_in k) o a.number) none
     ∙ ap (λ (rows : List ℕ). dispatched x rows o a.number) no_rows))
 
-pub mark_full-requires : goal.mark_full-requires
-mark_full-requires c = (
-  (low c.loop-left.left c.loop-left-test.true c.loop-left.invariant.0).below,
-  c.loop-left-test.true,
-  (low c.loop-left.left c.loop-left-test.true c.loop-left.invariant.0).apart,
-)
-
-pub overflow_cast-i : goal.overflow_cast-i
-overflow_cast-i c = omega (arith, (low c.loop-left.left c.loop-left-test.true c.loop-left.invariant.0).below)
-
-pub offset_bounds-m-i : goal.offset_bounds-m-i
-offset_bounds-m-i c = omega (arith, (low c.loop-left.left c.loop-left-test.true c.loop-left.invariant.0).below)
-
 pub bounds-m-i : goal.bounds-m-i
 bounds-m-i c = omega (arith, (low c.loop-left.left c.loop-left-test.true c.loop-left.invariant.0).below)
-
-pub offset_bounds-m-i-in-loop-left : goal.offset_bounds-m-i-in-loop-left
-offset_bounds-m-i-in-loop-left c = omega (arith, (low c.loop-left.left c.loop-left-test.true c.loop-left.invariant.0).below)
-
-pub bounds-m-i-in-loop-left : goal.bounds-m-i-in-loop-left
-bounds-m-i-in-loop-left c = omega (arith, (low c.loop-left.left c.loop-left-test.true c.loop-left.invariant.0).below)
 
 pub loop-left-smaller : goal.loop-left-smaller
 loop-left-smaller c = let left = c.loop-left.left in omega (arith, and_le_r left (left - 1))

@@ -1,13 +1,10 @@
 -- Row after row, the lowest first: what is left to ask decides, as none of the rows before was crowded.
 use Rattle.in_place.proofs.Names.{Bool, Lent, List, ◌-◌, ◌<◌, ◌||◌, ◌∙◌, ◌≡◌, ap, arith, bit_and, crowded, crowded_at, kept_at}
-use Rattle.in_place.proofs.Names.{refl, row_at, rows_in, sym, ℕ}
+use Rattle.in_place.proofs.Names.{row_at, rows_in, sym, ℕ}
 use Rattle.in_place.proofs.{Blocks.row_lies, RowSets.Lowest, RowSets.lowest, RowSets.no_rows, RowSets.rows_first}
 use lib.Bits.{and_le_r}
 use lib.Count.{count_trailing_zeros}
 use Rattle.in_place.proofs.rows.rows_overflow.Goals as goal
-
-pub loop-left-init : goal.loop-left-init
-loop-left-init c = (omega arith, λ h e s. refl)
 
 -- the lowest row that is left
 low : (left : ℕ) → 0 < left → left < 4294967296 → Lowest 32 left (count_trailing_zeros 32 left)
@@ -46,15 +43,3 @@ returns c h e s =
     let none : l.left ≡ 0 = omega (arith, c.loop-left-test.false) in
     sym (l.invariant.1 h e s ∙ ap (λ (k : ℕ). crowded h (rows_in k) a.stream a.t) none
     ∙ ap (λ (rows : List ℕ). crowded h rows a.stream a.t) no_rows)
-
-pub overflow_cast-i : goal.overflow_cast-i
-overflow_cast-i c = omega (arith, (low c.loop-left.left c.loop-left-test.true c.loop-left.invariant.0).below)
-
-pub offset_bounds-m-i : goal.offset_bounds-m-i
-offset_bounds-m-i c = omega (arith, (low c.loop-left.left c.loop-left-test.true c.loop-left.invariant.0).below)
-
-pub bounds-m-i : goal.bounds-m-i
-bounds-m-i c = omega (arith, (low c.loop-left.left c.loop-left-test.true c.loop-left.invariant.0).below)
-
-pub loop-left-smaller : goal.loop-left-smaller
-loop-left-smaller c = let left = c.loop-left.left in omega (arith, c.loop-left-test.true, and_le_r left (left - 1))

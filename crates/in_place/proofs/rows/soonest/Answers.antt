@@ -1,6 +1,6 @@
 -- Four rows after four: before the turn of number i it is the soonest due time of the first i.
-use Rattle.in_place.proofs.Names.{List, Row, ◌+◌, ◌∙◌, ◌≡◌, ap, ap₂, arith, get_or, min, no_row, refl, soonest_of}
-use Rattle.in_place.proofs.Names.{soonest_of_four, suc, up_to_four, ℕ}
+use Rattle.in_place.proofs.Names.{List, Row, ◌*◌, ◌+◌, ◌∙◌, ◌≡◌, ap, ap₂, arith, get_or, min, no_row, soonest_of}
+use Rattle.in_place.proofs.Names.{soonest_of_four, suc, ℕ}
 use Rattle.in_place.proofs.rows.soonest.Goals as goal
 
 -- one after the other, or two and two
@@ -22,21 +22,11 @@ four_more rows i =
     ∙ ap (soonest_of rows) four
 
 pub loop-i-preserved : goal.loop-i-preserved
-loop-i-preserved c =
-    let i = c.loop-i.i in let inv = c.loop-i.invariant in (
-      omega (arith, inv.0, inv.1),
-      omega (arith, inv.1),
-      λ h e s. c.smaller-time.ensures ∙ ap₂ min (inv.2 h e s) (c.soonest_of_four.ensures h e s) ∙ four_more h.monitor.rows i,
-    )
-
-pub returns : goal.returns
-returns c h e s =
-    let l = c.loop-i in let a = c.args in
-    let at_end : l.i ≡ up_to_four a.n = omega (arith, l.invariant.0, l.invariant.1) in
-    l.invariant.2 h e s ∙ ap (soonest_of h.monitor.rows) at_end
-
-pub loop-i-init : goal.loop-i-init
-loop-i-init c = (omega arith, omega arith, λ h e s. refl)
+loop-i-preserved c h e s =
+    let i = c.loop-i.i in
+    let next : 4 * i + 4 ≡ 4 * (i + 1) = omega arith in
+    c.min-time.ensures ∙ ap₂ min (c.loop-i.invariant h e s) (c.soonest_of_four.ensures h e s) ∙ four_more h.monitor.rows (4 * i)
+    ∙ ap (soonest_of h.monitor.rows) next
 
 pub soonest_of_four-requires : goal.soonest_of_four-requires
-soonest_of_four-requires c = omega (arith, c.loop-i.invariant.1)
+soonest_of_four-requires c = omega (arith, c.requires, c.div_ceil-i-end.ensures, c.loop-i-test.true)

@@ -15,10 +15,10 @@ pub returns : goal.returns
 returns c h e s =
     let a = c.args in
     let m = a.m.now in
-    c.smaller.ensures
+    c.min.ensures
     ∙ ap₂ min
-    (c.smaller-one.ensures ∙ ap₂ min (due_read h s m e a.i (omega (arith, c.requires))) (due_read h s m e (a.i + 1) (omega (arith, c.requires))))
-    (c.smaller-two.ensures ∙ ap₂ min (due_read h s m e (a.i + 2) (omega (arith, c.requires))) (due_read h s m e (a.i + 3) (omega (
+    (c.min-one.ensures ∙ ap₂ min (due_read h s m e a.i (omega (arith, c.requires))) (due_read h s m e (a.i + 1) (omega (arith, c.requires))))
+    (c.min-two.ensures ∙ ap₂ min (due_read h s m e (a.i + 2) (omega (arith, c.requires))) (due_read h s m e (a.i + 3) (omega (
       arith,
       c.requires,
     ))))

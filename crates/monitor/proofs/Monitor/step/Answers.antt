@@ -1,27 +1,32 @@
--- The number of the first "no" is that of `refusal_by`; past it the rows take the call, which is the next step, and where it crowds one of them the
--- monitor is handed back as it was.
-use Rattle.monitor.proofs.Names.{◌∙◌, ◌≡◌, ap, arith, asks, crowds, false, place_small, step_of, stepped_by, sym, taken_call}
+-- The number of the first "no" is that of `refusal_by`; past it the rows take the call, which is the next step, unless it crowds one of them.
+use Rattle.monitor.proofs.Names.{◌∙◌, ◌≡◌, ap, arith, asks, crowds, false, place_small, refl, step_of, stepped_by, sym, taken_call, true}
+use Rattle.std.specs.Option.{ok_or}
+use Rattle.constraint.specs.declared.Refusal.TheVariants.{Crowded}
+use Rattle.constraint.proofs.Refusals.{exit_is}
 use Rattle.monitor.proofs.{Answers.crowded_by, Answers.refused_by, Answers.taken_by, Theorem.step_kept}
+use Rattle.constraint.proofs.{Refusals.numbered}
+use Rattle.constraint.specs.Answers.{refusal_number}
 use Rattle.monitor.proofs.Monitor.step.Goals as goal
 
-pub returns-then-number-gt0 : goal.returns-then-number-gt0
+pub returns-in_err-refusal : goal.returns-in_err-refusal
 unfolding step_of
-returns-then-number-gt0 c =
-    let m = c.args.self in let call = c.args.call in
-    let by_number : stepped_by m call c.refusal-number.result ≡ step_of m call =
-    ap (stepped_by m call) (rw c.place-at.ensures at c.refusal-number.ensures) in
-    step_kept m (asks call) (c.refused.ensures ∙ refused_by m call c.refusal-number.result c.if-number-gt0.true ∙ by_number)
+returns-in_err-refusal c =
+    let m = c.args.self in let call = c.args.call in let refusal = c.in_err-refusal.field-0.0 in
+    rw (exit_is c.from_residual.result _ c.from_residual.ensures.1)
+    (step_kept m (asks call)
+    (refused_by m call (refusal_number refusal) (numbered refusal).0
+    ∙ ap (stepped_by m call) (rw c.place-at.ensures at c.in_err-refusal.ensures)))
 
-pub returns-then-stepped : goal.returns-then-stepped
+pub returns-in_err-after : goal.returns-in_err-after
 unfolding step_of
-returns-then-stepped c =
-    let m = c.args.self in let call = c.args.call in let number = c.refusal-number.result in
-    let by_number : stepped_by m call number ≡ step_of m call =
-    ap (stepped_by m call) (rw c.place-at.ensures at c.refusal-number.ensures) in
-    let crowds_is : crowds m call ≡ c.step-stepped.result.crowded =
-    rw (c.plus-step.ensures, c.step_input-o.ensures) at (sym c.step-stepped.ensures.crowded_is) in
-    step_kept m (asks call)
-    (c.refused-then-stepped.ensures ∙ crowded_by m call number c.if-number-gt0.false (crowds_is ∙ c.if-stepped.true) ∙ by_number)
+returns-in_err-after c =
+    let m = c.args.self in let call = c.args.call in let exit = c.in_err-after.ensures in
+    let by_number : stepped_by m call 0 ≡ step_of m call =
+    ap (stepped_by m call) (rw c.place-at.ensures at c.in_ok-refusal.ensures) in
+    let crowds_is : crowds m call ≡ true =
+    rw (c.saturating_add-step.ensures, c.step_input-o.ensures) at (rw exit.ok_part at (sym c.step.ensures.crowded_is)) in
+    rw (exit_is c.from_residual-in_err-after.result _ c.from_residual-in_err-after.ensures.1 ∙ exit.value ∙ ap (λ o. ok_or o Crowded) exit.ok_part)
+    (step_kept m (asks call) (crowded_by m call 0 (omega arith) crowds_is ∙ by_number))
 
 pub offset_bounds-after-at : goal.offset_bounds-after-at
 offset_bounds-after-at c = omega (arith, c.place-at.ensures, place_small c.args.call)
@@ -32,26 +37,22 @@ bounds-after-at c = omega (arith, c.place-at.ensures, place_small c.args.call)
 pub returns : goal.returns
 unfolding taken_call step_of
 returns c =
-    let m = c.args.self in let call = c.args.call in let number = c.refusal-number.result in
-    let by_number : stepped_by m call number ≡ step_of m call =
-    ap (stepped_by m call) (rw c.place-at.ensures at c.refusal-number.ensures) in
-    let crowds_is : crowds m call ≡ c.step-stepped.result.crowded =
-    rw (c.plus-step.ensures, c.step_input-o.ensures) at (sym c.step-stepped.ensures.crowded_is) in
-    let calm = c.if-stepped.false in
-    let none_full : crowds m call ≡ false = crowds_is ∙ calm in
+    let m = c.args.self in let call = c.args.call in
+    let by_number : stepped_by m call 0 ≡ step_of m call =
+    ap (stepped_by m call) (rw c.place-at.ensures at c.in_ok-refusal.ensures) in
+    let there = c.in_ok-after.ensures.ok_part in
+    let none_full : crowds m call ≡ false =
+    rw (c.saturating_add-step.ensures, c.step_input-o.ensures) at (rw there at (sym c.step.ensures.crowded_is)) in
     step_kept m (asks call)
     (simp (
-      c.taken.ensures,
-      ← by_number,
-      ← taken_by m call number c.if-number-gt0.false none_full,
       c.undo_of-after.ensures,
       c.closed.ensures,
       c.free.ensures,
-      c.step-stepped.ensures.stepped calm,
-      c.plus-step.ensures,
+      (rw there at c.step.ensures).stepped refl,
+      c.saturating_add-step.ensures,
       c.step_input-o.ensures,
       c.place-at.ensures,
-    ))
+    ) (taken_by m call 0 (omega arith) none_full ∙ by_number))
 
 pub offset_bounds-self-at : goal.offset_bounds-self-at
 offset_bounds-self-at c = omega (arith, c.place-at.ensures, place_small c.args.call)

@@ -3,6 +3,8 @@ use Rattle.monitor.proofs.Names.{Known, Table, TableRow, ◌<◌, ◌≡◌, ari
 use Rattle.monitor.proofs.Names.{length-take-le}
 use Rattle.monitor.proofs.Names.{monitor_of, no_row, row_in, row_of, rows_from, rows_length, rows_of, subst, subst⁻¹, ℕ}
 use Rattle.monitor.proofs.{Filled.filled_next}
+use Rattle.questions.proofs.{Places.no_undo_is}
+use Rattle.row.proofs.{Nothing.undo_is}
 use Rattle.monitor.proofs.rows.over.Goals as goal
 
 -- the row of an entry
@@ -24,11 +26,9 @@ pub loop-i-preserved : goal.loop-i-preserved
 loop-i-preserved c =
     let i = c.loop-i.i in
     let table = c.args.table in
-    let counted : i < table.count = omega arith in (
-      omega arith,
-      rw (c.loop-i.invariant.1, c.begin.ensures, ← row_at table i _ counted (omega arith))
-          (filled_next row_of no_row (rows_of table) 32 i filler (omega (arith, rows_length table)) (omega arith)),
-    )
+    let counted : i < table.count = omega arith in
+    rw (c.loop-i.invariant, c.begin.ensures, ← row_at table i _ counted (omega arith))
+    (filled_next row_of no_row (rows_of table) 32 i filler (omega (arith, rows_length table)) (omega arith))
 
 pub returns : goal.returns
 unfolding monitor_of
@@ -36,15 +36,15 @@ returns c =
     let args = c.args in
     let all : c.loop-i.i ≡ args.len = omega arith in
     rw (
-      c.loop-i.invariant.1,
+      c.loop-i.invariant,
       all,
       length-take-le args.len (rows_of args.table) (omega (arith, rows_length args.table)),
-      c.no_undo.ensures,
-      c.none.ensures,
+      no_undo_is c.default-2.result c.default-2.ensures,
+      undo_is c.default.result c.default.ensures,
     )
 
 pub begin-rows-requires : goal.begin-rows-requires
 begin-rows-requires c = subst⁻¹ Known c.filler.ensures known_filler
 
 pub loop-i-init : goal.loop-i-init
-loop-i-init c = (omega arith, rw (c.begin-rows.ensures, c.filler.ensures))
+loop-i-init c = rw (c.begin-rows.ensures, c.filler.ensures)

@@ -4,20 +4,16 @@ use Rattle.monitor.proofs.{First.without_all, First.without_next, First.without_
 use Rattle.monitor.proofs.rows.undo_rows.Goals as goal
 
 pub loop-i-init : goal.loop-i-init
-loop-i-init c = let m = c.args.m in
-    (omega arith, sym (without_none c.args.number m (omega arith) (omega arith)))
+loop-i-init c = sym (without_none c.args.number c.args.m (omega arith) (omega arith))
 
 pub loop-i-preserved : goal.loop-i-preserved
 loop-i-preserved c =
-    let args = c.args in (
-      omega arith,
-      without_next args.number args.m (omega arith) (omega arith) c.loop-i.after c.loop-i.i c.loop-i.invariant.1
-          (omega (arith, c.held-len.ensures)) _ _ _ _
-          c.without_step-before.ensures c.without_step.ensures,
-    )
+    let args = c.args in
+    without_next args.number args.m (omega arith) (omega arith) c.loop-i.after c.loop-i.i c.loop-i.invariant
+    (omega (arith, c.min-i-end.ensures)) _ _ _ _ c.without_step.ensures c.without_step-in-loop-i.ensures
 
 pub returns : goal.returns
 returns c =
-    c.loop-i.invariant.1
+    c.loop-i.invariant
     ∙ without_all c.args.number c.args.m (omega arith) (omega arith) c.loop-i.i
-    (omega (arith, c.held-len.ensures))
+    (omega (arith, c.min-i-end.ensures))

@@ -31,14 +31,14 @@ unfolding row_as_words number_words decide_in_words
 returns-then-last-eq0 c parameters times state past e =
     let a = c.args in
     let words : List ℕ = ring times state.head state.len in
-    let offset : c.word-offset.result ≡ at words state.registers.first = rw e at c.word-offset.ensures in
-    let near : c.minus-near.result ≡ a.t - plus (at words state.registers.first) parameters.jitter =
-    c.minus-near.ensures ∙ rw (c.plus.ensures, offset, e) refl in
-    let far : c.minus-far.result ≡ a.t - at words state.registers.first = c.minus-far.ensures ∙ rw offset refl in
+    let offset : c.word-offset.result ≡ at words state.registers.first = rw (c.times-times.ensures.times, e) at c.word-offset.ensures in
+    let near : c.saturating_sub-near.result ≡ a.t - plus (at words state.registers.first) parameters.jitter =
+    c.saturating_sub-near.ensures ∙ rw (c.saturating_add.ensures, offset, e) refl in
+    let far : c.saturating_sub-far.result ≡ a.t - at words state.registers.first = c.saturating_sub-far.ensures ∙ rw offset refl in
     c.place.ensures parameters times state past e
     ∙ ap (λ (change : Change). changed_words counts_saved parameters times state past change a.t a.number)
-    (first parameters.span parameters.upper parameters.jitter parameters.minimum (at words) state.registers a.t c.minus-near.result
-    c.minus-far.result
+    (first parameters.span parameters.upper parameters.jitter parameters.minimum (at words) state.registers a.t c.saturating_sub-near.result
+    c.saturating_sub-far.result
     (eq-eqb _ _ (rw e at c.if-last-eq0.true)) near far)
 
 pub returns-then-may_follow : goal.returns-then-may_follow
@@ -46,24 +46,24 @@ unfolding row_as_words number_words decide_in_words
 returns-then-may_follow c parameters times state past e =
     let a = c.args in
     let words : List ℕ = ring times state.head state.len in
-    let offset : c.word-offset.result ≡ at words state.registers.first = rw e at c.word-offset.ensures in
-    let near : c.minus-near.result ≡ a.t - plus (at words state.registers.first) parameters.jitter =
-    c.minus-near.ensures ∙ rw (c.plus.ensures, offset, e) refl in
-    let far : c.minus-far.result ≡ a.t - at words state.registers.first = c.minus-far.ensures ∙ rw offset refl in
+    let offset : c.word-offset.result ≡ at words state.registers.first = rw (c.times-times.ensures.times, e) at c.word-offset.ensures in
+    let near : c.saturating_sub-near.result ≡ a.t - plus (at words state.registers.first) parameters.jitter =
+    c.saturating_sub-near.ensures ∙ rw (c.saturating_add.ensures, offset, e) refl in
+    let far : c.saturating_sub-far.result ≡ a.t - at words state.registers.first = c.saturating_sub-far.ensures ∙ rw offset refl in
     let step : c.step_to-step.result ≡ step_to parameters.upper state.registers.first = rw e at c.step_to-step.ensures in
-    let low : c.larger-low.result
+    let low : c.max-low.result
     ≡ low_after parameters.span parameters.upper parameters.jitter parameters.minimum (at words) state.registers a.t =
-    c.larger-low.ensures ∙ rw (c.plus-2.ensures, step, near, e) refl in
-    let high : c.smaller-high.result
+    c.max-low.ensures ∙ rw (c.saturating_add-2.ensures, step, near, e) refl in
+    let high : c.min-high.result
     ≡ high_after parameters.span parameters.upper parameters.jitter parameters.minimum (at words) state.registers a.t =
-    c.smaller-high.ensures ∙ rw (c.plus-3.ensures, step, far, e) refl in
+    c.min-high.ensures ∙ rw (c.saturating_add-3.ensures, step, far, e) refl in
     let follows : c.may_follow.result
     ≡ (far_enough parameters.minimum state.registers.fourth a.t && (ltb 0 state.registers.first || ltb 0 parameters.upper)) =
     rw e at c.may_follow.ensures in
     c.place-then-may_follow.ensures parameters times state past e
     ∙ ap (λ (change : Change). changed_words counts_saved parameters times state past change a.t a.number)
-    (later parameters.span parameters.upper parameters.jitter parameters.minimum (at words) state.registers a.t c.larger-low.result
-    c.smaller-high.result
+    (later parameters.span parameters.upper parameters.jitter parameters.minimum (at words) state.registers a.t c.max-low.result
+    c.min-high.result
     (ne_eqb _ _ (rw e at c.if-last-eq0.false)) (sym follows ∙ c.if-may_follow.true) low high)
 
 pub returns : goal.returns

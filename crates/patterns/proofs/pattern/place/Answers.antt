@@ -2,11 +2,12 @@
 use Rattle.constraint.proofs.Library.{List, ◌&&◌, ◌∙◌, ◌≡◌, ap, false, le-leb, leb, lt-leb, refl, true, ℕ}
 use Rattle.constraint.specs.Steps.{at}
 use Rattle.row_type.specs.Parts.{breaking, continues_with, plus}
-use Rattle.row_type.specs.Words.{changed_words, counts_saved, number_words, row_as_words}
-use Rattle.row_type.specs.{declared.Change.Change, declared.Registers.Registers}
+use Rattle.row_type.specs.Words.{UndoRecord, changed_words, counts_saved, number_words, row_as_words}
+use Rattle.row_type.specs.{declared.Change.Change, declared.Parameters.Parameters, declared.Registers.Registers, declared.State.State}
 use Rattle.patterns.specs.Pattern.{due_then, number_after, placed_in, step_to}
 use Rattle.ring.specs.{Ring.ring, declared.Edit.TheVariants.Drop}
 use Rattle.patterns.proofs.pattern.place.Goals as goal
+use Rattle.patterns.proofs.pattern.place.Goals.{After-saturating_add-due}
 use Rattle.patterns.proofs.pattern.place.Goals.{else-offset-t-via-then-offset-t+then-low-high+else-t-due}
 use Rattle.patterns.proofs.pattern.place.Goals.{else-offset-t-via-then-offset-t+else-low-high, else-offset-t-via-else-offset-t}
 
@@ -25,41 +26,44 @@ module _ (n period jitter minimum : ℕ) (offset : ℕ → ℕ) (registers : Reg
   unfolding placed_in
   stops e = rw (← o_is, ← due_is, e) refl
 
+due_is : (parameters : Parameters) (times : List ℕ) (state : State) (past : UndoRecord) (c : After-saturating_add-due)
+    → c.args.row.now ≡ row_as_words parameters times state past
+    → c.saturating_add-due.result
+    ≡ due_then parameters.span parameters.upper parameters.jitter parameters.minimum (at (ring times state.head state.len)) c.args.t
+    state.registers.first c.args.high
+unfolding row_as_words number_words
+due_is parameters times state past c e =
+    let next : c.number_after-next.result ≡ number_after parameters.span state.registers.first = rw e at c.number_after-next.ensures in
+    let step : c.step_to-step.result ≡ step_to parameters.upper c.number_after-next.result = rw e at c.step_to-step.ensures in
+    let after : c.word-after.result ≡ at (ring times state.head state.len) c.number_after-next.result =
+    rw (c.times-times.ensures.times, e) at c.word-after.ensures in
+    c.saturating_add-due.ensures ∙ rw (c.saturating_add-2.ensures, c.saturating_add.ensures, after, step, next, e) refl
+
 pub returns-then-t-due : goal.returns-then-t-due
 unfolding row_as_words number_words changed_words
 returns-then-t-due c parameters times state past e =
     let a = c.args in
     let words : List ℕ = ring times state.head state.len in
-    let offset : c.word-offset.result ≡ at words state.registers.first = rw e at c.word-offset.ensures in
+    let offset : c.word-offset.result ≡ at words state.registers.first = rw (c.times-times.ensures.times, e) at c.word-offset.ensures in
     let next : c.number_after-next.result ≡ number_after parameters.span state.registers.first = rw e at c.number_after-next.ensures in
-    let step : c.step_to-step.result ≡ step_to parameters.upper c.number_after-next.result = rw e at c.step_to-step.ensures in
-    let after : c.word-after.result ≡ at words c.number_after-next.result = rw e at c.word-after.ensures in
-    let due : c.plus-due.result
-    ≡ due_then parameters.span parameters.upper parameters.jitter parameters.minimum (at words) a.t
-    state.registers.first a.high =
-    c.plus-due.ensures ∙ rw (c.plus-2.ensures, c.plus.ensures, after, step, next, e) refl in
+    let due = due_is parameters times state past (goal.at.returns-then-t-due c).After-saturating_add-due e in
     c.go_on.ensures parameters times state past e
     ∙ ap (λ (change : Change). changed_words counts_saved parameters times state past change a.t a.number)
     (goes parameters.span parameters.upper parameters.jitter parameters.minimum (at words) state.registers a.t a.low a.high
     c.word-offset.result
-    c.number_after-next.result c.plus-due.result offset next due (le-leb _ _ c.if-offset-t.true) (le-leb _ _ c.if-low-high.true)
+    c.number_after-next.result c.saturating_add-due.result offset next due (le-leb _ _ c.if-offset-t.true) (le-leb _ _ c.if-low-high.true)
     (le-leb _ _ c.if-t-due.true)
-    c.plus-then-t-due.result c.plus-then-t-due.ensures)
+    c.saturating_add-then-t-due.result c.saturating_add-then-t-due.ensures)
 
 pub returns : goal.returns
 unfolding row_as_words number_words changed_words
 returns c parameters times state past e =
     let a = c.args in
     let words : List ℕ = ring times state.head state.len in
-    let offset : c.word-offset.result ≡ at words state.registers.first = rw e at c.word-offset.ensures in
+    let offset : c.word-offset.result ≡ at words state.registers.first = rw (c.times-times.ensures.times, e) at c.word-offset.ensures in
     let next : c.number_after-next.result ≡ number_after parameters.span state.registers.first = rw e at c.number_after-next.ensures in
-    let step : c.step_to-step.result ≡ step_to parameters.upper c.number_after-next.result = rw e at c.step_to-step.ensures in
-    let after : c.word-after.result ≡ at words c.number_after-next.result = rw e at c.word-after.ensures in
-    let due : c.plus-due.result
-    ≡ due_then parameters.span parameters.upper parameters.jitter parameters.minimum (at words) a.t
-    state.registers.first a.high =
-    c.plus-due.ensures ∙ rw (c.plus-2.ensures, c.plus.ensures, after, step, next, e) refl in
-    let failed : (leb c.word-offset.result a.t && (leb a.low a.high && leb a.t c.plus-due.result)) ≡ false =
+    let due = due_is parameters times state past (goal.at.returns c).After-saturating_add-due e in
+    let failed : (leb c.word-offset.result a.t && (leb a.low a.high && leb a.t c.saturating_add-due.result)) ≡ false =
     elim c.else-offset-t.branch [
       | else-offset-t-via-then-offset-t+then-low-high+else-t-due x ↦
           rw (le-leb _ _ x.if-offset-t.true, le-leb _ _ x.if-low-high.true, lt-leb _ _ x.if-t-due.false) refl
@@ -70,4 +74,4 @@ returns c parameters times state past e =
     ∙ ap (λ (change : Change). changed_words counts_saved parameters times state past change a.t a.number)
     (stops parameters.span parameters.upper parameters.jitter parameters.minimum (at words) state.registers a.t a.low a.high
     c.word-offset.result
-    c.number_after-next.result c.plus-due.result offset next due failed)
+    c.number_after-next.result c.saturating_add-due.result offset next due failed)

@@ -1,11 +1,7 @@
 -- From the last row to the first, each adds its bit below those behind it.
-use Rattle.queries.proofs.Names.{HoldsMonitor, Monitor, ◌-◌, ◌<◌, ◌^◌, ◌≡◌, ◌≤◌, broken_marks, held_rows, row_limit}
+use Rattle.queries.proofs.Names.{HoldsMonitor, Monitor, ◌-◌, ◌<◌, ◌^◌, ◌≡◌, broken_marks, row_limit}
 use Rattle.queries.proofs.ffi.delkuthi_broken_rows.Given as goal
 
 abbrev pub invariant-loop-i : goal.invariant-loop-i
 invariant-loop-i l =
-    (l.i ≤ 32) × (l.mask < 2 ^ (32 - l.i))
-    × ((n : Monitor) → HoldsMonitor l.m n → (l.i ≤ held_rows n) × (l.mask ≡ broken_marks n l.i (row_limit - l.i)))
-
-abbrev pub decreases-loop-i : goal.decreases-loop-i
-decreases-loop-i l = l.i
+    (l.mask < 2 ^ (32 - l.i)) × ((n : Monitor) → HoldsMonitor l.m n → l.mask ≡ broken_marks n l.i (row_limit - l.i))

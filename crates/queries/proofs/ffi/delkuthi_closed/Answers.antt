@@ -1,22 +1,11 @@
--- Of the mark of the close it is asked whether it is 0.
-use Rattle.queries.proofs.Names.{arith, le-ltb, lt-ltb, refl}
-use Rattle.queries.proofs.{Places.closed_lies, Theorem.closed_asked}
+-- Whether it is closed is given as a number.
+use Rattle.queries.proofs.Names.{◌∙◌, ◌≡◌, ap, ltb, mark}
+use Rattle.queries.proofs.{Places.said, RowPresent.mark_small, RowPresent.marked, Theorem.closed_asked}
 use Rattle.queries.proofs.ffi.delkuthi_closed.Goals as goal
 
-pub returns-then-closed-gt0 : goal.returns-then-closed-gt0
-returns-then-closed-gt0 c = (
-  omega arith,
-  λ n holds. closed_asked n (rw (
-    ← closed_lies _ n holds _ c.closed.ensures,
-    lt-ltb _ _ c.if-closed-gt0.true,
-  ) refl),
-)
-
-pub returns-else-closed-gt0 : goal.returns-else-closed-gt0
-returns-else-closed-gt0 c = (
-  omega arith,
-  λ n holds. closed_asked n (rw (
-    ← closed_lies _ n holds _ c.closed.ensures,
-    le-ltb _ _ c.if-closed-gt0.false,
-  ) refl),
-)
+pub returns : goal.returns
+returns c =
+    let is = c.from.ensures ∙ marked _ in (
+      rw is (mark_small _),
+      λ n holds. closed_asked n (is ∙ ap mark (said _ n holds (λ x. c.closed.result ≡ ltb 0 x.closed) c.closed.ensures)),
+    )

@@ -1,26 +1,12 @@
 -- A row that is there has what its numbers say, and any other none.
-use Rattle.queries.proofs.Names.{arith}
-use Rattle.queries.proofs.Places.{held_lies, numbers_lie}
-use Rattle.queries.proofs.{Theorem.moment_asked, RowPresent.is_there, RowPresent.not_there}
+use Rattle.queries.proofs.{Places.numbers_lie, Theorem.moment_asked}
 use Rattle.queries.proofs.ffi.delkuthi_row_moment.Goals as goal
 
-pub returns-then-held-row : goal.returns-then-held-row
-returns-then-held-row c n holds =
-    let args = c.args in
-    let held = held_lies args.m.now n holds _ c.held.ensures.1 in
-    moment_asked n args.row (rw (not_there args.row n.len (omega (arith, held))))
+pub returns-in-Some : goal.returns-in-Some
+returns-in-Some c n holds =
+    let place = c.in-Some.ensures in
+    let row = numbers_lie c.args.m.now n holds c.in-Some.i place.1 in
+    moment_asked n c.args.row (rw (place.2 n holds, ← place.0, c.moment_by.ensures, row.broken_is, row.mark_is))
 
-pub returns : goal.returns
-returns c n holds =
-    let args = c.args in
-    let m = args.m.now in
-    let held = held_lies m n holds _ c.held.ensures.1 in
-    let row = numbers_lie m n holds args.row (omega (arith, c.if-held-row.false, c.held.ensures.0)) in
-    moment_asked n args.row
-    (rw (is_there args.row n.len (omega (arith, held, c.if-held-row.false)), c.moment_by.ensures, row.broken_is, row.mark_is))
-
-pub bounds-m-i : goal.bounds-m-i
-bounds-m-i c = omega (arith, c.held.ensures.0)
-
-pub bounds-m-i-else-held-row : goal.bounds-m-i-else-held-row
-bounds-m-i-else-held-row c = omega (arith, c.held.ensures.0)
+pub returns-in-None : goal.returns-in-None
+returns-in-None c n holds = moment_asked n c.args.row (rw (c.in-None.ensures n holds))

@@ -16,30 +16,29 @@ found : (m : Words) (rows : ℕ) (o : StepInput) (i : ℕ) (b : Bool) (n : Monit
 found m rows o i b n holds below few is so_far =
     rw is (so_far ∙ first_here (test o) rows i n.rows below (omega (arith, rows_there m n holds)))
 
-pub returns : goal.returns
-returns c =
+pub loop-i-preserved : goal.loop-i-preserved
+loop-i-preserved c n holds =
     let a = c.args in
-    (omega arith, λ n holds. sym (c.loop-i.invariant.1 n holds ∙ first_none (test a.o) a.rows c.loop-i.i n.rows (omega arith)))
-
-pub loop-i-init : goal.loop-i-init
-loop-i-init c = let all : c.args.rows - 0 ≡ c.args.rows = omega arith in (omega arith, λ n holds. rw all)
+    let m = a.m.now in
+    let i = c.loop-i.i in
+    let below : i < a.rows = c.loop-i-test.true in
+    rw c.if-step_overflows.false at (found m a.rows a.o i c.step_overflows.result n holds below c.requires
+    (c.step_overflows.ensures (row_at n i) (kept_at n i) (block_lies m n holds i (omega (arith, below, c.requires)))) (c.loop-i.invariant n holds))
 
 pub returns-then-step_overflows : goal.returns-then-step_overflows
 returns-then-step_overflows c =
     let a = c.args in
     let m = a.m.now in
-    let i = c.loop-i.i in (
-      omega arith,
-      λ n holds. sym (rw c.if-step_overflows.true at (found m a.rows a.o i c.step_overflows.result n holds (omega arith) (omega arith)
-          (c.step_overflows.ensures (row_at n i) (kept_at n i) (block_lies m n holds i (omega arith))) (c.loop-i.invariant.1 n holds))),
+    let i = c.loop-i.i in
+    let below : i < a.rows = c.loop-i-test.true in (
+      omega (arith, below, c.requires),
+      λ n holds. sym (rw c.if-step_overflows.true at (found m a.rows a.o i c.step_overflows.result n holds below c.requires
+          (c.step_overflows.ensures (row_at n i) (kept_at n i) (block_lies m n holds i (omega (arith, below, c.requires))))
+          (c.loop-i.invariant n holds))),
     )
 
-pub loop-i-preserved : goal.loop-i-preserved
-loop-i-preserved c =
-    let a = c.args in
-    let m = a.m.now in
-    let i = c.loop-i.i in (
-      omega arith,
-      λ n holds. rw c.if-step_overflows.false at (found m a.rows a.o i c.step_overflows.result n holds (omega arith) (omega arith)
-          (c.step_overflows.ensures (row_at n i) (kept_at n i) (block_lies m n holds i (omega arith))) (c.loop-i.invariant.1 n holds)),
-    )
+pub returns : goal.returns
+returns c =
+    let a = c.args in let l = c.loop-i in
+    let at_end : a.rows ≤ l.i = c.loop-i-test.false in
+    (omega arith, λ n holds. sym (l.invariant n holds ∙ first_none (test a.o) a.rows l.i n.rows at_end))

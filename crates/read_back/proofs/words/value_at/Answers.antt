@@ -8,6 +8,6 @@ returns-then-first-i c =
     rw (le-leb a.first a.i (omega (arith, c.if-first-i.true)))
     (sym (get_or-take 16 a.times.now (a.i - a.first) 0 (omega (arith, c.requires))))
 
-pub returns : goal.returns
-returns c =
+pub returns-else-first-i : goal.returns-else-first-i
+returns-else-first-i c =
     let a = c.args in rw (lt-leb a.first a.i (omega (arith, c.if-first-i.false))) c.field_in.ensures

@@ -28,27 +28,28 @@ unfolding row_as_words number_words changed_words decide_in_words
 returns-then-late_enough c parameters times state past e =
     let a = c.args in
     let words : List ℕ = ring times state.head state.len in
-    let n : c.smaller-n.result ≡ min parameters.span 8 = rw e at c.smaller-n.ensures in
+    let n : c.min-n.result ≡ min parameters.span 8 = rw e at c.min-n.ensures in
     let late : c.late_enough.result ≡ late_enough (min parameters.span 8) (lower_in words) 16 state.registers.first words a.t =
-    c.late_enough.ensures ∙ rw (n, e) refl in
+    c.late_enough.ensures ∙ rw (n, c.times-times.ensures.times, e) refl in
     let due : c.due_after-due.result ≡ due_after (min parameters.span 8) (upper_in words) 16 state.registers.first words a.t =
-    c.due_after-due.ensures ∙ rw (n, e) refl in
+    c.due_after-due.ensures ∙ rw (n, c.times-times.ensures.times, e) refl in
     let place : c.slot-place.result ≡ 16 + state.registers.first % 8 = rw e at c.slot-place.ensures in
-    let behind : c.word-behind.result ≡ at words (c.slot-place.result + 1) = rw e at c.word-behind.ensures in
+    let behind : c.word-behind.result ≡ at words (c.slot-place.result + 1) = rw (c.times-times.ensures.times, e) at c.word-behind.ensures in
     let next : c.following-after.result ≡ next_place state.registers.first = rw e at c.following-after.ensures in
     c.note.ensures parameters times state past e
     ∙ ap (λ (change : Change). changed_words counts_saved parameters times state past change a.t a.number)
-    (goes (min parameters.span 8) state.registers words a.t (sym late ∙ c.if-late_enough.true) c.slot-place.result c.plus.result c.word-behind.result
-    c.following-after.result c.due_after-due.result place c.plus.ensures behind next due)
+    (goes (min parameters.span 8) state.registers words a.t (sym late ∙ c.if-late_enough.true)
+    c.slot-place.result c.saturating_add.result c.word-behind.result
+    c.following-after.result c.due_after-due.result place c.saturating_add.ensures behind next due)
 
 pub returns : goal.returns
 unfolding row_as_words number_words changed_words decide_in_words
 returns c parameters times state past e =
     let a = c.args in
     let words : List ℕ = ring times state.head state.len in
-    let n : c.smaller-n.result ≡ min parameters.span 8 = rw e at c.smaller-n.ensures in
+    let n : c.min-n.result ≡ min parameters.span 8 = rw e at c.min-n.ensures in
     let late : c.late_enough.result ≡ late_enough (min parameters.span 8) (lower_in words) 16 state.registers.first words a.t =
-    c.late_enough.ensures ∙ rw (n, e) refl in
+    c.late_enough.ensures ∙ rw (n, c.times-times.ensures.times, e) refl in
     c.break_at.ensures parameters times state past e
     ∙ ap (λ (change : Change). changed_words counts_saved parameters times state past change a.t a.number)
     (stops (min parameters.span 8) state.registers words a.t (sym late ∙ c.if-late_enough.false))

@@ -5,24 +5,23 @@ use Rattle.repeat_burst.proofs.arbitrary.due_after.Goals as goal
 
 pub loop-i-init : goal.loop-i-init
 unfolding due_after
-loop-i-init c = (omega arith, omega arith, refl)
+loop-i-init c = (omega arith, refl)
 
 pub loop-i-preserved : goal.loop-i-preserved
 unfolding due_after
 loop-i-preserved c = (
   omega arith,
-  omega arith,
   rw (
     add-one c.loop-i.i,
-    c.smaller-due.ensures,
-    c.plus.ensures,
+    c.min-due.ensures,
+    c.saturating_add.ensures,
     c.time_after-from.ensures,
     c.word-upper.ensures,
-    ← c.loop-i.invariant.2,
+    ← c.loop-i.invariant.1,
   ),
 )
 
 pub returns : goal.returns
 returns c =
     let end : c.loop-i.i ≡ c.args.n = omega arith in
-    rw (c.loop-i.invariant.2, end)
+    rw (c.loop-i.invariant.1, end)

@@ -1,12 +1,9 @@
--- The loop goes from pair to pair: the answer so far is that of those passed.
-use Rattle.constraint.proofs.Library.{◌-◌, ◌≡◌, ◌≤◌}
-use Rattle.ring.specs.Ring.{ring}
+-- The loop goes from pair to pair: t is not too early for those passed.
+use Rattle.constraint.proofs.Library.{◌≡◌, ◌≤◌, true}
+use Rattle.ring.specs.Ring.{times_of}
 use Rattle.repeat_burst.specs.Arbitrary.{late_enough, lower_in}
 use Rattle.repeat_burst.proofs.arbitrary.late_enough.Given as goal
 
 abbrev pub invariant-loop-i : goal.invariant-loop-i
 invariant-loop-i l =
-    (l.i ≤ l.n) × (l.n ≤ 8) × (l.so ≡ late_enough l.i (lower_in (ring l.times l.head l.len)) 16 l.next (ring l.times l.head l.len) l.t)
-
-abbrev pub decreases-loop-i : goal.decreases-loop-i
-decreases-loop-i l = l.n - l.i
+    (l.n ≤ 8) × (late_enough l.i (lower_in (times_of l.times)) 16 l.next (times_of l.times) l.t ≡ true)

@@ -33,7 +33,7 @@ returns-then-span_reached c parameters times state past e =
     rw (
       c.push_time.ensures parameters times state (undo_with past (last_saved state.registers past.state.registers))
           (c.save_undo_last.ensures parameters times state past e),
-      c.plus.ensures,
+      c.saturating_add.ensures,
     )
     (ap (λ (change : Change). changed_words last_saved parameters times state past change a.t a.number) (sym decided))
 

@@ -1,7 +1,7 @@
 -- The word for the row's type picks the machine that `machine_of` does, and the type's function makes its change; only of a broken row it is 31.
-use Rattle.row.proofs.Names.{Applies, Changes, List, Machine, [], ◌%◌, ◌∙◌, ◌≡◌, ◌⊎◌, ap, arith, changed_words, eq-eqb, get_or, machine_of}
+use Rattle.row.proofs.Names.{Applies, Changes, List, Machine, [], ◌%◌, ◌∙◌, ◌≡◌, ap, arith, changed_words, eq-eqb, get_or, machine_of}
 use Rattle.row.proofs.Names.{Parameters, State, ne_eqb, no_machine, number_words, refl, ring, row_as_words, sym, ℕ, ⊎_elim}
-use Rattle.row.proofs.{Machines.live_none, Machines.live_type}
+use Rattle.row.proofs.{Machines.live_none, Machines.live_type, Machines.none_of}
 use Rattle.row_type.specs.Words.{UndoRecord, live_of}
 use Rattle.delay_order.specs.Delay.{machine_delay}
 use Rattle.delay_order.specs.StrongDelay.{machine_strong_delay}
@@ -47,34 +47,6 @@ shut entry parameters times state past is e =
 stays_broken : (entry : List (List ℕ)) (stream t number : ℕ) → live_in entry % 32 ≡ 31 → Changes entry stream t number entry
 stays_broken entry stream t number is parameters times state past e =
     rw (ne_eqb state.broken 0 (shut entry parameters times state past is e)) e
-
--- the numbers of no type, in two arms
-abbrev NoType : ℕ → Type 0
-NoType n = (¬ (n ≡ 31)) × (machine_of n ≡ no_machine)
-
-is_none : (n k : ℕ) → n ≡ k → ¬ (k ≡ 31) → machine_of k ≡ no_machine → NoType n
-is_none n k e other none = ((λ z. other (sym e ∙ z)), ap machine_of e ∙ none)
-
-odd : (n : ℕ) → (n ≡ 17) ⊎ (n ≡ 19) ⊎ (n ≡ 21) ⊎ (n ≡ 23) ⊎ (n ≡ 25) ⊎ (n ≡ 27) ⊎ (n ≡ 29) → NoType n
-odd n =
-    ⊎_elim (λ e. is_none n 17 e (λ z. absurd (omega (arith, z))) refl)
-    (⊎_elim (λ e. is_none n 19 e (λ z. absurd (omega (arith, z))) refl)
-    (⊎_elim (λ e. is_none n 21 e (λ z. absurd (omega (arith, z))) refl)
-    (⊎_elim (λ e. is_none n 23 e (λ z. absurd (omega (arith, z))) refl)
-    (⊎_elim (λ e. is_none n 25 e (λ z. absurd (omega (arith, z))) refl)
-    (⊎_elim (λ e. is_none n 27 e (λ z. absurd (omega (arith, z))) refl)
-    (λ e. is_none n 29 e (λ z. absurd (omega (arith, z))) refl))))))
-
-even : (n : ℕ) → (n ≡ 0) ⊎ (n ≡ 18) ⊎ (n ≡ 20) ⊎ (n ≡ 22) ⊎ (n ≡ 24) ⊎ (n ≡ 26) ⊎ (n ≡ 28) ⊎ (n ≡ 30) → NoType n
-even n =
-    ⊎_elim (λ e. is_none n 0 e (λ z. absurd (omega (arith, z))) refl)
-    (⊎_elim (λ e. is_none n 18 e (λ z. absurd (omega (arith, z))) refl)
-    (⊎_elim (λ e. is_none n 20 e (λ z. absurd (omega (arith, z))) refl)
-    (⊎_elim (λ e. is_none n 22 e (λ z. absurd (omega (arith, z))) refl)
-    (⊎_elim (λ e. is_none n 24 e (λ z. absurd (omega (arith, z))) refl)
-    (⊎_elim (λ e. is_none n 26 e (λ z. absurd (omega (arith, z))) refl)
-    (⊎_elim (λ e. is_none n 28 e (λ z. absurd (omega (arith, z))) refl)
-    (λ e. is_none n 30 e (λ z. absurd (omega (arith, z))) refl)))))))
 
 pub returns-in-31 : goal.returns-in-31
 returns-in-31 c = let a = c.args in stays_broken a.row.now a.stream a.t a.number c.in-31.is
@@ -176,14 +148,16 @@ returns-in-16 c =
 pub returns-in-17 : goal.returns-in-17
 unfolding changed_words
 returns-in-17 c =
-    let a = c.args in let none = odd _ c.in-17.is in
-    by_type no_machine a.row.now c.break_at.new.row a.stream a.t a.number _ c.break_at.ensures refl none.0 none.1
+    let a = c.args in let is = c.in-17.is in
+    by_type no_machine a.row.now c.break_at.new.row a.stream a.t a.number _ c.break_at.ensures refl (λ z. absurd (grind (arith, z, is)))
+    (none_of (live_in a.row.now % 32) (λ other. grind (arith, other, is)))
 
 pub returns-in-0 : goal.returns-in-0
 unfolding changed_words
 returns-in-0 c =
-    let a = c.args in let none = even _ c.in-0.is in
-    by_type no_machine a.row.now c.break_at-in-0.new.row a.stream a.t a.number _ c.break_at-in-0.ensures refl none.0 none.1
+    let a = c.args in let is = c.in-0.is in
+    by_type no_machine a.row.now c.break_at-in-0.new.row a.stream a.t a.number _ c.break_at-in-0.ensures refl (λ z. absurd (grind (arith, z, is)))
+    (none_of (live_in a.row.now % 32) (λ other. grind (arith, other, is)))
 
 pub returns-in_default : goal.returns-in_default
 returns-in_default c = let rest = c.in_default.in_default-own.rest in absurd (grind (arith, rest))

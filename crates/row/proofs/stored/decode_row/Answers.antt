@@ -5,4 +5,4 @@ use Rattle.row.proofs.stored.decode_row.Goals as goal
 pub returns : goal.returns
 unfolding words_of_row row_as_words number_words
 returns c w b e =
-    rw (c.state_at.ensures, c.parameters_at.ensures, e) refl
+    rw (c.state_from.ensures, c.parameters_at.ensures, e) refl

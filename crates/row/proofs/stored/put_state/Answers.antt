@@ -4,4 +4,4 @@ use Rattle.row.proofs.stored.put_state.Goals as goal
 
 pub returns : goal.returns
 unfolding number_words
-returns c parameters old past e = rw (c.live_of.ensures, e) refl
+returns c parameters old past e = rw (c.live_of.ensures, c.store.ensures, e) refl

@@ -4,4 +4,4 @@ use Rattle.row.proofs.stored.put_undo.Goals as goal
 
 pub returns : goal.returns
 unfolding number_words
-returns c parameters state past e = rw e refl
+returns c parameters state past e = rw (c.store.ensures, e) refl

@@ -11,6 +11,6 @@ pub returns : goal.returns
 returns c =
     let a = c.args in let v = a.values.now in let edition = c.requires.0 in
     c.with_fields.ensures
-    ∙ ap₂ (λ (roles : List ℕ) (parameters : Parameters). with_fields (fields_as roles v) parameters) c.roles_of-roles.ensures
+    ∙ ap₂ (λ (roles : List ℕ) (parameters : Parameters). with_fields (fields_as roles v) parameters) c.roles_of.ensures
     c.no_fields.ensures
     ∙ row_parameters edition a.tag v (known_row edition a.tag v c.requires.1)

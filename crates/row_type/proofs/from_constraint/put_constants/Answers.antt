@@ -12,7 +12,7 @@ returns-then-first-lt-MOST_FIELDS c zeros =
     let a = c.args in let v = a.values.now in let edition = c.requires.0 in
     c.put_values.ensures
     ∙ ap₂ (λ (l roles : List ℕ). sets l 0 (used_from roles v c.first_constant-first.result)) zeros
-    c.roles_of-roles.ensures
+    c.roles_of.ensures
     ∙ ap (λ (i : ℕ). sets (replicate 64 0) 0 (used_from (roles_of a.tag (at v 0)) v i))
     c.first_constant-first.ensures
     ∙ row_words edition a.tag v (known_row edition a.tag v c.requires.1)

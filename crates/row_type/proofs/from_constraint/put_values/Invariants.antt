@@ -1,11 +1,7 @@
 -- The loop stores place after place: storing those left in what there is now gives the whole.
-use Rattle.constraint.proofs.Library.{◌-◌, ◌≡◌, ◌≤◌, sets}
+use Rattle.constraint.proofs.Library.{◌-◌, ◌≡◌, sets}
 use Rattle.row_type.specs.Parameters.{used_from}
 use Rattle.row_type.proofs.from_constraint.put_values.Given as goal
 
 abbrev pub invariant-loop-i : goal.invariant-loop-i
-invariant-loop-i l =
-    (l.next ≤ l.i) × (sets l.times l.next (used_from l.roles l.values l.i) ≡ sets l.initial.times 0 (used_from l.roles l.values l.first))
-
-abbrev pub decreases-loop-i : goal.decreases-loop-i
-decreases-loop-i l = 18 - l.i
+invariant-loop-i l = sets l.times (l.i - l.first) (used_from l.roles l.values l.i) ≡ sets l.initial.times 0 (used_from l.roles l.values l.first)

@@ -1,7 +1,6 @@
 -- From the last field to the first, the numbers are those of the fields from a place on.
-use Rattle.constraint.proofs.Library.{List, ◌-◌, ◌∙◌, ◌≡◌, ap, arith, sym, ℕ}
+use Rattle.constraint.proofs.Library.{List, ◌-◌, ap, arith, sym}
 use Rattle.constraint.specs.Types.{Field}
-use Rattle.table_row.specs.Records.{fields_from}
 use Rattle.table_row.proofs.FieldByField.{fields_end}
 use Rattle.row_type.specs.Parameters.{with_fields}
 use Rattle.row_type.proofs.{RowNumbers.field_before}
@@ -19,9 +18,3 @@ loop-i-preserved c =
       field_before a.roles a.values.now (loop.i - 1) loop.i (omega arith) (omega arith) a.parameters loop.next
           c.with_field-next.result loop.invariant.1 c.with_field-next.ensures,
     )
-
-pub returns : goal.returns
-returns c =
-    let a = c.args in let loop = c.loop-i in
-    let none : loop.i ≡ 0 = omega arith in
-    loop.invariant.1 ∙ ap (λ (i : ℕ). with_fields (fields_from a.roles a.values.now i) a.parameters) none

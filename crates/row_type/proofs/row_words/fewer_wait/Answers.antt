@@ -20,4 +20,4 @@ returns c parameters times state past e =
     let stayed = c.stay.ensures parameters times state past e in
     let moved = c.move_head.ensures parameters _ _ (ap (λ w. get_or w 1 []) stayed) in
     let some : a.dropped < state.len = rw e at c.if-len-dropped.false in
-    rw (c.plus.ensures, moved, c.place_of-next.ensures, stayed, e, ring_from times state.head state.len a.dropped some) refl
+    rw (c.saturating_add.ensures, moved, c.place_of-next.ensures, stayed, e, ring_from times state.head state.len a.dropped some) refl

@@ -14,7 +14,8 @@ returns-then-len-le-SIZE c parameters times state past e =
     rw (
       c.place_of.ensures,
       c.due_after-due.ensures,
-      c.plus.ensures,
+      c.saturating_add.ensures,
+      c.times.ensures.times,
       kept,
       c.place_of-at.ensures,
       e,

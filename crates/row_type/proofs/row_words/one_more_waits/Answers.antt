@@ -9,4 +9,13 @@ returns c parameters times state past e =
     let a = c.args in
     let left = drop a.dropped (ring times state.head state.len) in
     let pushed = c.push_one.ensures parameters times state past e in
-    rw (c.due_after-due.ensures, c.plus.ensures, pushed, e, due_or_pushed parameters.upper a.t left, none_left_pushed left a.t) refl
+    rw (
+      c.due_after-due.ensures,
+      c.saturating_add.ensures,
+      c.times.ensures.times,
+      pushed,
+      e,
+      due_or_pushed parameters.upper a.t left,
+      none_left_pushed left a.t,
+    )
+    refl

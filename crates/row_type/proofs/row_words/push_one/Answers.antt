@@ -9,8 +9,8 @@ returns-then-dropped-gt0 c parameters times state past e =
     let kept = c.save_undo.ensures parameters times state past e in
     let pushed : ring_of c.push-more.new.times c.head_after-head.result c.push-more.result
     ≡ push_ring a.word (drop_ring a.dropped (ring_of times state.head state.len)) =
-    c.push-more.ensures ∙ rw (c.left-len.ensures, c.head_after-head.ensures, kept, e) refl in
-    rw (← pushed, kept, c.place_of.ensures, c.left-len.ensures, c.head_after-head.ensures, e) refl
+    c.push-more.ensures ∙ rw (c.saturating_sub-len.ensures, c.head_after-head.ensures, kept, e) refl in
+    rw (← pushed, kept, c.place_of.ensures, c.saturating_sub-len.ensures, c.head_after-head.ensures, e) refl
 
 pub returns-else-dropped-gt0 : goal.returns-else-dropped-gt0
 unfolding row_as_words number_words
@@ -20,5 +20,5 @@ returns-else-dropped-gt0 c parameters times state past e =
     let none : a.dropped ≡ 0 = omega (arith, c.if-dropped-gt0.false) in
     let pushed : ring_of c.push-more.new.times c.head_after-head.result c.push-more.result
     ≡ push_ring a.word (drop_ring a.dropped (ring_of times state.head state.len)) =
-    c.push-more.ensures ∙ rw (c.left-len.ensures, c.head_after-head.ensures, kept, e) refl in
-    rw (← pushed, kept, c.place_of.ensures, c.left-len.ensures, c.head_after-head.ensures, e, none) refl
+    c.push-more.ensures ∙ rw (c.saturating_sub-len.ensures, c.head_after-head.ensures, kept, e) refl in
+    rw (← pushed, kept, c.place_of.ensures, c.saturating_sub-len.ensures, c.head_after-head.ensures, e, none) refl

@@ -9,8 +9,8 @@ returns c parameters times state past e =
     let kept = c.save_undo.ensures parameters times state past e in
     let one : ring_of c.push-more.new.times c.head_after-head.result c.push-more.result
     ≡ push_ring a.first (drop_ring a.dropped (ring_of times state.head state.len)) =
-    c.push-more.ensures ∙ rw (c.left-len.ensures, c.head_after-head.ensures, kept, e) refl in
+    c.push-more.ensures ∙ rw (c.saturating_sub-len.ensures, c.head_after-head.ensures, kept, e) refl in
     let both : ring_of c.push-both.new.times c.head_after-head.result c.push-both.result
     ≡ push_ring a.second (push_ring a.first (drop_ring a.dropped (ring_of times state.head state.len))) =
     c.push-both.ensures ∙ rw (← one, kept) refl in
-    rw (← both, kept, c.place_of.ensures, c.left-len.ensures, c.head_after-head.ensures, e) refl
+    rw (← both, kept, c.place_of.ensures, c.saturating_sub-len.ensures, c.head_after-head.ensures, e) refl

@@ -6,7 +6,6 @@ use Rattle.row_type.proofs.row_words.save_undo_all.Goals as goal
 pub returns : goal.returns
 unfolding row_as_words number_words
 returns c parameters times state past e =
-    let counts = c.save_undo_counts.ensures parameters times state past e in
     let whole : UndoRecord =
     record {
       state =
@@ -23,4 +22,4 @@ returns c parameters times state past e =
       second = past.second;
       step = past.step;
     } in
-    c.save_undo.ensures parameters times state whole (rw (counts, e) refl)
+    c.save_undo.ensures parameters times state whole (rw (c.save_words-2.ensures, c.save_words.ensures, e) refl)

@@ -1,7 +1,7 @@
--- The three numbers are read before the first is stored, so each stands ten places on.
+-- Each of the words stands ten places on.
 use Rattle.row_type.proofs.Names.{number_words, refl, row_as_words}
 use Rattle.row_type.proofs.row_words.save_undo_first_three.Goals as goal
 
 pub returns : goal.returns
 unfolding row_as_words number_words
-returns c parameters times state past e = rw e refl
+returns c parameters times state past e = rw (c.save_words.ensures, e) refl

@@ -1,7 +1,7 @@
--- Four numbers are read before the first is stored, so each stands ten places on; place and stamp are stored as they are given.
+-- Four words stand ten places on; place and stamp are stored as they are given.
 use Rattle.row_type.proofs.Names.{number_words, refl}
 use Rattle.row_type.proofs.row_words.save_undo_numbers.Goals as goal
 
 pub returns : goal.returns
 unfolding number_words
-returns c parameters state past e = rw e refl
+returns c parameters state past e = rw (c.save_words.ensures, e) refl

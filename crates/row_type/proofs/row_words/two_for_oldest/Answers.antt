@@ -1,5 +1,5 @@
 -- A ring that two leave and two join is as long as before; a ring of fewer than two, or one that is too long, takes the common way.
-use Rattle.row_type.proofs.Names.{◌≤◌, rules, number_words, refl, row_as_words}
+use Rattle.row_type.proofs.Names.{◌≤◌, number_words, refl, row_as_words}
 use Rattle.row_type.proofs.Renewed.{end_stays, two_renewed}
 use Rattle.row_type.proofs.row_words.two_for_oldest.Goals as goal
 
@@ -12,6 +12,3 @@ returns-then-len-le-SIZE c parameters times state past e =
     let kept = c.save_undo.ensures parameters times state past e in
     let renewed = two_renewed times state.head state.len a.first a.second some few in
     rw (c.place_of.ensures, kept, c.place_of-after.ensures, c.place_of-at.ensures, e, renewed, end_stays state.head state.len 2 some) refl
-
-pub returns : goal.returns
-returns c = search rules

@@ -1,6 +1,7 @@
 -- The questions are put in their order, and question 4 has been asked where the row's own are.
 use Rattle.table.proofs.Names.{Bytes, Constraint, Judged, [], ap, arith, failed, judged_no, judged_yes, not, yes_of}
 use Rattle.table.proofs.Names.{row_stands, row_from, row_in, row_questions, row_questions_in, skipped, stands_known, subst}
+use Rattle.constraint.specs.Answers.{answer_of}
 use Rattle.table.proofs.append.validate_body.Goals as goal
 
 pub returns-then-rows-ge-ROW_LIMIT : goal.returns-then-rows-ge-ROW_LIMIT
@@ -20,5 +21,5 @@ returns c =
     judged_yes 3 _ _ _ (omega arith)
     (judged_yes 4 _ _ _ fits
     (skipped [] (row_questions (row_in (row_from body))) 4 _ (stands_known {edition = 2} body _ fits stands) _
-    (subst (λ (found : Constraint). Judged (row_questions_in 2 found) c.validate_values.result) (ap row_in c.read-row.ensures)
-    c.validate_values.ensures)))
+    (subst (λ (found : Constraint). Judged (row_questions_in 2 found) (answer_of c.validate.result)) (ap row_in c.read.ensures)
+    c.validate.ensures)))

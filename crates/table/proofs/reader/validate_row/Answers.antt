@@ -2,6 +2,7 @@
 use Rattle.table.proofs.Names.{Bool, Bytes, Constraint, Decides, Judged, List, ShapeFits, [], ap, arith, body_at, failed, ◌≡◌}
 use Rattle.table.proofs.Names.{◌+◌, ◌-◌, ◌∙◌, drop, length_at, loaded_row, not, refl, replicate, row_from, row_in, row_read, row_questions}
 use Rattle.table.proofs.Names.{row_questions_in, row_read_at, skipped, stands_known, subst, take, yes_of, ℕ}
+use Rattle.constraint.specs.Answers.{answer_of}
 use Rattle.table.proofs.Places.{part_body, place_full, place_misshapen, place_row, place_short, row_at}
 use Rattle.table.proofs.reader.validate_row.Goals as goal
 
@@ -59,15 +60,6 @@ returns c =
       here,
       place_row a.edition bytes a.before a.place _ _ whole (omega arith) fits
           (skipped [] (row_questions (row_read_at bytes a.place)) 4 _ (stands_known (body_at bytes a.place) _ fits (here fits)) _
-          (subst (λ (found : Constraint). Judged (row_questions_in a.edition found) c.validate_values.result) read
+          (subst (λ (found : Constraint). Judged (row_questions_in a.edition found) (answer_of c.validate_values.result)) read
           c.validate_values.ensures)),
     )
-
-pub overflow_add-start : goal.overflow_add-start
-overflow_add-start c = omega (arith, yes_of c.whole_at.result c.whole_at.ensures c.if-not-whole_at.false)
-
-pub overflow_add-next : goal.overflow_add-next
-overflow_add-next c = omega (arith, yes_of c.whole_at.result c.whole_at.ensures c.if-not-whole_at.false)
-
-pub slice_bounds-body-end : goal.slice_bounds-body-end
-slice_bounds-body-end c = omega (arith, yes_of c.whole_at.result c.whole_at.ensures c.if-not-whole_at.false)

@@ -1,15 +1,10 @@
 -- Where a row is whole, its body is the part behind the length field, and it is read as the row that it stands for.
 use Rattle.table.proofs.Names.{Bytes, List, RowAt, ◌+◌, ◌-◌, ◌∙◌, ◌≡◌, ap, arith, at, drop, failed, filler, length, length-sets}
-use Rattle.table.proofs.Names.{loaded_row, number_behind}
-use Rattle.table.proofs.Names.{not, yes_of, refl, replicate, roles_of, row_from, row_in, row_read, row_read_at, sets_all, subst⁻¹, sym, take}
+use Rattle.table.proofs.Names.{loaded_row}
+use Rattle.table.proofs.Names.{not, yes_of, refl, replicate, roles_of, row_from, row_in, row_read, row_read_at, subst⁻¹, take}
 use Rattle.table.proofs.Names.{values_at, ℕ}
 use Rattle.table.proofs.{Places.part_body, Places.row_at}
 use Rattle.table.proofs.scan.load_at.Goals as goal
-
--- no role has a value
-none_read : (bytes : List ℕ) → values_at (replicate 18 0) bytes 1 ≡ replicate 18 0
-unfolding values_at number_behind
-none_read bytes = refl
 
 filler_is : row_read 6 (replicate 18 0) ≡ filler
 unfolding row_read
@@ -17,19 +12,15 @@ filler_is = refl
 
 pub returns-then-not-whole_at : goal.returns-then-not-whole_at
 returns-then-not-whole_at c =
-    let asked = c.whole_at in let a = c.args in
-    let not_whole = failed asked.result asked.ensures (ap not c.if-not-whole_at.true) in
-    let zeros : c.fill.new.values ≡ replicate 18 0 =
-    c.fill.ensures ∙ sets_all a.values.now (values_at (replicate 18 0) a.bytes.now 1) (c.requires ∙ ap length (sym (none_read a.bytes.now)))
-    ∙ none_read a.bytes.now in
+    let not_whole = failed c.whole_at.result c.whole_at.ensures (ap not c.if-not-whole_at.true) in
     record {
       placed = record {
         read = λ there. absurd (not_whole there);
         stands = λ there. absurd (not_whole there);
         behind = λ there. absurd (not_whole there);
-        none = λ _. (ap (row_read 6) zeros ∙ filler_is, refl);
+        none = λ _. (filler_is, refl);
       };
-      many = ap length zeros;
+      many = refl;
     }
 
 -- a slice of bytes holds bytes, so the row at the place is the one that the body is read as
@@ -53,15 +44,3 @@ returns c =
       };
       many = ap length c.load-tag.ensures.1 ∙ length-sets a.values.now 0 (values_at (roles_of (at body 0) (at body 1)) body 1) ∙ c.requires;
     }
-
-pub fill-requires : goal.fill-requires
-fill-requires c = refl
-
-pub overflow_add-start : goal.overflow_add-start
-overflow_add-start c = omega (arith, yes_of c.whole_at.result c.whole_at.ensures c.if-not-whole_at.false)
-
-pub overflow_add-next : goal.overflow_add-next
-overflow_add-next c = omega (arith, yes_of c.whole_at.result c.whole_at.ensures c.if-not-whole_at.false)
-
-pub slice_bounds-load-end : goal.slice_bounds-load-end
-slice_bounds-load-end c = omega (arith, yes_of c.whole_at.result c.whole_at.ensures c.if-not-whole_at.false)

@@ -3,23 +3,17 @@ use Rattle.table.proofs.Names.{◌∙◌, ◌≡◌, ap, arith, filler, some, sy
 use Rattle.table.proofs.{Scanning.row_there, Scanning.scan_step}
 use Rattle.table.proofs.scan.row_behind.Goals as goal
 
-pub loop-k-preserved : goal.loop-k-preserved
-loop-k-preserved c =
-    let l = c.loop-k in (
-      omega arith,
-      λ edition rows reads there.
-          (scan_step _ rows l.k l.place filler c.row_at-placed.result (omega (arith, there)) (l.invariant.1 edition rows reads there)
-          c.row_at-placed.ensures).1,
-    )
+pub loop-preserved : goal.loop-preserved
+loop-preserved c edition rows reads there =
+    let l = c.loop in
+    (scan_step _ rows l.counter l.place filler c.row_at-place.result (omega (arith, there)) (l.invariant edition rows reads there)
+    c.row_at-place.ensures).1
 
 pub returns : goal.returns
 returns c edition rows reads there =
-    let l = c.loop-k in
-    let at_end : l.k ≡ c.args.i = omega (arith, l.invariant.0, c.loop-k-test.false) in
-    let read = (scan_step _ rows l.k l.place filler c.row_at-found.result (omega (arith, there, at_end))
-    (l.invariant.1 edition rows reads there)
-    c.row_at-found.ensures).0 in
-    rw (← at_end) (row_there rows l.k filler (omega (arith, there, at_end)) ∙ ap some (sym read))
-
-pub loop-k-init : goal.loop-k-init
-loop-k-init c = (omega arith, λ edition rows reads there. reads)
+    let l = c.loop in
+    let at_end : l.counter ≡ c.args.i = omega arith in
+    let read = (scan_step _ rows l.counter l.place filler c.row_at.result (omega (arith, there, at_end))
+    (l.invariant edition rows reads there)
+    c.row_at.ensures).0 in
+    rw (← at_end) (row_there rows l.counter filler (omega (arith, there, at_end)) ∙ ap some (sym read))

@@ -1,28 +1,31 @@
 -- The table has as many rows as judging it counts, so a number that is not below the count is no row's.
-use Rattle.table.proofs.Names.{arith, at}
-use Rattle.table.proofs.{Scanning.scan_count, Scanning.scan_start}
+use Rattle.table.proofs.Names.{◌<◌, arith, at, length}
+use Rattle.constraint.proofs.Refusals.{exit_is}
+use Rattle.table.proofs.{Scanning.scan_start}
 use Rattle.table.proofs.scan.row_numbered.Goals as goal
 
-pub returns-then-scan-i : goal.returns-then-scan-i
-returns-then-scan-i c =
-    let scan = c.validate-scan in let a = c.args in
+pub returns-in_err-rows : goal.returns-in_err-rows
+returns-in_err-rows c = rw (exit_is c.from_residual.result _ c.from_residual.ensures.1) c.in_err-rows.ensures
+
+pub returns-then-rows-i : goal.returns-then-rows-i
+returns-then-rows-i c =
+    let counted = c.in_ok-rows.ensures in
     record {
-      scans = scan.ensures;
-      found = λ rows reads.
-          let counted = scan_count a.bytes.now rows scan.result.answer scan.result.rows scan.ensures reads in
-          record { counted = counted; is = λ there. absurd (omega (arith, counted, there, c.if-scan-i.true)) };
-      none = λ past. c.filler-row.ensures;
+      rows = counted.rows;
+      reads = counted.reads;
+      room = counted.room;
+      accepted = counted.accepted;
+      is = omega (arith, counted.counted, c.if-rows-i.true);
     }
 
 pub returns : goal.returns
 returns c =
-    let scan = c.validate-scan in let a = c.args in
+    let counted = c.in_ok-rows.ensures in let bytes = c.args.bytes.now in
+    let there : c.args.i < length counted.rows = omega (arith, counted.counted, c.if-rows-i.false) in
     record {
-      scans = scan.ensures;
-      found = λ rows reads.
-          record {
-            counted = scan_count a.bytes.now rows scan.result.answer scan.result.rows scan.ensures reads;
-            is = c.row_behind-row.ensures (at a.bytes.now 0) rows (scan_start a.bytes.now rows reads);
-          };
-      none = λ past. absurd (omega (arith, past, c.if-scan-i.false));
+      rows = counted.rows;
+      reads = counted.reads;
+      room = counted.room;
+      accepted = counted.accepted;
+      is = (there, c.row_behind.ensures (at bytes 0) counted.rows (scan_start bytes counted.rows counted.reads) there);
     }

@@ -1,6 +1,6 @@
 -- The loop stores row after row: storing those left in what there is now gives the whole.
 use Rattle.table.proofs.Names.{Accepted, Constraint, List, Table, TableRow, TypeKnown, [], ◌+◌, ◌<◌, ◌∙◌, ◌≡◌, ◌≤◌, ap, arith, count_of, drop}
-use Rattle.table.proofs.Names.{drop_of_length-le, get_or, length, refl, row_bytes_long, row_known, row_body, row_in, row_limit}
+use Rattle.table.proofs.Names.{drop_of_length-le, get_or, length, row_bytes_long, row_known, row_body, row_in, row_limit}
 use Rattle.table.proofs.Names.{rows_length, rows_room, rows_bytes, rows_of, sets, sym, type_of, ℕ}
 use Rattle.table.proofs.{Stores.rows_more, Stores.rows_size}
 use Rattle.table.proofs.writer.put_rows.Goals as goal
@@ -38,10 +38,9 @@ loop-i-preserved c =
     let rows = few table c.requires.0 in
     let left = size table c.requires.0 loop.i (record { tag = 0; values = [] }) (omega arith) entries in
     let put = c.put in (
-      omega arith,
-      put.auto.buffer ∙ loop.invariant.1,
+      put.auto.buffer ∙ loop.invariant.0,
       omega (arith, left, c.length.ensures),
-      rw (put.ensures, c.length.ensures) (sym (rows_more table loop.i _ (omega arith) (omega arith) loop.buffer loop.place) ∙ loop.invariant.3),
+      rw (put.ensures, c.length.ensures) (sym (rows_more table loop.i _ (omega arith) (omega arith) loop.buffer loop.place) ∙ loop.invariant.2),
     )
 
 pub returns : goal.returns
@@ -50,10 +49,7 @@ returns c =
     let loop = c.loop-i in let table = c.args.table in
     sym (ap (λ (left : List Constraint). sets loop.buffer loop.place (rows_bytes left))
     (drop_of_length-le (rows_of table) {i = loop.i} (omega (arith, rows_length table))))
-    ∙ loop.invariant.3
-
-pub loop-i-init : goal.loop-i-init
-loop-i-init c = (omega arith, refl, omega arith, refl)
+    ∙ loop.invariant.2
 
 pub offset_bounds-table-i : goal.offset_bounds-table-i
 offset_bounds-table-i c = omega (arith, few c.args.table c.requires.0)
@@ -74,6 +70,3 @@ pub overflow_add-place-in-loop-i : goal.overflow_add-place-in-loop-i
 overflow_add-place-in-loop-i c =
     let left = size c.args.table c.requires.0 c.loop-i.i (record { tag = 0; values = [] }) (omega arith) c.well_formed.1.0.1.1.0.1.0.1 in
     omega (arith, left, c.requires, c.length.ensures)
-
-pub shape_of-buffer : goal.shape_of-buffer
-shape_of-buffer c = c.loop-i.invariant.1

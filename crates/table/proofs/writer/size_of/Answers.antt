@@ -28,7 +28,7 @@ loop-i-preserved c =
     let rows = few table c.requires in
     let size = short table c.requires c.loop-i.i (record { tag = 0; values = [] }) (omega arith) entries in
     let next = rows_size table c.loop-i.i (record { tag = 0; values = [] }) (omega arith) (omega arith) in
-    (omega arith, omega (arith, size, c.length.ensures), omega (arith, next, c.length.ensures))
+    (omega (arith, size, c.length.ensures), omega (arith, next, c.length.ensures))
 
 pub returns : goal.returns
 unfolding rows_bytes
@@ -36,10 +36,7 @@ returns c =
     let table = c.args.table in
     let none : drop c.loop-i.i (rows_of table) ≡ [] =
     drop_of_length-le (rows_of table) {i = c.loop-i.i} (omega (arith, rows_length table)) in
-    omega (arith, rw none at c.loop-i.invariant.2)
-
-pub loop-i-init : goal.loop-i-init
-loop-i-init c = (omega arith, omega arith, omega arith)
+    omega (arith, rw none at c.loop-i.invariant.1)
 
 pub offset_bounds-table-i : goal.offset_bounds-table-i
 offset_bounds-table-i c = omega (arith, few c.args.table c.requires)

@@ -6,10 +6,10 @@ use Rattle.table_row.proofs.{Lines.total_small}
 use Rattle.table_row.proofs.TableRow.length.Goals as goal
 
 pub overflow_add-result : goal.overflow_add-result
-overflow_add-result c = omega (arith, c.size_of.ensures, total_small c.roles_of-roles.result)
+overflow_add-result c = omega (arith, c.size.ensures, total_small c.roles_of-roles.result)
 
 pub returns : goal.returns
 returns c =
     let row = c.args.self in let edition = c.requires.0 in
-    ap (λ (n : ℕ). 1 + n) (c.size_of.ensures ∙ ap total c.roles_of-roles.ensures)
+    ap (λ (n : ℕ). 1 + n) (c.size.ensures ∙ ap total c.roles_of-roles.ensures)
     ∙ sym (body_long edition row.tag row.values (known_row edition row.tag row.values c.requires.1))

@@ -7,10 +7,10 @@ use Rattle.table_row.proofs.{Lines.total_small}
 use Rattle.table_row.proofs.TableRow.put.Goals as goal
 
 pub overflow_add-size : goal.overflow_add-size
-overflow_add-size c = omega (arith, c.size_of-size.ensures, total_small c.roles_of-roles.result)
+overflow_add-size c = omega (arith, c.size.ensures, total_small c.roles_of-roles.result)
 
-pub put_fields-requires : goal.put_fields-requires
-put_fields-requires c =
+pub put-requires : goal.put-requires
+put-requires c =
     let row = c.args.self in
     omega (
       arith,
@@ -25,8 +25,8 @@ pub returns : goal.returns
 returns c =
     let row = c.args.self in
     row_stores c.requires.0.0 row.tag row.values (known_row c.requires.0.0 row.tag row.values c.requires.0.1) c.args.buffer.now _ _ _ c.args.place _
-    (ap (λ (n : ℕ). 1 + n) (c.size_of-size.ensures ∙ ap total c.roles_of-roles.ensures))
+    (ap (λ (n : ℕ). 1 + n) (c.size.ensures ∙ ap total c.roles_of-roles.ensures))
     c.put_two.ensures c.put_byte.ensures
-    (c.put_fields.ensures
+    (c.put.ensures
     ∙ ap (λ (r : List ℕ). sets c.put_byte.new.buffer (c.args.place + 3) (fields_bytes (fields_as r row.values)))
     c.roles_of-roles.ensures)

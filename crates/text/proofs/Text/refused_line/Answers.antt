@@ -6,5 +6,5 @@ use Rattle.text.proofs.Text.refused_line.Goals as goal
 pub returns : goal.returns
 unfolding extended
 returns c =
-    rw (c.push-2.ensures, c.decimal-2.ensures, c.push.ensures, c.decimal.ensures, c.word.ensures)
+    rw (c.push-2.ensures, c.decimal-2.ensures, c.push.ensures, c.decimal.ensures, c.word.ensures, c.from.ensures)
     (simp extended_append)

@@ -2,19 +2,22 @@
 use Rattle.text.proofs.{Texts.extended_append}
 use Rattle.text.specs.Content.{extended}
 use Rattle.text.proofs.Text.row_line.Goals as goal
+use Rattle.text.proofs.Text.row_line.Goals.{in-Open, in-Kept, in-Broken}
 
-pub returns-in-Open : goal.returns-in-Open
+pub returns : goal.returns
 unfolding extended
-returns-in-Open c =
-    rw (c.push-in-Open.ensures, c.push.ensures, c.decimal.ensures, c.in-Open.is) (simp extended_append)
-
-pub returns-in-Kept : goal.returns-in-Kept
-unfolding extended
-returns-in-Kept c =
-    rw (c.push-in-Kept.ensures, c.word.ensures, c.push.ensures, c.decimal.ensures, c.in-Kept.is) (simp extended_append)
-
-pub returns-in-Broken : goal.returns-in-Broken
-unfolding extended
-returns-in-Broken c =
-    rw (c.push-in-Broken.ensures, c.decimal-in-Broken.ensures, c.word-in-Broken.ensures, c.push.ensures, c.decimal.ensures, c.in-Broken.is)
-    (simp extended_append)
+returns c =
+    elim c.match-verdict.branch [
+      | in-Open w ↦ rw (c.push-2.ensures, w.self-is, c.push.ensures, c.decimal.ensures, w.in-Open.is) (simp extended_append)
+      | in-Kept w ↦ rw (c.push-2.ensures, w.self-is, w.word.ensures, c.push.ensures, c.decimal.ensures, w.in-Kept.is) (simp extended_append)
+      | in-Broken w ↦
+          rw (
+            c.push-2.ensures,
+            w.self-is,
+            w.decimal-in-Broken.ensures,
+            w.word-in-Broken.ensures,
+            c.push.ensures,
+            c.decimal.ensures,
+            w.in-Broken.is,
+          ) (simp extended_append)
+    ]

@@ -1,9 +1,0 @@
--- The test is that of `place_for`.
-use Rattle.delkuthi.proofs.Names.{eq-eqb, ne_eqb}
-use Rattle.delkuthi.proofs.writing.place_for.Goals as goal
-
-pub returns-then-size-eq0 : goal.returns-then-size-eq0
-returns-then-size-eq0 c = rw (eq-eqb _ _ c.if-size-eq0.true)
-
-pub returns-else-size-eq0 : goal.returns-else-size-eq0
-returns-else-size-eq0 c = rw (ne_eqb _ _ c.if-size-eq0.false)

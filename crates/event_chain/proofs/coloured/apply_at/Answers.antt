@@ -1,0 +1,90 @@
+-- The words of the event's colour are those of the definition, and so is what the event makes of them, case by case.
+use Rattle.event_chain.proofs.Laws.ByWords.{words_at_lem}
+use Rattle.event_chain.proofs.Laws.Events.{breaks_event, breaks_short, notes_event, stays_event}
+use Rattle.event_chain.specs.Coloured.{due_words, noted, one_new, words_at}
+use Rattle.event_chain.specs.Marked.{due_marked, due_next, marking}
+use Rattle.constraint.proofs.Library.{List, ◌*◌, ◌+◌, ◌<◌, ◌∙◌, ◌≡◌, ◌≤◌, ap, length, set, subst, sym, ℕ}
+use Rattle.constraint.specs.Steps.{at}
+use Rattle.row_type.specs.{Words.changed_words, Words.last_saved, Words.number_words, Words.row_as_words, declared.Change.Change}
+use Rattle.ring.proofs.Laws.{ring_length}
+use Rattle.ring.specs.Ring.{ring}
+use Rattle.event_chain.proofs.coloured.apply_at.Goals as goal
+
+pub returns-then-times-lt-WORDS : goal.returns-then-times-lt-WORDS
+unfolding row_as_words number_words changed_words
+returns-then-times-lt-WORDS g c parameters times state past e =
+    let s = c.args in
+    let t = g.T.Synchronization in
+    let words = ring times state.head state.len in
+    let few : length words < 40 =
+    rw (ring_length times state.head state.len) (rw (c.times-times.ensures.len, e) at c.if-times-lt-WORDS.true) in
+    c.break_at.ensures parameters times state past e
+    ∙ ap (λ (x : Change). changed_words last_saved parameters times state past x s.t s.number)
+    (sym (breaks_short (t.owed s.kinds.count s.kinds.tolerance) (t.breaks s.kinds.count)
+    (λ w j y. t.next s.kinds.count (at w j) j y) state.registers words s.place.colour s.place.kind s.t few))
+
+pub returns-then-breaks : goal.returns-then-breaks
+unfolding row_as_words number_words changed_words
+returns-then-breaks g c parameters times state past e =
+    let s = c.args in
+    let t = g.T.Synchronization in
+    let words = ring times state.head state.len in
+    let test : c.breaks.result ≡ t.breaks s.kinds.count (words_at words s.place.colour) s.place.kind s.t =
+    rw (c.times-times.ensures.times, e) at c.breaks.ensures in
+    c.break_at-then-breaks.ensures parameters times state past e
+    ∙ ap (λ (x : Change). changed_words last_saved parameters times state past x s.t s.number)
+    (sym (breaks_event (t.owed s.kinds.count s.kinds.tolerance) (t.breaks s.kinds.count)
+    (λ w j y. t.next s.kinds.count (at w j) j y) state.registers words s.place.colour s.place.kind s.t (sym test ∙ c.if-breaks.true)))
+
+pub returns-then-value-old : goal.returns-then-value-old
+unfolding row_as_words number_words changed_words
+returns-then-value-old g c parameters times state past e =
+    let s = c.args in
+    let t = g.T.Synchronization in
+    let words = ring times state.head state.len in
+    let w = words_at words s.place.colour in
+    let many : 40 ≤ length words =
+    rw (ring_length times state.head state.len) (rw (c.times-times.ensures.len, e) at c.if-times-lt-WORDS.false) in
+    let test : c.breaks.result ≡ t.breaks s.kinds.count w s.place.kind s.t = rw (c.times-times.ensures.times, e) at c.breaks.ensures in
+    let old : c.at-old.result ≡ at w s.place.kind =
+    rw (c.times-times.ensures.times, e) at c.at-old.ensures ∙ sym (words_at_lem words s.place.colour s.place.kind s.place.in_row.1) in
+    let value : c.next-value.result ≡ t.next s.kinds.count (at w s.place.kind) s.place.kind s.t =
+    c.next-value.ensures ∙ ap (λ (x : ℕ). t.next s.kinds.count x s.place.kind s.t) old in
+    c.keep.ensures parameters times state past e
+    ∙ ap (λ (x : Change). changed_words last_saved parameters times state past x s.t s.number)
+    (sym (stays_event (t.owed s.kinds.count s.kinds.tolerance) (t.breaks s.kinds.count) (λ w j y. t.next s.kinds.count (at w j) j y)
+    state.registers words s.place.colour s.place.kind s.t many (sym test ∙ c.if-breaks.false)
+    (sym value ∙ c.if-value-old.true ∙ old)))
+
+pub returns : goal.returns
+unfolding row_as_words number_words changed_words
+returns g c parameters times state past e =
+    let s = c.args in
+    let t = g.T.Synchronization in
+    let words = ring times state.head state.len in
+    let w = words_at words s.place.colour in
+    let many : 40 ≤ length words =
+    rw (ring_length times state.head state.len) (rw (c.times-times.ensures.len, e) at c.if-times-lt-WORDS.false) in
+    let test : c.breaks.result ≡ t.breaks s.kinds.count w s.place.kind s.t = rw (c.times-times.ensures.times, e) at c.breaks.ensures in
+    let old : c.at-old.result ≡ at w s.place.kind =
+    rw (c.times-times.ensures.times, e) at c.at-old.ensures ∙ sym (words_at_lem words s.place.colour s.place.kind s.place.in_row.1) in
+    let value : c.next-value.result ≡ t.next s.kinds.count (at w s.place.kind) s.place.kind s.t =
+    c.next-value.ensures ∙ ap (λ (x : ℕ). t.next s.kinds.count x s.place.kind s.t) old in
+    let marked : c.due_marked-before.result ≡ due_marked state.registers = rw e at c.due_marked-before.ensures in
+    let f = t.owed s.kinds.count s.kinds.tolerance in
+    let due : c.due_after-due.result ≡ due_next (due_marked state.registers) (f w) (f (set w s.place.kind c.next-value.result))
+    (due_words f words s.place.colour s.place.kind c.next-value.result 8) =
+    subst (λ (ws : List ℕ). c.due_after-due.result
+    ≡ due_next c.due_marked-before.result (f (words_at ws s.place.colour)) (f (set (words_at ws s.place.colour) s.place.kind c.next-value.result))
+    (due_words f ws s.place.colour s.place.kind c.next-value.result 8)) (rw e at c.times-times.ensures.times) c.due_after-due.ensures
+    ∙ ap (λ (x : ℕ). due_next x (f w) (f (set w s.place.kind c.next-value.result))
+    (due_words f words s.place.colour s.place.kind c.next-value.result 8)) marked in
+    c.put_word.ensures parameters times state past e
+    ∙ ap (λ (x : ℕ). changed_words last_saved parameters times state past
+    (marking (one_new (5 * s.place.colour + s.place.kind) c.next-value.result words) state.registers x) s.t s.number) due
+    ∙ ap (λ (x : ℕ). changed_words last_saved parameters times state past
+    (noted f state.registers words s.place.colour s.place.kind x) s.t s.number) value
+    ∙ ap (λ (x : Change). changed_words last_saved parameters times state past x s.t s.number)
+    (sym (notes_event f (t.breaks s.kinds.count) (λ w j y. t.next s.kinds.count (at w j) j y) state.registers
+    words s.place.colour s.place.kind s.t many (sym test ∙ c.if-breaks.false)
+    (λ same. c.if-value-old.false (value ∙ same ∙ sym old))))

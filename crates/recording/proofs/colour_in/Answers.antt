@@ -1,9 +1,0 @@
--- The test is that of `colour_in`.
-use Rattle.constraint.proofs.Library.{eq-eqb, ne_eqb}
-use Rattle.recording.proofs.colour_in.Goals as goal
-
-pub returns-then-version-eq1 : goal.returns-then-version-eq1
-returns-then-version-eq1 c = rw (eq-eqb _ _ c.if-version-eq1.true)
-
-pub returns-else-version-eq1 : goal.returns-else-version-eq1
-returns-else-version-eq1 c = rw (ne_eqb _ _ c.if-version-eq1.false)

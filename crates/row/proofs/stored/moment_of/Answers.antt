@@ -1,9 +1,0 @@
--- The test is that of `moment_by`.
-use Rattle.row.proofs.Names.{le-ltb, lt-ltb}
-use Rattle.row.proofs.stored.moment_of.Goals as goal
-
-pub returns-then-due-time : goal.returns-then-due-time
-returns-then-due-time c = rw (lt-ltb _ _ c.if-due-time.true)
-
-pub returns : goal.returns
-returns c = rw (le-ltb _ _ c.if-due-time.false)

@@ -1,7 +1,7 @@
 #!/usr/bin/env python3
 """Lists the places of the design pass in src/ of the crates: places.py [POINT]. docs/DESIGN-PASS.md says what each point is.
 
-With no argument it prints a line for each point, with the number of places; with a point (1 to 8) the places themselves.
+With no argument it prints a line for each point, with the number of places; with a point (1 or 3 to 7) the places themselves.
 Run it at the top of the project; to count an older commit, run it in a clone of that commit."""
 import glob
 import re
@@ -45,6 +45,8 @@ def places(point):
 
 
 if sys.argv[1:]:
+    if sys.argv[1] not in map(str, PATTERNS):
+        sys.exit("places.py: the points that it counts are 1 and 3 to 7")
     print("\n".join(places(int(sys.argv[1]))))
 else:
     for point in PATTERNS:

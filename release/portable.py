@@ -5,9 +5,9 @@
 
 FOLDER is replaced. It gets a module for each CRATE of crates.txt and for each crate that one of them uses, from the same
 sources without `ghost` items, fields and members, without the words for the prover and without the clauses `requires` and `ensures`. The
-program derives `Clone` and `Copy` for every type that may be copied; it adds for each exported function one with pointers and lengths, as
-include/delkuthi.h declares it; the headers; and a script of calls to play on the machine. Anything else that is not Rust stops the program:
-it guesses nothing.
+program derives `Clone` and `Copy` for every type that may be copied; it writes `let .. else`, the patterns `..N` and `div_ceil` in words that
+Rust 1.63 knows; it adds for each exported function one with pointers and lengths, as include/delkuthi.h declares it; the headers; and a script
+of calls to play on the machine. Anything else that is not Rust stops the program: it guesses nothing.
 """
 import re
 import shutil
@@ -23,6 +23,11 @@ CLAUSE = re.compile(r"\n[ \t]*(?:(?:requires|ensures)(?:\s+\w+)?|(?:pub )?ghost 
 TYPE = re.compile(r"^(?:#\[derive\(([\w, ]*)\)\]\n)?((?:pub(?:\(crate\))? )?(?:struct|enum) \w+(?:<[^>]*>)? ?(?:[{(][^})]*[})]|;))", re.M)
 EXPORTED = re.compile(r'#\[unsafe\(no_mangle\)\]\npub extern "C" fn (\w+)\(([^)]*)\)( -> \w+)?')
 SLICE = re.compile(r"&(mut )?\[u8\]")
+# What is younger than Rust 1.63: `let PATTERN = VALUE else { LEAVE };`, an arm `..BOUND [| PATTERN] => ANSWER,`, and VALUE.div_ceil(NUMBER).
+LET_ELSE = re.compile(r"(?<!if )(?<!while )\blet ([^=\n]+) = ([^;\n]+?) else \{([^{}]*)\};")
+ARM_BELOW = re.compile(r"^([ \t]*)\.\.(\w+)(?: \| ([\w |]+))? => ([^\n]*,)$", re.M)
+DIV_CEIL = re.compile(r"\b(\w+(?:\.\w+)*)\.div_ceil\((\w+)\)")
+YOUNGER = re.compile(r"^(?![ \t]*//)(?:[ \t]*let (?!.*= if ).* else \{|.*\.div_ceil\(|(?:.*[ (|])?\.\.=?\w+\b[^;\n]*=>).*$", re.M)
 # Only contracts have these outside of comments: letters that are not ASCII, and the word ghost.
 LEFT_OVER = re.compile(r"^(?![ \t]*//).*([^\x00-\x7f]|\bghost\b).*$", re.M)
 
@@ -57,6 +62,35 @@ def with_copies(text):
     return TYPE.sub(derived, text)
 
 
+def matched(found):
+    """Returns a `let .. else` as a `match`. What it names is the one word of its pattern that is no constructor; a pattern of () names nothing."""
+    pattern, value, leave = found.groups()
+    changed = "mut " if "mut " in pattern else ""
+    pattern = pattern.replace("mut ", "")
+    names = re.findall(r"\b[a-z_]\w*", pattern)
+    if len(names) > 1:
+        raise NotUnderstood(f"a let with an else that names more than one: {found.group()}")
+    name = names[0] if names else "()"
+    taken = f"match {value} {{\n{pattern} => {name},\n_ => {{{leave}}}\n}};"
+    return f"let {changed}{name} = {taken}" if names else taken
+
+
+def arms_below(found):
+    """Returns an arm of a match for all numbers below a bound as one with a test, and one for the patterns beside it."""
+    blanks, bound, others, answer = found.groups()
+    tested = f"{blanks}below if below < {bound} => {answer}"
+    return f"{tested}\n{blanks}{others} => {answer}" if others else tested
+
+
+def with_older_words(text):
+    """Returns the text with what is younger than Rust 1.63 written as it knows it."""
+    text = DIV_CEIL.sub(r"(\1 / \2 + usize::from(\1 % \2 != 0))", ARM_BELOW.sub(arms_below, LET_ELSE.sub(matched, text)))
+    left = YOUNGER.search(text)
+    if left:
+        raise NotUnderstood(f"younger than Rust 1.63: {left.group().strip()}")
+    return text
+
+
 def for_a_host(found):
     """Returns an exported function as plain Rust, and before it the one for a host, where a slice is a pointer and a length."""
     name, parameters, answer = found.group(1), [], found.group(3) or ""
@@ -85,7 +119,7 @@ def rust(text, crate, used):
     left = LEFT_OVER.search(re.sub(r"//.*", "", text))
     if left:
         raise NotUnderstood(f"not understood: {left.group().strip()}")
-    text = EXPORTED.sub(for_a_host, with_copies(text))
+    text = EXPORTED.sub(for_a_host, with_copies(with_older_words(text)))
     if "no_mangle" in text:
         raise NotUnderstood("an exported function of another form")
     text = re.sub(r"\bcrate::", f"crate::{crate}::", text)

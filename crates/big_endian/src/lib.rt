@@ -94,5 +94,5 @@ pub fn put_two(buffer: &mut [u8], place: usize, x: usize)
 pub fn put_eight(buffer: &mut [u8], place: usize, x: u64)
     ensures { buffer.new ≡ sets buffer.old place (bytes_of 8 x) }
 {
-    put_number(buffer, place, x, 8);
+    put(buffer, place, &x.to_be_bytes());
 }

@@ -3,13 +3,13 @@
 use Rattle.clock.specs.Clock.{After, RefusesRecord, TakesCall, TakesRecord, Ticks, clock_of, more_ticks, no_tick}
 use Rattle.clock.specs.declared.Clock.{Clock}
 use Rattle.constraint.proofs.Library.{List, [], ◌++◌, ◌+◌, ◌<◌, ◌∙◌, ◌∷◌, ◌≡◌, ◌≤◌, ap, arith, false, get_or, length, lt-ltb, map, refl, replicate}
-use Rattle.constraint.proofs.Library.{set}
+use Rattle.constraint.proofs.Library.{set, set-get_or}
 use Rattle.constraint.proofs.Library.{subst, sym, ℕ}
 use Rattle.constraint.proofs.{History.Valid, History.valid_none, Judged.judged_none, Runs.run_valid, Sanity.run_once}
 use Rattle.constraint.specs.Recording.{ReadsInOrder, ReadsRecords, RecordAt, RecordingRead, VersionKnown, call_at, no_more, record_refused}
 use Rattle.constraint.specs.Recording.{record_taken, record_questions, recording_of, recording_refused, version_taken}
 use Rattle.constraint.specs.{Accepted.Accepted, Accepted.rows_questions, Limits.stream_count, Promise.play, Questions.Judged, Run.Left, Run.asks}
-use Rattle.constraint.specs.{Run.done, Run.questions, Run.step_for, Steps.Step, Steps.at, Steps.clock, Table.length_at}
+use Rattle.constraint.specs.{Run.done, Run.questions, Run.step_for, Steps.Step, Steps.clock, Table.length_at}
 use Rattle.constraint.specs.{Answer.Refused, Answer.Taken, declared.Call.Call}
 use Rattle.row_type.specs.Parts.{plus}
 use Rattle.monitor.proofs.{StepRefinement.Follows, Withdrawing.after_call, Withdrawing.remains_follows, Withdrawing.steps_keep}
@@ -162,6 +162,12 @@ module _ (bytes : List ℕ) (place : ℕ) (o : Clock) where
         }
 
 -- ---- ticks
+
+-- a tick changes no first free time
+pub tick_after : (o : Clock) (t count : ℕ) → count ≡ plus o.count 1
+    → record { time = t; count = count; next = o.next; closed = o.closed } ≡ clock_after o (Call.Tick t)
+tick_after o t count e =
+    rw e (ap (λ (next : List ℕ). record { time = t; count = plus o.count 1; next = next; closed = o.closed }) (sym (set-get_or o.next 0 0)))
 
 pub ticks_more : {bytes : List ℕ} {place before : ℕ} {o now : Clock} {t : ℕ} {later : Clock} → Ticks bytes place o before now
     → CallAt bytes before (Call.Tick t) (before + 10) → TakesCall now (Call.Tick t) 0 later → Ticks bytes place o (before + 10) later

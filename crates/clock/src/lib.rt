@@ -10,7 +10,7 @@ ghost use Rattle.clock.specs.Clock.{Starts, TakesCall, ReadsNext, Ticks};
 use constraint::{Call, Refusal, STREAM_COUNT};
 use recording::CallRead;
 
-#[derive(Drop)]
+#[derive(Clone, Copy)]
 pub struct Clock {
     pub time: u64,
     // the steps taken
@@ -61,6 +61,18 @@ impl Clock {
         Ok(record)
     }
 
+    // The answer to a tick, and the clock after it. No first free time is asked for or changed, so none is read or stored.
+    fn take_tick(&mut self, time: u64) -> Result<(), Refusal>
+        ensures takes { TakesCall self.old (Call.Tick time) (number_in result) self.new }
+        ensures frees { self.new.next ≡ self.old.next }
+    {
+        questions::refusal(Call::Tick { time }, self.closed, self.count, self.time, 0)?;
+        let count = self.count.saturating_add(1);
+        self.time = time;
+        self.count = count;
+        Ok(())
+    }
+
     // Takes ticks from a place on, up to a record that is no tick or is refused. Returns the place behind them.
     pub fn ticks(&mut self, bytes: &[u8], place: usize) -> usize
         ensures takes { Ticks bytes.now place self.old result self.new }
@@ -69,7 +81,7 @@ impl Clock {
         let mut at = place;
         // A walk by place, which is what it returns: a `for` over parts of ten bytes would count the place too.
         while let Some(time) = recording::tick_at(bytes, at) {
-            let Ok(()) = self.take(Call::Tick { time }) else {
+            let Ok(()) = self.take_tick(time) else {
                 return at;
             };
             at += 10;

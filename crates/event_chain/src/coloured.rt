@@ -151,6 +151,29 @@ fn due_but<T: Synchronization>(kinds: Kinds, words: Words<'_>, place: Place, val
     })
 }
 
+// The due time after a word of a colour is new, by the due time before: that of the colour may have changed. It stays a function of its own: in
+// line it would take the registers of the events that leave the due time.
+#[inline(never)]
+fn due_changed<T: Synchronization>(
+    before: u64,
+    kinds: Kinds,
+    words: Words<'_>,
+    place: Place,
+    value: u64,
+) -> u64
+    ensures { result ≡ due_next before (T.owed kinds.count kinds.tolerance (words_at (times_of words.entry.times) place.colour))
+        (T.owed kinds.count kinds.tolerance (set (words_at (times_of words.entry.times) place.colour) place.kind value))
+        (due_words (T.owed kinds.count kinds.tolerance) (times_of words.entry.times) place.colour place.kind value 8) }
+{
+    let mut w = words.colour(place.colour);
+    let old = T::owed(kinds, &w);
+    w[place.kind] = value;
+    let new = T::owed(kinds, &w);
+    due_next(before, old, new, || {
+        due_but::<T>(kinds, words, place, value)
+    })
+}
+
 // The due time after a word of a colour is new, by the due time before.
 fn due_after<T: Synchronization>(
     before: u64,
@@ -166,13 +189,7 @@ fn due_after<T: Synchronization>(
     if T::quiet(kinds, words, place) {
         return before;
     }
-    let mut w = words.colour(place.colour);
-    let old = T::owed(kinds, &w);
-    w[place.kind] = value;
-    let new = T::owed(kinds, &w);
-    due_next(before, old, new, || {
-        due_but::<T>(kinds, words, place, value)
-    })
+    due_changed::<T>(before, kinds, words, place, value)
 }
 
 // A word is new, and the row goes on with a due time.

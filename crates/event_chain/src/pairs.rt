@@ -17,9 +17,9 @@ const WORDS: usize = 16;
 
 // The two words of a colour.
 #[derive(Clone, Copy)]
-pub(crate) struct Pair {
-    pub(crate) low: u64,
-    pub(crate) high: u64,
+pub struct Pair {
+    pub low: u64,
+    pub high: u64,
 }
 
 // A type of such rows. Its due time, where the words of one colour are new, is the first of all last moments.

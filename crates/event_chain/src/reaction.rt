@@ -6,7 +6,8 @@ ghost use Rattle.event_chain.specs.Reaction.{latest, due_but, after_stimulus, af
 ghost use Rattle.event_chain.specs.FirstOwed.{first_owed_reaction};
 
 use crate::marked::coloured_kind;
-use crate::pairs::{self, Pair, Pairs};
+pub use crate::pairs::Pair;
+use crate::pairs::{self, Pairs};
 use constraint::NO_LIMIT;
 use ring::SIZE;
 use row_type::row_words;

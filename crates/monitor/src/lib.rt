@@ -70,7 +70,10 @@ impl Monitor {
         questions::refusal(call, self.closed, self.count, self.clock, next)?;
         let o = questions::step_input(call, self.clock);
         let step = self.count.saturating_add(1);
-        let mut after = rows::step(self, o, step).ok_or(Refusal::Crowded)?;
+        // No `ok_or` and `?`: each would copy the whole monitor once more.
+        let Some(mut after) = rows::step(self, o, step) else {
+            return Err(Refusal::Crowded);
+        };
         after.next[at] = questions::free(call, next);
         after.clock = o.time;
         after.count = step;

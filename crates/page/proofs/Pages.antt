@@ -199,6 +199,13 @@ module _ (page : Summary) (before : List ℕ) (size : ℕ) (rows : List RowSumma
   pub copied_nothing : length before < size → Copied (text_of page) before 0 before
   copied_nothing short = copied_none (text_of page) before (omega (arith, text_size))
 
+  -- the answer is some length just where there is room
+  pub room_short : length before < size → ¬ (length (text_of page) ≤ length before)
+  room_short short long = omega (arith, text_size, short, long)
+
+  pub room_held : size ≤ length before → (length (text_of page) ≤ length before) × (size ≡ length (text_of page))
+  room_held long = (omega (arith, text_size, long), sym text_size)
+
   copied_text : (after : List ℕ) → size ≤ length before → after ≡ sets before 0 (text_of page) → Copied (text_of page) before size after
   copied_text after long put = rw (put, ← text_size) (copied_all (text_of page) before (omega (arith, text_size)))
 

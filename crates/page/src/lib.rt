@@ -1,7 +1,7 @@
 // The printed page: one line for each row, written line by line to the caller's buffer.
 #![tactic(auto)]
 
-ghost use Rattle.std.specs.Prelude.{◌≡◌, ◌≤◌, ◌<◌, min, length, take, unwrap_or};
+ghost use Rattle.std.specs.Prelude.{◌≡◌, ◌≤◌, ◌<◌, min, length, take, unwrap_or, SomeIff};
 ghost use Rattle.std.proofs.lemmas.List.Edits.{sets};
 ghost use Rattle.constraint.specs.Limits.{row_limit};
 ghost use Rattle.constraint.specs.Page.{left_in, right_in, name_of, verdict_word, step_text, page_line, page_lines};
@@ -166,7 +166,8 @@ impl Summary {
     // §7.15
     // Writes the page to the front of a buffer and answers its length; where the buffer is too short, answers none and leaves it as it was.
     pub fn write(&self, buffer: &mut [u8]) -> Option<usize>
-        ensures { Copied (text_of self.now) buffer.old (unwrap_or result 0) buffer.new }
+        ensures copied { Copied (text_of self.now) buffer.old (unwrap_or result 0) buffer.new }
+        ensures fits { SomeIff result (length (text_of self.now) ≤ length buffer.old) (length (text_of self.now)) }
     {
         let rows = self.rows();
         let size = size(rows.len());

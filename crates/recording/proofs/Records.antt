@@ -1,13 +1,13 @@
 -- A record's call, read from its own stretch, is that of the record in the whole recording; and what that says of its questions.
-use Rattle.constraint.proofs.Library.{Bool, List, [], ◌++◌, ◌+◌, ◌-◌, ◌∙◌, ◌∷◌, ◌≡◌, arith, cond, drop, drop-drop, eqb, false, length}
-use Rattle.constraint.proofs.Library.{length-drop, subst, sym, take, take_all, true, ℕ}
+use Rattle.constraint.proofs.Library.{Bool, List, [], ◌++◌, ◌+◌, ◌-◌, ◌∙◌, ◌∷◌, ◌≡◌, ap, arith, cond, drop, drop-drop, eqb, false, length}
+use Rattle.constraint.proofs.Library.{length-drop, length-take-le, refl, subst, sym, take, take_all, true, ℕ}
 use Rattle.constraint.proofs.{History.closed_event, History.closed_tick, Judged.judged_no, Judged.judged_yes}
 use Rattle.constraint.specs.Recording.{RecordAt, call_at, call_of, colour_in, record_questions}
 use Rattle.constraint.specs.Steps.{Step, at, closed}
-use Rattle.constraint.specs.{Bytes.number_at, Questions.Judged, Run.questions, Run.step_for, Streams.stream, Table.body_at}
+use Rattle.constraint.specs.{Bytes.number, Bytes.number_at, Questions.Judged, Run.questions, Run.step_for, Streams.stream, Table.body_at}
 use Rattle.constraint.specs.{Table.length_at}
 use Rattle.constraint.specs.{Answer.Answer, Answer.Refused, declared.Call.Call, Constraint.Constraint}
-use Rattle.recording.specs.Record.{CallAt}
+use Rattle.recording.specs.Record.{CallAt, TickAt}
 
 -- From a record's own stretch to the whole recording
 
@@ -35,6 +35,25 @@ module _ (bytes : List ℕ) (place : ℕ) where
         call_read = rw (← drop-drop 2 place bytes) is;
         next_read = omega (arith, size_is);
       })
+
+-- A tick
+
+tick_of : (version : ℕ) (body : List ℕ) → length body ≡ 8 → call_of version body ≡ Call.Tick (number_at 8 body 0)
+tick_of version body eight = rw eight refl
+
+-- §7.2
+pub tick_whole : (bytes : List ℕ) (place time : ℕ) → TickAt bytes place → time ≡ number_at 8 bytes (place + 2)
+    → CallAt bytes place (Call.Tick time) (place + 10)
+tick_whole bytes place time (room, eight) time_is =
+    let body = take 8 (drop (place + 2) bytes) in
+    let long : length body ≡ 8 = length-take-le 8 (drop (place + 2) bytes) (omega (arith, length-drop (place + 2) bytes, room)) in
+    let same : body_at bytes place ≡ body = ap (λ (n : ℕ). take n (drop (place + 2) bytes)) eight in
+    let timed : number_at 8 body 0 ≡ number_at 8 bytes (place + 2) = ap number (take_all 8 body (omega (arith, long))) in
+    record {
+      there = ((omega (arith, room), omega (arith, room, eight)), omega (arith, eight), omega (arith, eight));
+      call_read = ap (call_of (at bytes 0)) same ∙ tick_of (at bytes 0) body long ∙ ap (λ (t : ℕ). Call.Tick t) (timed ∙ sym time_is);
+      next_read = omega (arith, eight);
+    }
 
 -- From a record to the answer to its questions
 

@@ -42,19 +42,22 @@ fn colour_in(version: u8, colour: u8) -> u8
     if version == 1 { NO_COLOUR } else { colour }
 }
 
-// The number in the two bytes from a place on, which are there.
+// The number in the two bytes from a place on, which are there. See `eight_there` for the order.
 fn two_there(bytes: &[u8], place: usize) -> u16
     requires { place + 2 ≤ length bytes.now }
     ensures { result ≡ number_at 2 bytes.now place }
 {
-    u16::from_be_bytes([bytes[place], bytes[place + 1]])
+    let last = bytes[place + 1];
+    u16::from_be_bytes([bytes[place], last])
 }
 
-// The number in the eight bytes from a place on, which are there.
+// The number in the eight bytes from a place on, which are there. The last byte is read first: compiled without proofs, one test of its place serves
+// for all eight.
 fn eight_there(bytes: &[u8], place: usize) -> u64
     requires { place + 8 ≤ length bytes.now }
     ensures { result ≡ number_at 8 bytes.now place }
 {
+    let last = bytes[place + 7];
     u64::from_be_bytes([
         bytes[place],
         bytes[place + 1],
@@ -63,7 +66,7 @@ fn eight_there(bytes: &[u8], place: usize) -> u64
         bytes[place + 4],
         bytes[place + 5],
         bytes[place + 6],
-        bytes[place + 7],
+        last,
     ])
 }
 

@@ -48,50 +48,36 @@ fn no_fields(tag: u8) -> Parameters
 fn with_byte(parameters: Parameters, role: u8, value: u64) -> Parameters
     ensures { result ≡ with_fields (byte (byte_role role) value ∷ []) parameters }
 {
+    let mut next = parameters;
     if is_kind(role) {
-        return Parameters {
-            first: value,
-            second: parameters.first,
-            third: parameters.second,
-            fourth: parameters.third,
-            fifth: parameters.fourth,
-            ..parameters
-        };
+        next.first = value;
+        next.second = parameters.first;
+        next.third = parameters.second;
+        next.fourth = parameters.third;
+        next.fifth = parameters.fourth;
+        return next;
     }
-    Parameters {
-        span: value,
-        ..parameters
-    }
+    next.span = value;
+    next
 }
 
 // The numbers with a time: a tolerance and a right are an upper, a left a lower, a length a lower without an upper limit. An offset is no number.
 fn with_time(parameters: Parameters, role: u8, value: u64) -> Parameters
     ensures { result ≡ with_fields (time (time_role role) value ∷ []) parameters }
 {
+    let mut next = parameters;
     match role {
-        LOWER | LEFT => Parameters {
-            lower: value,
-            ..parameters
-        },
-        JITTER => Parameters {
-            jitter: value,
-            ..parameters
-        },
-        MINIMUM => Parameters {
-            minimum: value,
-            ..parameters
-        },
-        LENGTH => Parameters {
-            lower: value,
-            upper: NO_LIMIT,
-            ..parameters
-        },
-        OFFSET => parameters,
-        _ => Parameters {
-            upper: value,
-            ..parameters
-        },
+        LOWER | LEFT => next.lower = value,
+        JITTER => next.jitter = value,
+        MINIMUM => next.minimum = value,
+        LENGTH => {
+            next.lower = value;
+            next.upper = NO_LIMIT;
+        }
+        OFFSET => {}
+        _ => next.upper = value,
     }
+    next
 }
 
 // The numbers with the field of a place, if the place is used.

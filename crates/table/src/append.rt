@@ -10,6 +10,7 @@ ghost use Rattle.table.specs.AddAnswer.{add_answer_of};
 ghost use Rattle.table.specs.Appending.{body_questions, edition_with, AddsTo, AddsRow};
 
 use super::scan;
+use crate::put_body;
 use constraint::{Refusal, RefusedAt};
 use table_row::{TableRow, shape_fits, types};
 
@@ -65,7 +66,7 @@ fn put_row(buffer: &mut [u8], place: usize, body: &[u8])
     let tag = big_endian::byte_at(body, 0);
     big_endian::put_byte(buffer, 0, edition_with(edition, tag));
     big_endian::put_two(buffer, place, body.len());
-    big_endian::put(buffer, place + 2, body);
+    put_body(buffer, place + 2, body);
 }
 
 // §9.12

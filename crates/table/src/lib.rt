@@ -7,6 +7,8 @@ mod reader;
 pub mod scan;
 mod writer;
 
+ghost use Rattle.std.specs.Prelude.{◌≡◌};
+ghost use Rattle.std.proofs.lemmas.List.Edits.{sets};
 ghost use Rattle.table_row.specs.Tables.{rows_of};
 ghost use Rattle.table.specs.Reading.{ReadsInto};
 ghost use Rattle.table.specs.WriteAnswer.{write_answer_of};
@@ -40,4 +42,15 @@ pub fn write(edition: u8, table: Table, buffer: &mut [u8]) -> Result<usize, Refu
     big_endian::put_byte(buffer, 0, edition);
     writer::put_rows(buffer, table);
     Ok(size)
+}
+
+// Stores a body that the caller lends in a buffer from a place on. What would go past its end is not stored. It stays a loop: `copy_from_slice`,
+// which `big_endian::put` calls, would need `memmove` of the host's C library here.
+pub(crate) fn put_body(buffer: &mut [u8], place: usize, body: &[u8])
+    ensures { buffer.new ≡ sets buffer.old place body.now }
+{
+    let count = body.len().min(buffer.len().saturating_sub(place));
+    for i in 0..count {
+        buffer[place + i] = body[i];
+    }
 }

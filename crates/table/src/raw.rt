@@ -13,6 +13,7 @@ ghost use Rattle.table.specs.Raw.{raw_size, body_length, raw_body, raw_rows, Who
 ghost use Rattle.table.specs.Raw.{WritesRaw};
 ghost use Rattle.table.specs.WriteAnswer.{write_answer_of};
 
+use crate::put_body;
 use constraint::{ROW_LIMIT, Refusal};
 use table_row::TableRow;
 use table_row::types::{length_of, type_known};
@@ -105,7 +106,7 @@ impl<'a> GivenRows<'a> {
     {
         let body = self.body(i);
         big_endian::put_two(buffer, place, body.len());
-        big_endian::put(buffer, place + 2, body);
+        put_body(buffer, place + 2, body);
         place + 2 + body.len()
     }
 

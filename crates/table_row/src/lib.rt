@@ -169,14 +169,17 @@ impl Table {
         Table { rows, count: 0 }
     }
 
-    // The table with one row more. One for which there is no room makes the count at least 33, so that the table is refused.
+    // The table with one row more. One for which there is no room makes the count 33, so that the table is refused; a count above 32 stays.
     pub fn with_row(mut self, row: TableRow) -> Self
         ensures { Adds self row result }
     {
+        if constraint::ROW_LIMIT < self.count {
+            return self;
+        }
         if self.count < constraint::ROW_LIMIT {
             self.rows[self.count] = row;
         }
-        self.count = self.count.saturating_add(1);
+        self.count += 1;
         self
     }
 

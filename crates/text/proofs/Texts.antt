@@ -87,3 +87,10 @@ module _ (text : Text) (before : List ℕ) (len : ℕ) (size : length text.bytes
 
   pub copied_short : length before < len → Copied (content text) before 0 before
   copied_short short = copied_none (content text) before (omega (arith, counted))
+
+  -- the answer is some length just where there is room
+  pub room_held : len ≤ length before → (length (content text) ≤ length before) × (len ≡ length (content text))
+  room_held long = (omega (arith, counted, long), counted)
+
+  pub room_short : length before < len → ¬ (length (content text) ≤ length before)
+  room_short short long = omega (arith, counted, short, long)

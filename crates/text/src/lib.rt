@@ -1,7 +1,7 @@
 // The text of a report. Methods append bytes line by line; the finished text is copied to the caller's buffer.
 #![tactic(auto)]
 
-ghost use Rattle.std.specs.Prelude.{◌≡◌, unwrap_or};
+ghost use Rattle.std.specs.Prelude.{◌≡◌, ◌≤◌, SomeIff, length, unwrap_or};
 ghost use Rattle.constraint.specs.Report.{decimal, refused_text};
 ghost use Rattle.text.specs.Content.{Spells, empty_text, with_byte, extended, content, Copied};
 ghost use Rattle.text.specs.Lines.{closed_line, row_line};
@@ -132,7 +132,8 @@ impl Text {
 
     // Copies the text to the front of a buffer and answers its length; where the buffer is too short, answers none and leaves it as it was.
     pub fn copy_to(self, buffer: &mut [u8]) -> Option<usize>
-        ensures { Copied (content self) buffer.old (unwrap_or result 0) buffer.new }
+        ensures copied { Copied (content self) buffer.old (unwrap_or result 0) buffer.new }
+        ensures fits { SomeIff result (length (content self) ≤ length buffer.old) (length (content self)) }
     {
         let len = self.len.min(TEXT_LIMIT);
         if buffer.len() < len {

@@ -173,6 +173,74 @@ fn what_is_left_out() {
     assert_eq!(written("lib.rs"), "pub mod small;\n");
 }
 
+const YOUNG: &str = "fn f(m: &mut M, n: usize) -> usize {
+    let Some(&byte) = m.get(n) else {
+        return 0;
+    };
+    let Some(mut after) = m.next(n) else {
+        return Err(Refusal::Crowded);
+    };
+    let Ok(()) = m.take(Call::Tick { time }) else {
+        return 1;
+    };
+    let other = if byte == 0 { 1 } else { 2 };
+    if let Some(x) = m.first() { 1 } else { 2 };
+    match m.role {
+        ..FIRST => n.div_ceil(4),
+        ..LAST | KIND | COUNT => m.len.div_ceil(SIZE).max(1),
+        _ => other,
+    }
+}
+";
+
+const YOUNG_WRITTEN: &str = "fn f(m: &mut M, n: usize) -> usize {
+    let byte = match m.get(n) {
+Some(&byte) => byte,
+_ => {
+        return 0;
+    }
+};
+    let mut after = match m.next(n) {
+Some(after) => after,
+_ => {
+        return Err(Refusal::Crowded);
+    }
+};
+    match m.take(Call::Tick { time }) {
+Ok(()) => (),
+_ => {
+        return 1;
+    }
+};
+    let other = if byte == 0 { 1 } else { 2 };
+    if let Some(x) = m.first() { 1 } else { 2 };
+    match m.role {
+        below if below < FIRST => (n / 4 + usize::from(n % 4 != 0)),
+        below if below < LAST => (m.len / SIZE + usize::from(m.len % SIZE != 0)).max(1),
+        KIND | COUNT => (m.len / SIZE + usize::from(m.len % SIZE != 0)).max(1),
+        _ => other,
+    }
+}
+";
+
+/// What is younger than the oldest Rust that the crate's page names is written in older words.
+#[test]
+fn what_is_younger() {
+    let (folder, output) = stripped(YOUNG, "small:\n", "small");
+    assert!(output.status.success(), "{}", String::from_utf8_lossy(&output.stderr));
+    assert_eq!(fs::read_to_string(folder.path().join("out/src/small/mod.rs")).expect("what was written"), YOUNG_WRITTEN);
+}
+
+/// Debian's Rust, which in Debian 12 is the oldest that the crate's page names and compiles it for other machines, takes it without a warning.
+#[test]
+fn the_oldest_rust_takes_it() {
+    let folder = portable();
+    let mut rustc = Command::new("/usr/bin/rustc");
+    rustc.args(["--edition=2021", "-Dwarnings", "--crate-name=delkuthi", "--crate-type=lib", "--emit=metadata", "--out-dir"]);
+    rustc.arg(folder.path()).arg(folder.path().join("portable/src/lib.rs"));
+    assert_eq!(ran(rustc.output()), Ran::new(0, ""));
+}
+
 /// What is neither Rust nor a contract is refused, with the file that has it, and nothing is guessed.
 #[test]
 fn what_is_not_understood_is_refused() {
@@ -191,6 +259,10 @@ fn what_is_not_understood_is_refused() {
         ),
         ("fn f()\n    promises { ⌜ 1 ≡ 1 ⌝ }\n{\n}\n", "small:\n", "small", "not understood: promises"),
         ("#[unsafe(no_mangle)]\npub fn f() {}\n", "small:\n", "small", "an exported function of another form"),
+        ("fn f() {\n    let (Some(a), b) = g() else {\n        return;\n    };\n}\n", "small:\n", "small", "names more than one"),
+        ("fn f() {\n    let Some(a) = g() else { return h(|| {}) };\n}\n", "small:\n", "small", "younger than Rust 1.63: let"),
+        ("const A: u64 = (1 + 2).div_ceil(4);\n", "small:\n", "small", "younger than Rust 1.63: const A"),
+        ("fn f() {\n    match g() {\n        ..=LAST => 1,\n    }\n}\n", "small:\n", "small", "younger than Rust 1.63: ..=LAST"),
         ("", "small: other\n", "small", "crates.txt has no crate other"),
         ("", "small:\n", "great", "crates.txt has no crate great"),
     ];

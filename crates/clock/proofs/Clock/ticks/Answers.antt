@@ -10,5 +10,5 @@ loop-time-init c = (no_tick, refl)
 pub loop-time-preserved : goal.loop-time-preserved
 loop-time-preserved c = (
   ticks_more c.loop-time.invariant.0 c.in-Some.ensures c.in-Ok.ensures.takes,
-  c.in-Ok.ensures.ticks _ refl ∙ c.loop-time.invariant.1,
+  c.in-Ok.ensures.frees ∙ c.loop-time.invariant.1,
 )

@@ -6,7 +6,7 @@ use Rattle.delkuthi.proofs.printed.delkuthi_page.Goals as goal
 pub returns : goal.returns
 returns c =
     let written : Copied (text_of c.summary_of.result) c.args.buffer.now c.unwrap_or.result c.write.new.buffer =
-    rw c.unwrap_or.ensures c.write.ensures in (
+    rw c.unwrap_or.ensures c.write.ensures.copied in (
       (_, written),
       λ n holds. page_kept n _ c.unwrap_or.result _ (rows_there c.args.m.now n holds) (rw (c.summary_of.ensures n holds) at written),
     )

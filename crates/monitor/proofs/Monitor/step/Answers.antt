@@ -1,7 +1,5 @@
 -- The number of the first "no" is that of `refusal_by`; past it the rows take the call, which is the next step, unless it crowds one of them.
 use Rattle.monitor.proofs.Names.{◌∙◌, ◌≡◌, ap, arith, asks, crowds, false, place_small, refl, step_of, stepped_by, sym, taken_call, true}
-use Rattle.std.specs.Option.{ok_or}
-use Rattle.constraint.specs.declared.Refusal.TheVariants.{Crowded}
 use Rattle.constraint.proofs.Refusals.{exit_is}
 use Rattle.monitor.proofs.{Answers.crowded_by, Answers.refused_by, Answers.taken_by, Theorem.step_kept}
 use Rattle.constraint.proofs.{Refusals.numbered}
@@ -17,16 +15,15 @@ returns-in_err-refusal c =
     (refused_by m call (refusal_number refusal) (numbered refusal).0
     ∙ ap (stepped_by m call) (rw c.place-at.ensures at c.in_err-refusal.ensures)))
 
-pub returns-in_err-after : goal.returns-in_err-after
+pub returns-in_default : goal.returns-in_default
 unfolding step_of
-returns-in_err-after c =
-    let m = c.args.self in let call = c.args.call in let exit = c.in_err-after.ensures in
+returns-in_default c =
+    let m = c.args.self in let call = c.args.call in
     let by_number : stepped_by m call 0 ≡ step_of m call =
     ap (stepped_by m call) (rw c.place-at.ensures at c.in_ok-refusal.ensures) in
     let crowds_is : crowds m call ≡ true =
-    rw (c.saturating_add-step.ensures, c.step_input-o.ensures) at (rw exit.ok_part at (sym c.step.ensures.crowded_is)) in
-    rw (exit_is c.from_residual-in_err-after.result _ c.from_residual-in_err-after.ensures.1 ∙ exit.value ∙ ap (λ o. ok_or o Crowded) exit.ok_part)
-    (step_kept m (asks call) (crowded_by m call 0 (omega arith) crowds_is ∙ by_number))
+    rw (c.saturating_add-step.ensures, c.step_input-o.ensures) at (rw c.in_default.is at (sym c.step.ensures.crowded_is)) in
+    step_kept m (asks call) (crowded_by m call 0 (omega arith) crowds_is ∙ by_number)
 
 pub offset_bounds-after-at : goal.offset_bounds-after-at
 offset_bounds-after-at c = omega (arith, c.place-at.ensures, place_small c.args.call)
@@ -40,7 +37,7 @@ returns c =
     let m = c.args.self in let call = c.args.call in
     let by_number : stepped_by m call 0 ≡ step_of m call =
     ap (stepped_by m call) (rw c.place-at.ensures at c.in_ok-refusal.ensures) in
-    let there = c.in_ok-after.ensures.ok_part in
+    let there = c.in-Some.is in
     let none_full : crowds m call ≡ false =
     rw (c.saturating_add-step.ensures, c.step_input-o.ensures) at (rw there at (sym c.step.ensures.crowded_is)) in
     step_kept m (asks call)

@@ -9,7 +9,7 @@ returns c =
     let body = a.body.now in
     let one = sets a.buffer.now 0 (edition_with (at a.buffer.now 0) (at body 0) ∷ []) in
     let size : length (bytes_of 2 (length body)) ≡ 2 = bytes_length 2 (length body) in
-    c.put.ensures
+    c.put_body.ensures
     ∙ rw (
       c.put_two.ensures,
       c.put_byte.ensures,

@@ -12,7 +12,7 @@ returns c =
     let same = c.body-body.ensures ∙ sym (raw_bytes a.self.edition bytes a.i known whole a.self.each_fits) in
     record {
       stored =
-          row_stores a.buffer.now c.put_two.new.buffer c.put.new.buffer a.place (raw_row bytes a.i) _ (ap length same) c.put_two.ensures
-          (c.put.ensures ∙ ap (sets c.put_two.new.buffer (a.place + 2)) same);
+          row_stores a.buffer.now c.put_two.new.buffer c.put_body.new.buffer a.place (raw_row bytes a.i) _ (ap length same) c.put_two.ensures
+          (c.put_body.ensures ∙ ap (sets c.put_two.new.buffer (a.place + 2)) same);
       behind = ap (λ (k : ℕ). a.place + 2 + k) (ap length same ∙ raw_length a.self.edition bytes a.i known whole a.self.each_fits);
     }

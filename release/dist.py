@@ -103,7 +103,8 @@ class Archive:
 
 def declared(function):
     """Returns where a function of the archive is declared, as file and line, and the definitions that its contract names."""
-    *before, name = function.split("::")
+    # An instance of a generic function ends in a number of its own.
+    *before, name = re.sub(r"::<[^<>]*>$", "", function).split("::")
     crate, *within = before or ["*", "*"]
     of_type = "".join(rf"^impl {word}\b[\s\S]*?" for word in within if word[0].isupper())
     module = next((word for word in within if not word[0].isupper()), "lib")

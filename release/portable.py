@@ -24,7 +24,7 @@ TYPE = re.compile(r"^(?:#\[derive\(([\w, ]*)\)\]\n)?((?:pub(?:\(crate\))? )?(?:s
 EXPORTED = re.compile(r'#\[unsafe\(no_mangle\)\]\npub extern "C" fn (\w+)\(([^)]*)\)( -> \w+)?')
 SLICE = re.compile(r"&(mut )?\[u8\]")
 # What is younger than Rust 1.63: `let PATTERN = VALUE else { LEAVE };`, an arm `..BOUND [| PATTERN] => ANSWER,`, and VALUE.div_ceil(NUMBER).
-LET_ELSE = re.compile(r"(?<!if )(?<!while )\blet ([^=\n]+) = ([^;\n]+?) else \{([^{}]*)\};")
+LET_ELSE = re.compile(r"(?<!if )(?<!while )\blet ([^=\n]+) = (?!if |match )([^;\n]+?) else \{([^{}]*)\};")
 ARM_BELOW = re.compile(r"^([ \t]*)\.\.(\w+)(?: \| ([\w |]+))? => ([^\n]*,)$", re.M)
 DIV_CEIL = re.compile(r"\b(\w+(?:\.\w+)*)\.div_ceil\((\w+)\)")
 YOUNGER = re.compile(r"^(?![ \t]*//)(?:[ \t]*let (?!.*= if ).* else \{|.*\.div_ceil\(|(?:.*[ (|])?\.\.=?\w+\b[^;\n]*=>).*$", re.M)

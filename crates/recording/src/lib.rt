@@ -42,31 +42,23 @@ fn colour_in(version: u8, colour: u8) -> u8
     if version == 1 { NO_COLOUR } else { colour }
 }
 
-// The number in the two bytes from a place on, which are there. See `eight_there` for the order.
+// The number in the two bytes from a place on, which are there.
 fn two_there(bytes: &[u8], place: usize) -> u16
     requires { place + 2 ≤ length bytes.now }
     ensures { result ≡ number_at 2 bytes.now place }
 {
-    let last = bytes[place + 1];
-    u16::from_be_bytes([bytes[place], last])
+    u16::from_be_bytes([bytes[place], bytes[place + 1]])
 }
 
-// The number in the eight bytes from a place on, which are there. The last byte is read first: compiled without proofs, one test of its place serves
-// for all eight.
+// The number in the eight bytes from a place on, which are there. They are taken out first, so that a compiler without proofs asks once whether they
+// are there, and not for each byte.
 fn eight_there(bytes: &[u8], place: usize) -> u64
     requires { place + 8 ≤ length bytes.now }
     ensures { result ≡ number_at 8 bytes.now place }
 {
-    let last = bytes[place + 7];
+    let there = &bytes[place..place + 8];
     u64::from_be_bytes([
-        bytes[place],
-        bytes[place + 1],
-        bytes[place + 2],
-        bytes[place + 3],
-        bytes[place + 4],
-        bytes[place + 5],
-        bytes[place + 6],
-        last,
+        there[0], there[1], there[2], there[3], there[4], there[5], there[6], there[7],
     ])
 }
 

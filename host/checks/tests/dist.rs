@@ -181,8 +181,13 @@ fn the_manifest() {
         let (file, line) = row[2].rsplit_once(':').expect("a file and a line");
         let source = text_of(&release.join("source").join(file));
         let declared = source.lines().nth(line.parse::<usize>().expect("a number") - 1).expect("a line");
-        let name = row[0].trim_matches(['|', ' ', '`']).rsplit("::").next().expect("a name");
-        assert!(declared.contains(&format!("fn {name}(")), "{row:?}: {declared}");
+        // An instance of a generic function ends in a number of its own.
+        let (name, after) = match row[0].trim_matches(['|', ' ', '`']).split_once("::<") {
+            Some((name, _)) => (name, '<'),
+            None => (row[0].trim_matches(['|', ' ', '`']), '('),
+        };
+        let name = name.rsplit("::").next().expect("a name");
+        assert!(declared.contains(&format!("fn {name}{after}")), "{row:?}: {declared}");
     }
 }
 

@@ -228,7 +228,10 @@ _ => {
 fn what_is_younger() {
     let (folder, output) = stripped(YOUNG, "small:\n", "small");
     assert!(output.status.success(), "{}", String::from_utf8_lossy(&output.stderr));
-    assert_eq!(fs::read_to_string(folder.path().join("out/src/small/mod.rs")).expect("what was written"), YOUNG_WRITTEN);
+    assert_eq!(
+        fs::read_to_string(folder.path().join("out/src/small/mod.rs")).expect("what was written"),
+        YOUNG_WRITTEN
+    );
 }
 
 /// Debian's Rust, which in Debian 12 is the oldest that the crate's page names and compiles it for other machines, takes it without a warning.
@@ -236,7 +239,14 @@ fn what_is_younger() {
 fn the_oldest_rust_takes_it() {
     let folder = portable();
     let mut rustc = Command::new("/usr/bin/rustc");
-    rustc.args(["--edition=2021", "-Dwarnings", "--crate-name=delkuthi", "--crate-type=lib", "--emit=metadata", "--out-dir"]);
+    rustc.args([
+        "--edition=2021",
+        "-Dwarnings",
+        "--crate-name=delkuthi",
+        "--crate-type=lib",
+        "--emit=metadata",
+        "--out-dir",
+    ]);
     rustc.arg(folder.path()).arg(folder.path().join("portable/src/lib.rs"));
     assert_eq!(ran(rustc.output()), Ran::new(0, ""));
 }
@@ -259,10 +269,25 @@ fn what_is_not_understood_is_refused() {
         ),
         ("fn f()\n    promises { ⌜ 1 ≡ 1 ⌝ }\n{\n}\n", "small:\n", "small", "not understood: promises"),
         ("#[unsafe(no_mangle)]\npub fn f() {}\n", "small:\n", "small", "an exported function of another form"),
-        ("fn f() {\n    let (Some(a), b) = g() else {\n        return;\n    };\n}\n", "small:\n", "small", "names more than one"),
-        ("fn f() {\n    let Some(a) = g() else { return h(|| {}) };\n}\n", "small:\n", "small", "younger than Rust 1.63: let"),
+        (
+            "fn f() {\n    let (Some(a), b) = g() else {\n        return;\n    };\n}\n",
+            "small:\n",
+            "small",
+            "names more than one",
+        ),
+        (
+            "fn f() {\n    let Some(a) = g() else { return h(|| {}) };\n}\n",
+            "small:\n",
+            "small",
+            "younger than Rust 1.63: let",
+        ),
         ("const A: u64 = (1 + 2).div_ceil(4);\n", "small:\n", "small", "younger than Rust 1.63: const A"),
-        ("fn f() {\n    match g() {\n        ..=LAST => 1,\n    }\n}\n", "small:\n", "small", "younger than Rust 1.63: ..=LAST"),
+        (
+            "fn f() {\n    match g() {\n        ..=LAST => 1,\n    }\n}\n",
+            "small:\n",
+            "small",
+            "younger than Rust 1.63: ..=LAST",
+        ),
         ("", "small: other\n", "small", "crates.txt has no crate other"),
         ("", "small:\n", "great", "crates.txt has no crate great"),
     ];

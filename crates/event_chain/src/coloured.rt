@@ -1,10 +1,10 @@
 // What OutputSynchronization and InputSynchronization share: five words for each colour, one for each of the row's kinds.
-ghost use Rattle.std.specs.Prelude.{◌≡◌, ◌<◌, ◌≤◌, ◌+◌, ◌*◌, ◌%◌, Bool, List, ℕ, set, true, get_or};
+ghost use Rattle.std.specs.Prelude.{◌≡◌, ◌<◌, ◌≤◌, ◌+◌, ◌*◌, ◌%◌, Bool, List, [], ℕ, set, true, get_or};
 ghost use Rattle.constraint.specs.Steps.{at};
 ghost use Rattle.ring.specs.Ring.{times_of};
 ghost use Rattle.row_type.specs.Words.{last_saved, Makes, MakesAt, Applies, parameters_at};
 ghost use Rattle.event_chain.specs.Marked.{coloured_kind, due_next, marking};
-ghost use Rattle.event_chain.specs.Coloured.{words_at, due_words, one_new, unchanged, event_words, first_word};
+ghost use Rattle.event_chain.specs.Coloured.{words_at, due_words, one_new, noted, unchanged, event_words, first_word};
 ghost use Rattle.event_chain.specs.Coloured.{kind_count, place_among, decide_words, OwesNothing};
 
 use crate::least::least_by;
@@ -151,10 +151,8 @@ fn due_but<T: Synchronization>(kinds: Kinds, words: Words<'_>, place: Place, val
     })
 }
 
-// The due time after a word of a colour is new, by the due time before: that of the colour may have changed. It stays a function of its own: in
-// line it would take the registers of the events that leave the due time.
-#[inline(never)]
-fn due_changed<T: Synchronization>(
+// The due time after a word of a colour is new, by the due time before.
+fn due_after<T: Synchronization>(
     before: u64,
     kinds: Kinds,
     words: Words<'_>,
@@ -172,24 +170,6 @@ fn due_changed<T: Synchronization>(
     due_next(before, old, new, || {
         due_but::<T>(kinds, words, place, value)
     })
-}
-
-// The due time after a word of a colour is new, by the due time before.
-fn due_after<T: Synchronization>(
-    before: u64,
-    kinds: Kinds,
-    words: Words<'_>,
-    place: Place,
-    value: u64,
-) -> u64
-    ensures { result ≡ due_next before (T.owed kinds.count kinds.tolerance (words_at (times_of words.entry.times) place.colour))
-        (T.owed kinds.count kinds.tolerance (set (words_at (times_of words.entry.times) place.colour) place.kind value))
-        (due_words (T.owed kinds.count kinds.tolerance) (times_of words.entry.times) place.colour place.kind value 8) }
-{
-    if T::quiet(kinds, words, place) {
-        return before;
-    }
-    due_changed::<T>(before, kinds, words, place, value)
 }
 
 // A word is new, and the row goes on with a due time.
@@ -212,6 +192,22 @@ fn keep(row: &mut [[u64; SIZE]; 2], number: u64)
     row_words::settle(&mut row[1], due, u64::from(due == NO_LIMIT));
 }
 
+// A word of a colour is new, and the row goes on with the due time that follows from it. It stays a function of its own: in line it would take the
+// registers of the events that need no new due time.
+#[inline(never)]
+fn note<T: Synchronization>(row: &mut [[u64; SIZE]; 2], place: Place, value: u64, number: u64)
+    requires { 40 ≤ get_or (get_or row.now 1 []) 16 0 }
+    ensures { Makes last_saved row.old (λ parameters registers words.
+        noted (T.owed (kind_count parameters) parameters.upper) registers words place.colour place.kind value) number row.new }
+{
+    let kinds = Kinds::of(&row[1]);
+    let times = row_words::times(row);
+    let words = Words { times };
+    let before = due_marked(row[1][row_words::LAST]);
+    let due = due_after::<T>(before, kinds, words, place, value);
+    put_word(row, place, value, due, number);
+}
+
 // What an event at a place makes of a row of such kinds.
 fn apply_at<T: Synchronization>(
     row: &mut [[u64; SIZE]; 2],
@@ -220,6 +216,8 @@ fn apply_at<T: Synchronization>(
     t: u64,
     number: u64,
 )
+    requires count { kinds.count ≡ kind_count (parameters_at (get_or row.now 1 [])) }
+    requires tolerance { kinds.tolerance ≡ (parameters_at (get_or row.now 1 [])).upper }
     ensures { MakesAt last_saved row.old
         (λ parameters registers words. event_words (T.owed kinds.count kinds.tolerance) (T.breaks kinds.count)
         (λ w j t. T.next kinds.count (at w j) j t) registers words place.colour place.kind t) t number
@@ -241,9 +239,12 @@ fn apply_at<T: Synchronization>(
         keep(row, number);
         return;
     }
-    let before = due_marked(row[1][row_words::LAST]);
-    let due = due_after::<T>(before, kinds, words, place, value);
-    put_word(row, place, value, due, number);
+    if T::quiet(kinds, words, place) {
+        let due = due_marked(row[1][row_words::LAST]);
+        put_word(row, place, value, due, number);
+        return;
+    }
+    note::<T>(row, place, value, number);
 }
 
 // What an event of one of the row's streams makes of it, where it lies.

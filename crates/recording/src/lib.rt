@@ -42,7 +42,9 @@ fn colour_in(version: u8, colour: u8) -> u8
     if version == 1 { NO_COLOUR } else { colour }
 }
 
-// The number in the two bytes from a place on, which are there.
+// The number in the two bytes from a place on, which are there. It is in line also in code that is compiled for size: each caller has asked
+// whether the bytes are there, so nothing is left to ask.
+#[inline(always)]
 fn two_there(bytes: &[u8], place: usize) -> u16
     requires { place + 2 ≤ length bytes.now }
     ensures { result ≡ number_at 2 bytes.now place }

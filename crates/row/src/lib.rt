@@ -53,12 +53,10 @@ pub struct RowUndo {
 pub fn concerns(parameters: Parameters, kind: u64) -> bool
     ensures { result ≡ concerns parameters kind }
 {
-    // `contains` would build an array of the five kinds for each row of a step
     kind == parameters.first
-        || kind == parameters.second
-        || kind == parameters.third
-        || kind == parameters.fourth
-        || kind == parameters.fifth
+        || (kind == parameters.second
+            || (kind == parameters.third
+                || (kind == parameters.fourth || kind == parameters.fifth)))
 }
 
 // Whether what occurs may change a row: one that is not broken and is overdue, or that the close finds, or that the event concerns.

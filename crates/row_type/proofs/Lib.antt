@@ -10,6 +10,5 @@ pub mod TwoKinds
 pub mod Sums
 pub mod Oldest
 mod Renewed
-mod SavedWords
 pub mod Spans
 pub mod Tests

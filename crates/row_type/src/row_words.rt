@@ -1,7 +1,6 @@
 // A row where it lies, in two arrays of 64 words: the ring of its times, and its numbers. What every row type does to them.
 // The numbers stay words of an array, and are no struct with fields, as the C interface lends them so (row_as_words, number_words).
-ghost use Rattle.std.specs.Prelude.{◌≡◌, ◌≤◌, ◌+◌, ◌-◌, cond, [], drop, eqb, get_or, take};
-ghost use Rattle.std.proofs.lemmas.List.Edits.{sets};
+ghost use Rattle.std.specs.Prelude.{◌≡◌, ◌<◌, ◌+◌, cond, [], eqb, get_or, set};
 ghost use Rattle.row_type.specs.declared.Parameters.{Parameters};
 ghost use Rattle.row_type.specs.declared.Registers.{Registers};
 ghost use Rattle.row_type.specs.Words.{parameters_at, registers_at, broken_at, settled, last_saved, first_three_saved, counts_saved};
@@ -142,15 +141,13 @@ pub fn times(row: &[[u64; SIZE]; 2]) -> Times<'_>
 // Each number of the past stands as many words behind the number itself.
 const PAST: usize = UNDO_LAST - LAST;
 
-// The numbers from one place up to another become the row's past.
-#[inline]
-fn save_words(w: &mut [u64; SIZE], from: usize, to: usize)
-    requires { (from ≤ to) × (to ≤ from + 10) × (to ≤ 54) }
-    ensures { w.new ≡ sets w.old (from + 10) (take (to - from) (drop from w.old)) }
+// A number is kept as the row's past. Callers name each number, since a loop over them would stay one in code that is compiled for size.
+#[inline(always)]
+fn save_word(w: &mut [u64; SIZE], i: usize)
+    requires { i < 54 }
+    ensures { w.new ≡ set w.old (i + 10) (get_or w.old i 0) }
 {
-    for i in from..to {
-        w[i + PAST] = w[i];
-    }
+    w[i + PAST] = w[i];
 }
 
 // The ring's ends, the due time and the verdict at the close are kept as the row's past, before the step of that number, which overwrites words at a
@@ -158,7 +155,10 @@ fn save_words(w: &mut [u64; SIZE], from: usize, to: usize)
 fn save_undo_numbers(w: &mut [u64; SIZE], place: usize, number: u64)
     ensures { NumbersBecome (λ state past. state) (numbers_saved place number) w.old w.new }
 {
-    save_words(w, HEAD, BROKEN);
+    save_word(w, HEAD);
+    save_word(w, LEN);
+    save_word(w, DUE);
+    save_word(w, KEPT);
     w[UNDO_PLACE] = place as u64;
     w[UNDO_STEP] = number;
 }
@@ -167,21 +167,26 @@ fn save_undo_numbers(w: &mut [u64; SIZE], place: usize, number: u64)
 pub fn save_undo_last(row: &mut [[u64; SIZE]; 2])
     ensures { SavesUndoRegisters last_saved row.old row.new }
 {
-    save_words(&mut row[1], LAST, ONE);
+    save_word(&mut row[1], LAST);
 }
 
 // The first three marks are.
 pub fn save_undo_first_three(row: &mut [[u64; SIZE]; 2])
     ensures { SavesUndoRegisters first_three_saved row.old row.new }
 {
-    save_words(&mut row[1], LAST, THREE);
+    save_word(&mut row[1], LAST);
+    save_word(&mut row[1], ONE);
+    save_word(&mut row[1], TWO);
 }
 
 // The four counts are.
 pub fn save_undo_counts(row: &mut [[u64; SIZE]; 2])
     ensures { SavesUndoRegisters counts_saved row.old row.new }
 {
-    save_words(&mut row[1], ONE, HEAD);
+    save_word(&mut row[1], ONE);
+    save_word(&mut row[1], TWO);
+    save_word(&mut row[1], THREE);
+    save_word(&mut row[1], FOUR);
 }
 
 // Returns what an event of a row dispatches on: its type, or 30 for a larger number, and 31 once it is broken.
@@ -225,8 +230,9 @@ fn save_undo(row: &mut [[u64; SIZE]; 2], place: usize, number: u64)
 pub fn save_undo_all(row: &mut [[u64; SIZE]; 2], number: u64)
     ensures { SavesUndoAll row.old number row.new }
 {
-    save_words(&mut row[1], LAST, HEAD);
-    save_words(&mut row[1], BROKEN, UNDO_LAST);
+    save_undo_last(row);
+    save_undo_counts(row);
+    save_word(&mut row[1], BROKEN);
     save_undo(row, 0, number);
 }
 

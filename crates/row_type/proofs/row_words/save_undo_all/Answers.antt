@@ -1,11 +1,13 @@
 -- The marks and the step that broke the row become the past beside the rest.
 use Rattle.row_type.proofs.Names.{number_words, refl, row_as_words}
-use Rattle.row_type.specs.Words.{UndoRecord}
+use Rattle.row_type.specs.Words.{UndoRecord, last_saved, undo_with}
 use Rattle.row_type.proofs.row_words.save_undo_all.Goals as goal
 
 pub returns : goal.returns
 unfolding row_as_words number_words
 returns c parameters times state past e =
+    let last = c.save_undo_last.ensures parameters times state past e in
+    let counts = c.save_undo_counts.ensures parameters times state (undo_with past (last_saved state.registers past.state.registers)) last in
     let whole : UndoRecord =
     record {
       state =
@@ -22,4 +24,4 @@ returns c parameters times state past e =
       second = past.second;
       step = past.step;
     } in
-    c.save_undo.ensures parameters times state whole (rw (c.save_words-2.ensures, c.save_words.ensures, e) refl)
+    c.save_undo.ensures parameters times state whole (rw (c.save_word.ensures, counts) refl)

@@ -4,4 +4,4 @@ use Rattle.row_type.proofs.row_words.save_undo_first_three.Goals as goal
 
 pub returns : goal.returns
 unfolding row_as_words number_words
-returns c parameters times state past e = rw (c.save_words.ensures, e) refl
+returns c parameters times state past e = rw (c.save_word-3.ensures, c.save_word-2.ensures, c.save_word.ensures, e) refl

@@ -4,4 +4,4 @@ use Rattle.row_type.proofs.row_words.save_undo_numbers.Goals as goal
 
 pub returns : goal.returns
 unfolding number_words
-returns c parameters state past e = rw (c.save_words.ensures, e) refl
+returns c parameters state past e = rw (c.save_word-4.ensures, c.save_word-3.ensures, c.save_word-2.ensures, c.save_word.ensures, e) refl

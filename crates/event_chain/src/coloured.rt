@@ -192,8 +192,8 @@ fn keep(row: &mut [[u64; SIZE]; 2], number: u64)
     row_words::settle(&mut row[1], due, u64::from(due == NO_LIMIT));
 }
 
-// A word of a colour is new, and the row goes on with the due time that follows from it. It stays a function of its own: in line it would take the
-// registers of the events that need no new due time.
+// A word of a colour is new, and the row goes on with the due time that follows from it. It stays a function of its own, which reads the row's kinds
+// again: in line, or with the kinds passed to it, it takes registers from the events that need no new due time.
 #[inline(never)]
 fn note<T: Synchronization>(row: &mut [[u64; SIZE]; 2], place: Place, value: u64, number: u64)
     requires { 40 ≤ get_or (get_or row.now 1 []) 16 0 }

@@ -1,9 +1,8 @@
 -- The words of the event's colour are those of the definition, and so is what the event makes of them, case by case.
-use Rattle.event_chain.proofs.Laws.ByWords.{words_at_lem}
-use Rattle.event_chain.proofs.Laws.Events.{breaks_event, breaks_short, next_none, notes_event, stays_event}
-use Rattle.event_chain.specs.Coloured.{OwesNothing, due_words, kind_count, noted, one_new, words_at}
-use Rattle.event_chain.specs.Marked.{due_marked, due_next, marking}
-use Rattle.constraint.proofs.Library.{List, ◌*◌, ◌+◌, ◌<◌, ◌∙◌, ◌≡◌, ◌≤◌, ap, ap₂, arith, length, set, subst, sym, ℕ}
+use Rattle.event_chain.proofs.Laws.Events.{breaks_event, breaks_short, next_none, notes_next, stays_next}
+use Rattle.event_chain.specs.Coloured.{OwesNothing, kind_count, noted, one_new, words_at}
+use Rattle.event_chain.specs.Marked.{marking}
+use Rattle.constraint.proofs.Library.{List, ◌*◌, ◌+◌, ◌<◌, ◌∙◌, ◌≡◌, ap, ap₂, arith, length, subst, sym, ℕ}
 use Rattle.constraint.specs.Steps.{at}
 use Rattle.row_type.specs.{Words.changed_words, Words.last_saved, Words.number_words, Words.row_as_words, declared.Change.Change}
 use Rattle.ring.proofs.Laws.{ring_length}
@@ -41,20 +40,13 @@ unfolding row_as_words number_words changed_words
 returns-then-value-old g c parameters times state past e =
     let s = c.args in
     let t = g.T.Synchronization in
-    let words = ring times state.head state.len in
-    let w = words_at words s.place.colour in
-    let many : 40 ≤ length words =
-    rw (ring_length times state.head state.len) (rw (c.times-times.ensures.len, e) at c.if-times-lt-WORDS.false) in
-    let test : c.breaks.result ≡ t.breaks s.kinds.count w s.place.kind s.t = rw (c.times-times.ensures.times, e) at c.breaks.ensures in
-    let old : c.at-old.result ≡ at w s.place.kind =
-    rw (c.times-times.ensures.times, e) at c.at-old.ensures ∙ sym (words_at_lem words s.place.colour s.place.kind s.place.in_row.1) in
-    let value : c.next-value.result ≡ t.next s.kinds.count (at w s.place.kind) s.place.kind s.t =
-    c.next-value.ensures ∙ ap (λ (x : ℕ). t.next s.kinds.count x s.place.kind s.t) old in
+    let at-row = rw e at c.times-times.ensures.times in
     c.keep.ensures parameters times state past e
     ∙ ap (λ (x : Change). changed_words last_saved parameters times state past x s.t s.number)
-    (sym (stays_event (t.owed s.kinds.count s.kinds.tolerance) (t.breaks s.kinds.count) (λ w j y. t.next s.kinds.count (at w j) j y)
-    state.registers words s.place.colour s.place.kind s.t many (sym test ∙ c.if-breaks.false)
-    (sym value ∙ c.if-value-old.true ∙ old)))
+    (sym (stays_next (t.owed s.kinds.count s.kinds.tolerance) (t.breaks s.kinds.count) (t.next s.kinds.count) state.registers
+    (ring times state.head state.len) s.place.colour s.place.kind s.t s.place.in_row.1
+    (rw (ring_length times state.head state.len) (rw (c.times-times.ensures.len, e) at c.if-times-lt-WORDS.false))
+    (sym (rw at-row at c.breaks.ensures) ∙ c.if-breaks.false) _ _ (rw at-row at c.at-old.ensures) c.next-value.ensures c.if-value-old.true))
 
 pub returns-then-quiet : goal.returns-then-quiet
 unfolding row_as_words number_words changed_words
@@ -62,30 +54,18 @@ returns-then-quiet g c parameters times state past e =
     let s = c.args in
     let t = g.T.Synchronization in
     let words = ring times state.head state.len in
-    let w = words_at words s.place.colour in
-    let many : 40 ≤ length words =
-    rw (ring_length times state.head state.len) (rw (c.times-times.ensures.len, e) at c.if-times-lt-WORDS.false) in
-    let test : c.breaks.result ≡ t.breaks s.kinds.count w s.place.kind s.t = rw (c.times-times.ensures.times, e) at c.breaks.ensures in
-    let old : c.at-old.result ≡ at w s.place.kind =
-    rw (c.times-times.ensures.times, e) at c.at-old.ensures ∙ sym (words_at_lem words s.place.colour s.place.kind s.place.in_row.1) in
-    let value : c.next-value.result ≡ t.next s.kinds.count (at w s.place.kind) s.place.kind s.t =
-    c.next-value.ensures ∙ ap (λ (x : ℕ). t.next s.kinds.count x s.place.kind s.t) old in
+    let at-row = rw e at c.times-times.ensures.times in
     let f = t.owed s.kinds.count s.kinds.tolerance in
-    let none : OwesNothing f w s.place.kind =
-    subst (λ (ws : List ℕ). OwesNothing f (words_at ws s.place.colour) s.place.kind) (rw e at c.times-times.ensures.times)
-    (c.quiet.ensures c.if-quiet.true) in
-    let due : c.due_marked-due.result ≡ due_next (due_marked state.registers) (f w) (f (set w s.place.kind c.next-value.result))
-    (due_words f words s.place.colour s.place.kind c.next-value.result 8) =
-    rw e at c.due_marked-due.ensures ∙ next_none _ _ _ _ (omega arith) none.0 (none.1 c.next-value.result) in
+    let none : OwesNothing f (words_at words s.place.colour) s.place.kind =
+    subst (λ (ws : List ℕ). OwesNothing f (words_at ws s.place.colour) s.place.kind) at-row (c.quiet.ensures c.if-quiet.true) in
     c.put_word.ensures parameters times state past e
     ∙ ap (λ (x : ℕ). changed_words last_saved parameters times state past
-    (marking (one_new (5 * s.place.colour + s.place.kind) c.next-value.result words) state.registers x) s.t s.number) due
-    ∙ ap (λ (x : ℕ). changed_words last_saved parameters times state past
-    (noted f state.registers words s.place.colour s.place.kind x) s.t s.number) value
+    (marking (one_new (5 * s.place.colour + s.place.kind) c.next-value.result words) state.registers x) s.t s.number)
+    (rw e at c.due_marked-due.ensures ∙ next_none _ _ _ _ (omega arith) none.0 (none.1 c.next-value.result))
     ∙ ap (λ (x : Change). changed_words last_saved parameters times state past x s.t s.number)
-    (sym (notes_event f (t.breaks s.kinds.count) (λ w j y. t.next s.kinds.count (at w j) j y) state.registers
-    words s.place.colour s.place.kind s.t many (sym test ∙ c.if-breaks.false)
-    (λ same. c.if-value-old.false (value ∙ same ∙ sym old))))
+    (sym (notes_next f (t.breaks s.kinds.count) (t.next s.kinds.count) state.registers words s.place.colour s.place.kind s.t s.place.in_row.1
+    (rw (ring_length times state.head state.len) (rw (c.times-times.ensures.len, e) at c.if-times-lt-WORDS.false))
+    (sym (rw at-row at c.breaks.ensures) ∙ c.if-breaks.false) _ _ (rw at-row at c.at-old.ensures) c.next-value.ensures c.if-value-old.false))
 
 pub returns : goal.returns
 unfolding row_as_words number_words changed_words
@@ -93,23 +73,14 @@ returns g c parameters times state past e =
     let s = c.args in
     let t = g.T.Synchronization in
     let words = ring times state.head state.len in
-    let w = words_at words s.place.colour in
-    let many : 40 ≤ length words =
-    rw (ring_length times state.head state.len) (rw (c.times-times.ensures.len, e) at c.if-times-lt-WORDS.false) in
-    let test : c.breaks.result ≡ t.breaks s.kinds.count w s.place.kind s.t = rw (c.times-times.ensures.times, e) at c.breaks.ensures in
-    let old : c.at-old.result ≡ at w s.place.kind =
-    rw (c.times-times.ensures.times, e) at c.at-old.ensures ∙ sym (words_at_lem words s.place.colour s.place.kind s.place.in_row.1) in
-    let value : c.next-value.result ≡ t.next s.kinds.count (at w s.place.kind) s.place.kind s.t =
-    c.next-value.ensures ∙ ap (λ (x : ℕ). t.next s.kinds.count x s.place.kind s.t) old in
-    let f = t.owed s.kinds.count s.kinds.tolerance in
+    let at-row = rw e at c.times-times.ensures.times in
     let count : kind_count parameters ≡ s.kinds.count = sym (rw e at c.requires.count) in
     let tolerance : parameters.upper ≡ s.kinds.tolerance = sym (rw e at c.requires.tolerance) in
     c.note.ensures parameters times state past e
     ∙ ap₂ (λ (n x : ℕ). changed_words last_saved parameters times state past
     (noted (t.owed n x) state.registers words s.place.colour s.place.kind c.next-value.result) s.t s.number) count tolerance
-    ∙ ap (λ (x : ℕ). changed_words last_saved parameters times state past
-    (noted f state.registers words s.place.colour s.place.kind x) s.t s.number) value
     ∙ ap (λ (x : Change). changed_words last_saved parameters times state past x s.t s.number)
-    (sym (notes_event f (t.breaks s.kinds.count) (λ w j y. t.next s.kinds.count (at w j) j y) state.registers
-    words s.place.colour s.place.kind s.t many (sym test ∙ c.if-breaks.false)
-    (λ same. c.if-value-old.false (value ∙ same ∙ sym old))))
+    (sym (notes_next (t.owed s.kinds.count s.kinds.tolerance) (t.breaks s.kinds.count) (t.next s.kinds.count) state.registers words
+    s.place.colour s.place.kind s.t s.place.in_row.1
+    (rw (ring_length times state.head state.len) (rw (c.times-times.ensures.len, e) at c.if-times-lt-WORDS.false))
+    (sym (rw at-row at c.breaks.ensures) ∙ c.if-breaks.false) _ _ (rw at-row at c.at-old.ensures) c.next-value.ensures c.if-value-old.false))
